@@ -1,0 +1,1 @@
+// Laws of finite lists, counts and tables, in specs/. There is no code.

@@ -1,0 +1,60 @@
+-- Refusals by document 01's numbers, and lists of reasons of which the first that holds counts. Assumes nothing.
+use Prim.Native.Nat.{ℕ}
+use mathlib.Core.Bool.{Bool, cond}
+use mathlib.Core.List.{List, [], _∷_}
+use Rattle.study.specs.declared.Refusal.{Refusal}
+use Rattle.study.specs.declared.Refusal.the-variants as Because
+use Rattle.study.specs.declared.Answer.{Answer}
+use Rattle.study.specs.declared.Answer.the-variants.{Done, Refused}
+
+-- a refusal as document 01 gives it: its number alone, or 7 and its pair, lower number first
+pub data Numbered : Type 0 where
+  number : ℕ → Numbered
+  seven : ℕ → ℕ → Numbered
+
+pub data Verdict : Type 0 where
+  accepted : Verdict
+  refused : Numbered → Verdict
+
+-- document 01's number and values of each refusal of the code
+abbrev pub numbered : Refusal → Numbered
+numbered Because.ShortMemory = number 1
+numbered Because.SettingCount = number 2
+numbered Because.Minima = number 3
+numbered Because.RowLength = number 4
+numbered Because.Setting = number 5
+numbered Because.Distance = number 6
+numbered (Because.ThreeTideRule i j) = seven i j
+numbered Because.FileLength = number 8
+numbered Because.Mark = number 9
+numbered Because.TideCount = number 10
+numbered Because.FillBits = number 11
+numbered Because.ListLength = number 12
+numbered Because.NotDataset = number 21
+numbered Because.Full = number 22
+numbered Because.NoSuchTide = number 23
+numbered Because.NoTides = number 24
+numbered Because.TooFewTides = number 25
+numbered Because.WithdrawalLimit = number 26
+
+abbrev pub verdictOf : Answer → Verdict
+verdictOf Done = accepted
+verdictOf (Refused r) = refused (numbered r)
+
+-- what stands after a call: the new where it is accepted, the old where it is refused
+abbrev pub settled : {A : Type 0} → Verdict → A → A → A
+settled accepted new old = new
+settled (refused r) new old = old
+
+pub record Reason : Type 0 where
+  pub holds : Bool
+  pub because : Numbered
+
+infix 20 _⇒_
+abbrev pub _⇒_ : Bool → Numbered → Reason
+b ⇒ r = record { holds = b; because = r }
+
+-- the first reason that holds
+unfoldable pub firstOf : List Reason → Verdict
+firstOf [] = accepted
+firstOf (r ∷ rs) = cond (r .holds) (refused (r .because)) (firstOf rs)

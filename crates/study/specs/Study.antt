@@ -1,0 +1,90 @@
+-- "The study and its rivals" of document 01: the study, when it is valid, the problem that it poses, and the same tides in another
+-- order. Tides are numbered from 0 here. Assumes nothing.
+use Prim.Native.Nat.{ℕ, suc, _+_, _≤_, _<_}
+use mathlib.Core.Path.{_≡_}
+use mathlib.Core.Bool.{Bool, true, cond, _&&_}
+use mathlib.Core.List.{List, [], _∷_}
+use lib.Dec.{T, leb, ltb, eqb}
+use lib.ListN.{length, getD}
+use Rattle.lists.specs.Lists.{between, each, every, sum, count}
+use Rattle.study.specs.declared.Minima.{Minima}
+use Rattle.study.specs.Problem.{Problem}
+
+-- a setting, and the distances to the tides before, in order
+pub record Tide : Type 0 where
+  pub setting : ℕ
+  pub row : List ℕ
+
+pub record Study : Type 0 where
+  pub k : ℕ
+  pub minima : Minima
+  pub tides : List Tide
+
+-- the study, and the withdrawals counted beside it
+pub record Contents : Type 0 where
+  pub study : Study
+  pub withdrawals : ℕ
+
+abbrev pub size : Study → ℕ
+size S = length (S .tides)
+
+unfoldable pub noTide : Tide
+noTide = record { setting = 0; row = [] }
+
+unfoldable pub tide : Study → ℕ → Tide
+tide S t = getD (S .tides) t noTide
+
+-- the distance of two tides, which the later one's row holds; 0 from a tide to itself
+unfoldable pub distance : Study → ℕ → ℕ → ℕ
+distance S t u = cond (ltb t u) (getD (tide S u .row) t 0) (cond (ltb u t) (getD (tide S t .row) u 0) 0)
+
+-- of n tides with these settings, the set p has at least b0 tides, and at least b of each setting
+unfoldable pub meets : Minima → ℕ → (ℕ → ℕ) → (ℕ → Bool) → Bool
+meets M n setting p = leb (M .b0) (count n p) && every 8 (λ j. leb (getD (M .b) j 0) (count n (λ t. p t && eqb (setting t) (suc j))))
+
+unfoldable pub sufficient : Study → (ℕ → Bool) → Bool
+sufficient S p = meets (S .minima) (size S) (λ t. tide S t .setting) p
+
+unfoldable pub problem : Study → Problem
+problem S = record { size = size S; dist = distance S; enough = sufficient S }
+
+-- ---- a study as document 01 describes it
+
+-- b0 is 1 to 120, the b's together are at most b0, those above k are 0
+unfoldable pub validMinima : ℕ → Minima → Bool
+validMinima k M =
+    each
+    (between 1 120 (M .b0)
+    ∷ leb (sum 8 (λ j. getD (M .b) j 0)) (M .b0)
+    ∷ every 8 (λ j. cond (ltb j k) true (eqb (getD (M .b) j 0) 0))
+    ∷ [])
+
+-- for any three tides, no distance exceeds the sum of the other two
+abbrev pub ThreeTideRule : Study → Type 0
+ThreeTideRule S = (t u v : ℕ) → t < size S → u < size S → v < size S → distance S t v ≤ distance S t u + distance S u v
+
+pub record Valid (S : Study) : Type 0 where
+  pub k-low : 1 ≤ S .k
+  pub k-high : S .k ≤ 8
+  pub few : size S ≤ 120
+  pub minima : T (validMinima (S .k) (S .minima))
+  pub setting-low : (t : ℕ) → t < size S → 1 ≤ tide S t .setting
+  pub setting-high : (t : ℕ) → t < size S → tide S t .setting ≤ S .k
+  pub row-length : (t : ℕ) → t < size S → length (tide S t .row) ≡ t
+  pub near : (t u : ℕ) → t < size S → u < size S → distance S t u ≤ 1048575
+  pub three-tide : ThreeTideRule S
+
+-- ---- the same tides in another order
+
+-- R has the tides of S in another order: tide t of R is tide `to t` of S. Settings and distances go along; k and the minima stay
+pub record Renumbered (S R : Study) : Type 0 where
+  pub to : ℕ → ℕ
+  pub back : ℕ → ℕ
+  pub to-inside : (t : ℕ) → t < size R → to t < size S
+  pub back-inside : (s : ℕ) → s < size S → back s < size R
+  pub to-back : (s : ℕ) → s < size S → to (back s) ≡ s
+  pub back-to : (t : ℕ) → t < size R → back (to t) ≡ t
+  pub k : R .k ≡ S .k
+  pub minima : R .minima ≡ S .minima
+  pub setting : (t : ℕ) → t < size R → tide R t .setting ≡ tide S (to t) .setting
+  pub distances : (t u : ℕ) → t < size R → u < size R → distance R t u ≡ distance S (to t) (to u)

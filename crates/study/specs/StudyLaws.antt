@@ -1,0 +1,117 @@
+-- A study that obeys the three-tide rule poses a lawful problem, and so does the same study in another order. Assumes nothing.
+use Prim.Native.Nat.{ℕ, zero, suc, _+_, _-_, _≤_, _<_}
+use native.Mathlib.Nat.{le-trans, le-of-eq, le-refl}
+use native.Mathlib.Omega.{arith}
+use mathlib.Core.Path.{_≡_, refl, sym, ap, ap₂, _∙_, subst}
+use mathlib.Core.Logic.{_↔_}
+use mathlib.Core.Bool.{Bool, true, false, cond, _&&_}
+use mathlib.Core.List.{List}
+use lib.Dec.{T, leb, ltb, eqb, leb→le, le→leb, ltb→lt}
+use lib.Arith.{le→nltb}
+use lib.ListN.{length, getD}
+use Rattle.lists.specs.Lists.{every, count}
+use Rattle.lists.specs.Tests.{and-T, T-left, T-right, cond-no, every-at, every-of}
+use Rattle.lists.specs.Counts.{count-le, count-same, count-into, count-all}
+use Rattle.study.specs.declared.Minima.{Minima}
+use Rattle.study.specs.Problem.{Problem}
+use Rattle.study.specs.Study.{Study, size, tide, distance, meets, sufficient, problem, ThreeTideRule, Renumbered}
+use Rattle.study.specs.Theorems.{Symmetric, Lawful, Reordered, Ample}
+
+-- ---- what it says that a set of tides meets the minima
+
+pub record Meets (M : Minima) (n : ℕ) (setting : ℕ → ℕ) (p : ℕ → Bool) : Type 0 where
+  pub whole : M .b0 ≤ count n p
+  pub each : (j : ℕ) → j < 8 → getD (M .b) j 0 ≤ count n (λ t. p t && eqb (setting t) (suc j))
+
+module _ (M : Minima) (n : ℕ) (setting : ℕ → ℕ) (p : ℕ → Bool) where
+  abbrev whole? : Bool
+  whole? = leb (M .b0) (count n p)
+
+  abbrev each? : ℕ → Bool
+  each? j = leb (getD (M .b) j 0) (count n (λ t. p t && eqb (setting t) (suc j)))
+
+  pub meets-T : T (meets M n setting p) ↔ Meets M n setting p
+  unfolding meets
+  meets-T = (
+    λ h. record {
+      whole = leb→le (M .b0) (count n p) (T-left whole? (every 8 each?) h);
+      each = λ j l. leb→le (getD (M .b) j 0) (count n (λ t. p t && eqb (setting t) (suc j))) (every-at 8 each? (T-right whole? (every 8 each?) h) j l);
+    },
+    λ e. and-T whole? (every 8 each?) (le→leb (M .b0) (count n p) (e .whole))
+        (every-of 8 each? (λ j l. le→leb (getD (M .b) j 0) (count n (λ t. p t && eqb (setting t) (suc j))) (e .each j l))),
+  )
+
+-- more tides of each setting, counted in another order or not, keep a set sufficient
+pub meets-along : (M : Minima) (m n : ℕ) (s r : ℕ → ℕ) (p q : ℕ → Bool) (to : ℕ → ℕ)
+    → ((t : ℕ) → t < m → T (p t) → to t < n) → ((t : ℕ) → t < m → T (p t) → T (q (to t))) → ((t : ℕ) → t < m → s t ≡ r (to t))
+    → ((t u : ℕ) → t < m → u < m → to t ≡ to u → t ≡ u) → T (meets M m s p) → T (meets M n r q)
+meets-along M m n s r p q to into pass same apart h =
+    let e = meets-T M m s p .0 h in
+    meets-T M n r q .1
+    (record {
+      whole = le-trans (e .whole) (count-into m n p q to into pass (λ t u l k a b. apart t u l k));
+      each = λ j l. le-trans (e .each j l)
+          (count-into m n (λ t. p t && eqb (s t) (suc j)) (λ t. q t && eqb (r t) (suc j)) to
+          (λ t k a. into t k (T-left (p t) (eqb (s t) (suc j)) a))
+          (λ t k a. and-T (q (to t)) (eqb (r (to t)) (suc j)) (pass t k (T-left (p t) (eqb (s t) (suc j)) a))
+          (subst (λ x. T (eqb x (suc j))) (same t k) (T-right (p t) (eqb (s t) (suc j)) a)))
+          (λ t u k i a b. apart t u k i));
+    })
+
+-- ---- the distances
+
+swap : (a b : Bool) (x y : ℕ) → (T a → T b → ⊥) → cond a x (cond b y 0) ≡ cond b y (cond a x 0)
+swap true true x y f = absurd (f tt tt)
+swap true false x y f = refl
+swap false true x y f = refl
+swap false false x y f = refl
+
+pub distance-both-ways : (S : Study) (t u : ℕ) → distance S t u ≡ distance S u t
+unfolding distance
+distance-both-ways S t u = swap (ltb t u) (ltb u t) _ _ (λ a b. omega (arith, ltb→lt t u a, ltb→lt u t b))
+
+pub distance-itself : (S : Study) (t : ℕ) → distance S t t ≡ 0
+unfolding distance
+distance-itself S t = cond-no (ltb t t) _ _ (le→nltb t t (le-refl t)) ∙ cond-no (ltb t t) _ _ (le→nltb t t (le-refl t))
+
+-- ---- the problem
+
+pub study-symmetric : (S : Study) → Symmetric (problem S)
+unfolding problem
+study-symmetric S = record { both-ways = distance-both-ways S; itself = distance-itself S }
+
+pub study-lawful : (S : Study) → ThreeTideRule S → Lawful (problem S)
+unfolding problem sufficient
+study-lawful S O =
+    record {
+      symmetric = study-symmetric S;
+      three-tide = O;
+      upward = λ p q h.
+          meets-along (S .minima) (size S) (size S) (λ t. tide S t .setting) (λ t. tide S t .setting) p q (λ t. t)
+          (λ t l a. l) h (λ t l. refl) (λ t u l k e. e);
+    }
+
+pub study-reordered : (S R : Study) → Renumbered S R → Reordered (problem S) (problem R)
+unfolding problem sufficient
+study-reordered S R N =
+    record {
+      to = N .to;
+      back = N .back;
+      back-inside = N .back-inside;
+      to-back = N .to-back;
+      distances = N .distances;
+      enough = λ p h.
+          meets-along (S .minima) (size R) (size S) (λ t. tide R t .setting) (λ t. tide S t .setting) p (λ s. p (N .back s)) (N .to)
+          (λ t l a. N .to-inside t l) (λ t l a. subst (λ u. T (p u)) (sym (N .back-to t l)) a) (N .setting)
+          (λ t u l k e. sym (N .back-to t l) ∙ ap (N .back) e ∙ N .back-to u k)
+          (subst (λ M. T (meets M (size R) (λ t. tide R t .setting) p)) (N .minima) h);
+    }
+
+-- all tides together are sufficient exactly when there are b0 of them, and b of each setting
+pub ample-T : (S : Study) → T (sufficient S (λ t. true)) ↔ Ample S
+unfolding sufficient
+ample-T S =
+    let e = meets-T (S .minima) (size S) (λ t. tide S t .setting) (λ t. true) in (
+      λ h. let m = e .0 h in record { whole = omega (arith, m .whole, count-all (size S)); each = m .each },
+      λ a. e .1 (record { whole = omega (arith, a .whole, count-all (size S)); each = a .each }),
+    )

@@ -1,0 +1,111 @@
+-- What is proved of the definitions; there are no proofs here. `for-problem`, `for-study` and `for-calls` of Proofs.antt prove the three
+-- records at the end. Assumes nothing.
+use Prim.Native.Nat.{ℕ, suc, _+_, _*_, _≤_, _<_}
+use mathlib.Core.Path.{_≡_}
+use mathlib.Core.Logic.{_⊎_, _↔_}
+use mathlib.Core.Bool.{Bool, true}
+use mathlib.Core.List.{List}
+use lib.Dec.{T, eqb}
+use lib.ListN.{length, getD, take}
+use Rattle.lists.specs.Lists.{_∈_, count, greatest, before}
+use Rattle.study.specs.declared.Minima.{Minima}
+use Rattle.study.specs.Problem.{Problem, centres, centreOf, choices, block, labels, assignments, assignable, candidates, radius, blocking, diameter, greatestDiameter, Feasible, feasible}
+use Rattle.study.specs.Study.{Study, Contents, size, tide, problem, Valid, Renumbered}
+use Rattle.study.specs.Refusals.{Verdict, accepted, firstOf}
+use Rattle.study.specs.Calls.{openReasons, opening, minimaReasons, settingMinima, enterReasons, entering, withdrawReasons, withdrawing, blockReasons}
+
+-- ---- what the theorems ask of a problem
+
+pub record Symmetric (P : Problem) : Type 0 where
+  pub both-ways : (t u : ℕ) → P .dist t u ≡ P .dist u t
+  pub itself : (t : ℕ) → P .dist t t ≡ 0
+
+-- symmetric distances, the three-tide rule, and more tides never make a sufficient block insufficient
+pub record Lawful (P : Problem) : Type 0 where
+  pub symmetric : Symmetric P
+  pub three-tide : (t u v : ℕ) → t < P .size → u < P .size → v < P .size → P .dist t v ≤ P .dist t u + P .dist u v
+  pub upward : (p q : ℕ → Bool) → ((t : ℕ) → t < P .size → T (p t) → T (q t)) → T (P .enough p) → T (P .enough q)
+
+-- Q has the tides of P in another order: tide t of Q is tide `to t` of P, and what is sufficient in Q is so in P
+pub record Reordered (P Q : Problem) : Type 0 where
+  pub to : ℕ → ℕ
+  pub back : ℕ → ℕ
+  pub back-inside : (s : ℕ) → s < P .size → back s < Q .size
+  pub to-back : (s : ℕ) → s < P .size → to (back s) ≡ s
+  pub distances : (t u : ℕ) → t < Q .size → u < Q .size → Q .dist t u ≡ P .dist (to t) (to u)
+  pub enough : (p : ℕ → Bool) → T (Q .enough p) → T (P .enough (λ s. p (back s)))
+
+-- ---- what they say
+
+-- document 01, a filling at g: each tide has a block whose centre is at most g away, and each block is sufficient
+pub record Assignment (P : Problem) (g : ℕ) (xs : List ℕ) : Type 0 where
+  pub long : length xs ≡ P .size
+  pub low : (t : ℕ) → t < P .size → 1 ≤ labels xs t
+  pub high : (t : ℕ) → t < P .size → labels xs t ≤ length (centres P g)
+  pub near : (t : ℕ) → t < P .size → P .dist (centreOf (centres P g) (labels xs t)) t ≤ g
+  pub enough : (m : ℕ) → 1 ≤ m → m ≤ length (centres P g) → T (P .enough (block (labels xs) m))
+
+-- xs comes before ys in dictionary order: by block number, at the first tide where they differ
+pub record Precedes (xs ys : List ℕ) : Type 0 where
+  pub tide : ℕ
+  pub same : take tide xs ≡ take tide ys
+  pub lower : labels xs tide < labels ys tide
+
+-- an assignment at g, and at no tide does an earlier choice begin an assignment that agrees with it before that tide
+pub record FirstAssignment (P : Problem) (g : ℕ) (xs : List ℕ) : Type 0 where
+  pub assignment : Assignment P g xs
+  pub foremost : (t c : ℕ) → t < P .size → c ∈ before (labels xs t) (choices P g (centres P g) t)
+      → (ys : List ℕ) → Assignment P g ys → take t ys ≡ take t xs → labels ys t ≡ c → ⊥
+
+-- the blocking is the one that document 01 singles out
+pub record Singled (P : Problem) : Type 0 where
+  pub assignment : Assignment P (radius P) (blocking P)
+  pub candidate : radius P ∈ candidates P
+  pub lowest : (g : ℕ) → g ∈ candidates P → (xs : List ℕ) → Assignment P g xs → radius P ≤ g
+  pub first : (xs : List ℕ) → Assignment P (radius P) xs → (blocking P ≡ xs) ⊎ Precedes (blocking P) xs
+  -- its greatest diameter is that of its blocks
+  pub widest : greatestDiameter P (labels (blocking P)) ≡ greatest (length (centres P (radius P))) (λ i. diameter P (labels (blocking P)) (suc i))
+
+-- for every lawful problem
+pub record ForProblem (P : Problem) : Type 0 where
+  pub cover : (g t : ℕ) → t < P .size → (c : ℕ) × (c ∈ centres P g) × (P .dist c t ≤ g)
+  pub apart : (g i j : ℕ) → i < j → j < length (centres P g) → g < P .dist (getD (centres P g) i 0) (getD (centres P g) j 0)
+  pub assignments-are : (g : ℕ) (xs : List ℕ) → (xs ∈ assignments P g) ↔ Assignment P g xs
+  -- against every feasible partition of the same tides in any order
+  pub bounded : (Q : Problem) → Symmetric Q → Reordered P Q → (D : ℕ → ℕ) → Feasible Q D
+      → (radius P ≤ greatestDiameter Q D) × (greatestDiameter P (labels (blocking P)) ≤ 2 * greatestDiameter Q D)
+  -- some partition is feasible ↔ all tides together are sufficient ↔ some candidate has an assignment
+  pub feasible-exactly : 0 < P .size → ((D : ℕ → ℕ) × Feasible P D) ↔ T (P .enough (λ t. true))
+  pub assignable-exactly : 0 < P .size → ((g : ℕ) × (g ∈ candidates P) × T (assignable P g)) ↔ T (P .enough (λ t. true))
+  pub singled : T (P .enough (λ t. true)) → Singled P
+  -- how a search that only tells whether some assignment continues a given front finds the blocking
+  pub found : (xs : List ℕ) → FirstAssignment P (radius P) xs → blocking P ≡ xs
+  pub feasible-test : (D : ℕ → ℕ) → T (feasible P D) ↔ Feasible P D
+
+-- at least b0 tides, and at least b of each setting
+pub record Ample (S : Study) : Type 0 where
+  pub whole : S .minima .b0 ≤ size S
+  pub each : (j : ℕ) → j < 8 → getD (S .minima .b) j 0 ≤ count (size S) (λ t. eqb (tide S t .setting) (suc j))
+
+-- for every valid study
+pub record ForStudy (S : Study) : Type 0 where
+  pub lawful : Lawful (problem S)
+  -- against every feasible partition of the same tides, numbered in any order
+  pub bounded : (R : Study) → Renumbered S R → (D : ℕ → ℕ) → Feasible (problem R) D
+      → (radius (problem S) ≤ greatestDiameter (problem R) D)
+      × (greatestDiameter (problem S) (labels (blocking (problem S))) ≤ 2 * greatestDiameter (problem R) D)
+  -- refusal 25 is exact
+  pub ample-exactly : 0 < size S → ((D : ℕ → ℕ) × Feasible (problem S) D) ↔ Ample S
+
+-- a valid study, and a count of withdrawals that a dataset can hold
+pub record ValidContents (H : Contents) : Type 0 where
+  pub study : Valid (H .study)
+  pub counted : H .withdrawals ≤ 65535
+
+-- an accepted call leaves valid contents
+pub record ForCalls : Type 0 where
+  pub on-open : (k : ℕ) → firstOf (openReasons k) ≡ accepted → ValidContents (opening k)
+  pub on-minima : (M : Minima) (H : Contents) → ValidContents H → firstOf (minimaReasons (H .study) M) ≡ accepted → ValidContents (settingMinima M H)
+  pub on-enter : (setting : ℕ) (row : List ℕ) (H : Contents) → ValidContents H → firstOf (enterReasons (H .study) setting row) ≡ accepted
+      → ValidContents (entering setting row H)
+  pub on-withdraw : (t : ℕ) (H : Contents) → ValidContents H → firstOf (withdrawReasons H t) ≡ accepted → ValidContents (withdrawing t H)

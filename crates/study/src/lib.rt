@@ -1,0 +1,49 @@
+// The types that all calls share. The mathematics stands in specs/.
+
+// The minima: b0 for a whole block, and b for each of the 8 settings.
+pub struct Minima {
+    pub b0: u8,
+    pub b: [u8; 8],
+}
+
+// The record of a dataset (document 01: book); the distances and settings stand in memory that the caller lends.
+pub struct Dataset {
+    pub k: u8,
+    pub n: usize,
+    pub minima: Minima,
+    pub withdrawn: u16,
+}
+
+// Why a call is refused. `specs/Refusals.antt` gives each case document 01's number and values.
+pub enum Refusal {
+    ShortMemory,
+    SettingCount,
+    Minima,
+    RowLength,
+    Setting,
+    Distance,
+    // The lower and the higher number of the first pair of tides with which the three-tide rule breaks.
+    ThreeTideRule(usize, usize),
+    FileLength,
+    Mark,
+    TideCount,
+    FillBits,
+    ListLength,
+    NotDataset,
+    Full,
+    NoSuchTide,
+    NoTides,
+    TooFewTides,
+    WithdrawalLimit,
+}
+
+pub enum Answer {
+    Done,
+    Refused(Refusal),
+}
+
+// The answer of a call that may change the dataset, and the record after it.
+pub struct Outcome {
+    pub answer: Answer,
+    pub dataset: Dataset,
+}
