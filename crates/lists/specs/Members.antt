@@ -66,6 +66,10 @@ module _ {A : Type 0} where
   nonempty [] m = no-member m
   nonempty (x ∷ xs) m = tt
 
+  pub empty-of : (xs : List A) → ((x : A) → x ∈ xs → ⊥) → T (isEmpty xs)
+  empty-of [] f = tt
+  empty-of (x ∷ xs) f = f x (here refl)
+
   -- ---- places
   pub getD-mem : (d : A) (xs : List A) (i : ℕ) → i < length xs → getD xs i d ∈ xs
   getD-mem d [] i l = absurd (not-suc-le-zero l)

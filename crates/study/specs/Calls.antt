@@ -35,24 +35,20 @@ settingMinima M H = record { study = withMinima M (H .study); withdrawals = H .w
 
 -- ---- Enter
 
--- the distances of a new tide at `row` from tides i and j, and theirs, obey the three-tide rule
-unfoldable pub obeys : Study → List ℕ → ℕ → ℕ → Bool
-obeys S row i j =
-    let a = getD row i 0 in
-    let b = getD row j 0 in
-    let c = distance S i j in
-    each (leb c (a + b) ∷ leb a (c + b) ∷ leb b (c + a) ∷ [])
+-- none of three distances exceeds the sum of the other two
+unfoldable pub triangle : ℕ → ℕ → ℕ → Bool
+triangle a b c = each (leb a (b + c) ∷ leb b (a + c) ∷ leb c (a + b) ∷ [])
 
 -- two tides, the lower number first
 pub record Pair : Type 0 where
   pub lower : ℕ
   pub upper : ℕ
 
--- the pairs i < j of tides held at which a new tide at `row` breaks the rule, in order of i and then j
-unfoldable pub breaking : Study → List ℕ → List Pair
-breaking S row =
-    flatMap (λ i. map (λ j. record { lower = i; upper = j }) (filter (λ j. not (obeys S row i j)) (range (suc i) (size S - suc i))))
-    (range 0 (size S))
+-- the pairs i < j of n tides with which a new tide, at `new i` from each, breaks the three-tide rule, in order of i and then j
+unfoldable pub breaking : (ℕ → ℕ → ℕ) → ℕ → (ℕ → ℕ) → List Pair
+breaking dist n new =
+    flatMap (λ i. map (λ j. record { lower = i; upper = j }) (filter (λ j. not (triangle (dist i j) (new i) (new j))) (range (suc i) (n - suc i))))
+    (range 0 n)
 
 -- 7 and the first such pair
 abbrev pub firstPair : List Pair → Numbered
@@ -61,11 +57,12 @@ firstPair (p ∷ ps) = seven (suc (p .lower)) (suc (p .upper))
 
 unfoldable pub enterReasons : Study → ℕ → List ℕ → List Reason
 enterReasons S setting row =
+    let broken = breaking (distance S) (size S) (λ i. getD row i 0) in
     (leb 120 (size S) ⇒ number 22)
     ∷ (not (eqb (length row) (size S)) ⇒ number 4)
     ∷ (not (between 1 (S .k) setting) ⇒ number 5)
     ∷ (not (every (length row) (λ i. leb (getD row i 0) 1048575)) ⇒ number 6)
-    ∷ (not (isEmpty (breaking S row)) ⇒ firstPair (breaking S row))
+    ∷ (not (isEmpty broken) ⇒ firstPair broken)
     ∷ []
 
 -- one more tide at the end

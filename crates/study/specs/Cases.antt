@@ -9,7 +9,7 @@ use Rattle.study.specs.declared.Minima.{Minima}
 use Rattle.study.specs.Problem.{Problem, centresAmong, centres, centreOf, choices, block, labels, allSufficient, assignments, assignable, candidates, radius, blocking, diameter, greatestDiameter, feasible}
 use Rattle.study.specs.Study.{Tide, Study, size, noTide, tide, distance, meets, sufficient, problem}
 use Rattle.study.specs.Refusals.{number, seven, Verdict, accepted, refused, firstOf}
-use Rattle.study.specs.Calls.{obeys, breaking, enterReasons, blockReasons}
+use Rattle.study.specs.Calls.{triangle, breaking, enterReasons, blockReasons}
 
 -- the tides at these positions, in order, after those at `earlier`; settings from the list, 1 where it ends
 unfoldable pub onLine : List ℕ → List ℕ → List ℕ → List Tide
@@ -94,5 +94,5 @@ cases =
     ∷ []
 
 pub worked-cases : map (λ (c : Case). reply (c .asked)) cases ≡ map (λ (c : Case). c .given) cases
-unfolding cases case1 case3 case7 reply blockReply line onLine firstOf blockReasons enterReasons obeys breaking centresAmong centres centreOf choices block labels allSufficient assignments assignable candidates radius blocking diameter greatestDiameter feasible noTide tide distance meets sufficient problem every sum count greatest tabulate flatMap headD
+unfolding cases case1 case3 case7 reply blockReply line onLine firstOf blockReasons enterReasons triangle breaking centresAmong centres centreOf choices block labels allSufficient assignments assignable candidates radius blocking diameter greatestDiameter feasible noTide tide distance meets sufficient problem every sum count greatest tabulate flatMap headD
 worked-cases = refl

@@ -9,3 +9,6 @@ pub mod ProblemLaws
 pub mod Approximation
 pub mod Dictionary
 pub mod StudyLaws
+pub mod TriangleLaws
+pub mod CallLaws
+pub mod Proofs

@@ -1,20 +1,20 @@
--- A study that obeys the three-tide rule poses a lawful problem, and so does the same study in another order. Assumes nothing.
+-- Laws of Study.antt: a study that obeys the three-tide rule poses a lawful problem, in any order of its tides. Assumes nothing.
 use Prim.Native.Nat.{ℕ, zero, suc, _+_, _-_, _≤_, _<_}
 use native.Mathlib.Nat.{le-trans, le-of-eq, le-refl}
 use native.Mathlib.Omega.{arith}
 use mathlib.Core.Path.{_≡_, refl, sym, ap, ap₂, _∙_, subst}
 use mathlib.Core.Logic.{_↔_}
-use mathlib.Core.Bool.{Bool, true, false, cond, _&&_}
-use mathlib.Core.List.{List}
-use lib.Dec.{T, leb, ltb, eqb, leb→le, le→leb, ltb→lt}
+use mathlib.Core.Bool.{Bool, true, false, cond, _&&_, not}
+use mathlib.Core.List.{List, [], _∷_}
+use lib.Dec.{T, leb, ltb, eqb, leb→le, le→leb, ltb→lt, nltb→le, eqb→eq}
 use lib.Arith.{le→nltb}
 use lib.ListN.{length, getD}
-use Rattle.lists.specs.Lists.{every, count}
-use Rattle.lists.specs.Tests.{and-T, T-left, T-right, cond-no, every-at, every-of}
+use Rattle.lists.specs.Lists.{between, every, sum, count}
+use Rattle.lists.specs.Tests.{and-T, T-left, T-right, between-T, each-at, each-of, cond-no, every-at, every-of, eq→eqb}
 use Rattle.lists.specs.Counts.{count-le, count-same, count-into, count-all}
 use Rattle.study.specs.declared.Minima.{Minima}
 use Rattle.study.specs.Problem.{Problem}
-use Rattle.study.specs.Study.{Study, size, tide, distance, meets, sufficient, problem, ThreeTideRule, Renumbered}
+use Rattle.study.specs.Study.{Study, size, tide, distance, meets, sufficient, problem, validMinima, ThreeTideRule, Renumbered}
 use Rattle.study.specs.Theorems.{Symmetric, Lawful, Reordered, Ample}
 
 -- ---- what it says that a set of tides meets the minima
@@ -57,6 +57,43 @@ meets-along M m n s r p q to into pass same apart h =
           (subst (λ x. T (eqb x (suc j))) (same t k) (T-right (p t) (eqb (s t) (suc j)) a)))
           (λ t u k i a b. apart t u k i));
     })
+
+-- ---- what it says that minima are valid
+
+pub record MinimaFit (k : ℕ) (M : Minima) : Type 0 where
+  pub low : 1 ≤ M .b0
+  pub high : M .b0 ≤ 120
+  pub together : sum 8 (λ j. getD (M .b) j 0) ≤ M .b0
+  pub above : (j : ℕ) → k ≤ j → j < 8 → getD (M .b) j 0 ≡ 0
+
+module _ (k : ℕ) (M : Minima) where
+  abbrev zero? : ℕ → Bool
+  zero? j = cond (ltb j k) true (eqb (getD (M .b) j 0) 0)
+
+  abbrev tests : List Bool
+  tests = between 1 120 (M .b0) ∷ leb (sum 8 (λ j. getD (M .b) j 0)) (M .b0) ∷ every 8 zero? ∷ []
+
+  zero-at : (j : ℕ) → T (zero? j) → k ≤ j → getD (M .b) j 0 ≡ 0
+  zero-at j t l = eqb→eq (getD (M .b) j 0) 0 (subst T (cond-no (ltb j k) true (eqb (getD (M .b) j 0) 0) (le→nltb j k l)) t)
+
+  zero-of : (j : ℕ) → (k ≤ j → getD (M .b) j 0 ≡ 0) → T (zero? j)
+  zero-of j f = by (ltb j k) (λ t. nltb→le j k t)
+    where
+      by : (b : Bool) → (T (not b) → k ≤ j) → T (cond b true (eqb (getD (M .b) j 0) 0))
+      by true h = tt
+      by false h = eq→eqb (getD (M .b) j 0) 0 (f (h tt))
+
+  pub validMinima-T : T (validMinima k M) ↔ MinimaFit k M
+  unfolding validMinima
+  validMinima-T = (
+    λ t. let e = each-at tests t in
+        let b = between-T 1 120 (M .b0) .0 (e .0) in
+        record { low = b .0; high = b .1; together = leb→le _ _ (e .1 .0); above = λ j l h. zero-at j (every-at 8 zero? (e .1 .1 .0) j h) l },
+    λ f. each-of tests (
+      between-T 1 120 (M .b0) .1 (f .low, f .high),
+      (le→leb (sum 8 (λ j. getD (M .b) j 0)) (M .b0) (f .together), (every-of 8 zero? (λ j h. zero-of j (λ l. f .above j l h)), tt)),
+    ),
+  )
 
 -- ---- the distances
 
