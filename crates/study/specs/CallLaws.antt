@@ -45,7 +45,7 @@ zero-minima : (k : ℕ) → T (validMinima k (opened k .minima))
 unfolding opened sum
 zero-minima k =
     validMinima-T k (opened k .minima) .1
-    (record { low = omega arith; high = omega arith; together = omega arith; above = λ j l h. getD-replicate 8 j 0 0 h })
+    (record { low = omega arith; high = omega arith; eight = refl; together = omega arith; above = λ j l h. getD-replicate 8 j 0 0 h })
 
 pub opening-valid : (k : ℕ) → firstOf (openReasons k) ≡ accepted → ValidContents (opening k)
 unfolding openReasons opening opened

@@ -50,11 +50,12 @@ problem S = record { size = size S; dist = distance S; enough = sufficient S }
 
 -- ---- a study as document 01 describes it
 
--- b0 is 1 to 120, the b's together are at most b0, those above k are 0
+-- b0 is 1 to 120, there is a b for each of the 8 settings, together they are at most b0, those above k are 0
 unfoldable pub validMinima : ℕ → Minima → Bool
 validMinima k M =
     each
     (between 1 120 (M .b0)
+    ∷ eqb (length (M .b)) 8
     ∷ leb (sum 8 (λ j. getD (M .b) j 0)) (M .b0)
     ∷ every 8 (λ j. cond (ltb j k) true (eqb (getD (M .b) j 0) 0))
     ∷ [])

@@ -63,6 +63,7 @@ meets-along M m n s r p q to into pass same apart h =
 pub record MinimaFit (k : ℕ) (M : Minima) : Type 0 where
   pub low : 1 ≤ M .b0
   pub high : M .b0 ≤ 120
+  pub eight : length (M .b) ≡ 8
   pub together : sum 8 (λ j. getD (M .b) j 0) ≤ M .b0
   pub above : (j : ℕ) → k ≤ j → j < 8 → getD (M .b) j 0 ≡ 0
 
@@ -71,7 +72,7 @@ module _ (k : ℕ) (M : Minima) where
   zero? j = cond (ltb j k) true (eqb (getD (M .b) j 0) 0)
 
   abbrev tests : List Bool
-  tests = between 1 120 (M .b0) ∷ leb (sum 8 (λ j. getD (M .b) j 0)) (M .b0) ∷ every 8 zero? ∷ []
+  tests = between 1 120 (M .b0) ∷ eqb (length (M .b)) 8 ∷ leb (sum 8 (λ j. getD (M .b) j 0)) (M .b0) ∷ every 8 zero? ∷ []
 
   zero-at : (j : ℕ) → T (zero? j) → k ≤ j → getD (M .b) j 0 ≡ 0
   zero-at j t l = eqb→eq (getD (M .b) j 0) 0 (subst T (cond-no (ltb j k) true (eqb (getD (M .b) j 0) 0) (le→nltb j k l)) t)
@@ -88,10 +89,16 @@ module _ (k : ℕ) (M : Minima) where
   validMinima-T = (
     λ t. let e = each-at tests t in
         let b = between-T 1 120 (M .b0) .0 (e .0) in
-        record { low = b .0; high = b .1; together = leb→le _ _ (e .1 .0); above = λ j l h. zero-at j (every-at 8 zero? (e .1 .1 .0) j h) l },
+        record {
+          low = b .0;
+          high = b .1;
+          eight = eqb→eq (length (M .b)) 8 (e .1 .0);
+          together = leb→le _ _ (e .1 .1 .0);
+          above = λ j l h. zero-at j (every-at 8 zero? (e .1 .1 .1 .0) j h) l;
+        },
     λ f. each-of tests (
       between-T 1 120 (M .b0) .1 (f .low, f .high),
-      (le→leb (sum 8 (λ j. getD (M .b) j 0)) (M .b0) (f .together), (every-of 8 zero? (λ j h. zero-of j (λ l. f .above j l h)), tt)),
+      (eq→eqb (length (M .b)) 8 (f .eight), (le→leb (sum 8 (λ j. getD (M .b) j 0)) (M .b0) (f .together), (every-of 8 zero? (λ j h. zero-of j (λ l. f .above j l h)), tt))),
     ),
   )
 
