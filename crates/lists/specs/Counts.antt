@@ -1,14 +1,13 @@
 -- Sums and counts over the numbers below a bound, and the pigeonhole principle. Assumes nothing.
 use Prim.Native.Nat.{ℕ, zero, suc, _+_, _-_, _≤_, _<_, zero-le}
-use native.Mathlib.Nat.{le-refl}
 use native.Mathlib.Omega.{arith}
 use native.Mathlib.Numerals.{add-one}
-use mathlib.Core.Path.{_≡_, refl, sym, ap, ap₂, _∙_, subst}
-use mathlib.Core.Logic.{_⊎_, inl, inr, ⊎-elim}
+use mathlib.Core.Path.{_≡_, refl, ap, ap₂, subst}
+use mathlib.Core.Logic.{_⊎_, ⊎-elim}
 use mathlib.Core.Bool.{Bool, true, false, _&&_, not}
 use lib.Dec.{T, eqb, eqb→eq, eqb-refl, not-T, T-not}
 use Rattle.lists.specs.Lists.{sum, bit, count}
-use Rattle.lists.specs.Tests.{and-T, T-left, T-true, T-false, test, split, eq→eqb}
+use Rattle.lists.specs.Tests.{and-T, T-left, T-true, T-false, test, split}
 
 -- ---- sums
 
@@ -132,8 +131,8 @@ count-into (suc k) n p q h into pass apart =
     ⊎-elim
     (λ t. let e : k < suc k = omega arith in
     let r = count-into k n p (without q (h k)) h (λ s l. into s (omega arith))
-        (λ s l u. without-other q (h k) (h s) (λ e. absurd (omega (arith, apart s k (omega arith) (omega arith) u t e))) (pass s (omega arith) u))
-        (λ s u l m. apart s u (omega arith) (omega arith)) in
+    (λ s l u. without-other q (h k) (h s) (λ e. absurd (omega (arith, apart s k (omega arith) (omega arith) u t e))) (pass s (omega arith) u))
+    (λ s u l m. apart s u (omega arith) (omega arith)) in
     omega (arith, count-hit k p t, count-without n q (h k) (into k e t) (pass k e t)))
     (λ t. omega (arith, count-miss k p t, count-into k n p q h (λ s l. into s (omega arith)) (λ s l. pass s (omega arith)) (λ s u l m. apart s u (omega arith) (omega arith))))
     (test (p k))

@@ -1,13 +1,13 @@
 -- The blocking against every feasible partition, of greatest diameter W: the radius is at most W, and the greatest diameter at most 2·W.
 -- The centres at W lie in different blocks of the partition; so each of its blocks that has a centre goes to that centre's block, and
 -- every other tide to any centre within W. That is an assignment at W. Assumes nothing.
-use Prim.Native.Nat.{ℕ, zero, suc, _+_, _-_, _*_, _≤_, _<_}
+use Prim.Native.Nat.{ℕ, zero, suc, _-_, _*_, _≤_, _<_}
 use native.Mathlib.Omega.{arith}
-use mathlib.Core.Path.{_≡_, refl, sym, ap, ap₂, _∙_, subst}
+use mathlib.Core.Path.{_≡_, sym, ap, ap₂, _∙_, subst}
 use mathlib.Core.Logic.{⊎-elim, _↔_}
-use mathlib.Core.Bool.{Bool, true, false, cond}
-use mathlib.Core.List.{List, [], _∷_}
-use lib.Dec.{T, leb, ltb, eqb, leb→le, le→leb, ltb→lt, lt→ltb, nltb→le, eqb→eq}
+use mathlib.Core.Bool.{Bool, true, cond}
+use mathlib.Core.List.{List}
+use lib.Dec.{T, leb, ltb, eqb, leb→le, le→leb, ltb→lt, lt→ltb, eqb→eq}
 use lib.ListN.{length, getD}
 use Rattle.lists.specs.Lists.{_∈_, tabulate}
 use Rattle.lists.specs.Tests.{split, test, cond-yes, cond-no, eq→eqb}

@@ -1,21 +1,20 @@
 -- An accepted Open, Minima, Enter or Withdraw leaves valid contents: the three-tide rule with the rest. Assumes nothing.
-use Prim.Native.Nat.{ℕ, zero, suc, _+_, _-_, _*_, _≤_, _<_}
-use native.Mathlib.Nat.{not-suc-le-zero, le-of-suc-le-suc, le-refl}
+use Prim.Native.Nat.{ℕ, zero, suc, _-_, _≤_, _<_}
+use native.Mathlib.Nat.{not-suc-le-zero, le-of-suc-le-suc}
 use native.Mathlib.Omega.{arith}
 use mathlib.Core.Path.{_≡_, refl, sym, ap, ap₂, _∙_, subst}
 use mathlib.Core.Logic.{_⊎_, inl, inr, ⊎-elim}
-use mathlib.Core.Bool.{Bool, true, false, cond, _&&_, not}
-use mathlib.Core.List.{List, [], _∷_, _++_, map, flatMap}
-use lib.Dec.{T, leb, ltb, eqb, leb→le, nleb→lt, ltb→lt, lt→ltb, nltb→le, eqb→eq, leb·suc-suc, T-not}
+use mathlib.Core.Bool.{Bool, true, false, cond, not}
+use mathlib.Core.List.{List, [], _∷_}
+use lib.Dec.{T, leb, ltb, eqb, leb→le, nleb→lt, ltb→lt, lt→ltb, nltb→le, eqb→eq, leb·suc-suc}
 use lib.Arith.{le→nltb}
-use lib.ListN.{length, getD, length-append, length-map, List·getD-append, List·getD-map, replicate, getD-replicate}
+use lib.ListN.{length, getD, length-append, length-map, List·getD-append, List·getD-map, getD-replicate}
 use lib.Seq.{getD-append-seam}
-use Rattle.lists.specs.Lists.{_∈_, between, range, every, sum, filter, isEmpty}
-use Rattle.lists.specs.Tests.{T-true, T-false, not-not, test, split, between-T, each-at, each-of, cond-yes, cond-no, every-at, every-of, eq→eqb}
-use Rattle.lists.specs.Members.{mem-filter, mem-map, mem-flatMap, nonempty, mem-range}
+use Rattle.lists.specs.Lists.{between, every, sum, isEmpty}
+use Rattle.lists.specs.Tests.{T-true, T-false, not-not, test, split, between-T, cond-yes, cond-no, every-at}
 use Rattle.study.specs.declared.Minima.{Minima}
 use Rattle.study.specs.Study.{Tide, Study, Contents, size, noTide, tide, distance, validMinima, ThreeTideRule, Valid}
-use Rattle.study.specs.Refusals.{Verdict, accepted, refused, Reason, firstOf}
+use Rattle.study.specs.Refusals.{accepted, refused, Reason, firstOf}
 use Rattle.study.specs.Calls.{openReasons, opened, opening, minimaReasons, withMinima, settingMinima, breaking, enterReasons, entered, entering, withdrawReasons, removeAt, shortened, withdrawn, withdrawing}
 use Rattle.study.specs.Theorems.{ValidContents}
 use Rattle.study.specs.StudyLaws.{validMinima-T, distance-both-ways, distance-itself}
@@ -53,16 +52,16 @@ opening-valid k e =
     let h = between-T 1 8 k .0 (not-not (between 1 8 k) (none-holds (openReasons k) e .0)) in
     record {
       study = record {
-            k-low = h .0;
-            k-high = h .1;
-            few = omega arith;
-            minima = zero-minima k;
-            setting-low = λ t l. absurd (not-suc-le-zero l);
-            setting-high = λ t l. absurd (not-suc-le-zero l);
-            row-length = λ t l. absurd (not-suc-le-zero l);
-            near = λ t u l m. absurd (not-suc-le-zero l);
-            three-tide = λ t u v l m n. absurd (not-suc-le-zero l);
-          };
+        k-low = h .0;
+        k-high = h .1;
+        few = omega arith;
+        minima = zero-minima k;
+        setting-low = λ t l. absurd (not-suc-le-zero l);
+        setting-high = λ t l. absurd (not-suc-le-zero l);
+        row-length = λ t l. absurd (not-suc-le-zero l);
+        near = λ t u l m. absurd (not-suc-le-zero l);
+        three-tide = λ t u v l m n. absurd (not-suc-le-zero l);
+      };
       counted = omega arith;
     }
 
@@ -74,16 +73,16 @@ minima-valid M H ok e =
     let S = ok .study in
     record {
       study = record {
-            k-low = S .k-low;
-            k-high = S .k-high;
-            few = S .few;
-            minima = not-not (validMinima (H .study .k) M) (none-holds (minimaReasons (H .study) M) e .0);
-            setting-low = S .setting-low;
-            setting-high = S .setting-high;
-            row-length = S .row-length;
-            near = S .near;
-            three-tide = S .three-tide;
-          };
+        k-low = S .k-low;
+        k-high = S .k-high;
+        few = S .few;
+        minima = not-not (validMinima (H .study .k) M) (none-holds (minimaReasons (H .study) M) e .0);
+        setting-low = S .setting-low;
+        setting-high = S .setting-high;
+        row-length = S .row-length;
+        near = S .near;
+        three-tide = S .three-tide;
+      };
       counted = ok .counted;
     }
 

@@ -1,12 +1,11 @@
 -- Document 01's "Tides on a line": the cases marked P, 1 to 7, as one list under one theorem, by computation. Assumes nothing.
-use Prim.Native.Nat.{ℕ, zero, suc, _+_, _-_}
+use Prim.Native.Nat.{ℕ, _+_, _-_}
 use mathlib.Core.Path.{_≡_, refl}
 use mathlib.Core.Bool.{Bool, true, false}
 use mathlib.Core.List.{List, [], _∷_, _++_, map, flatMap, headD}
-use lib.ListN.{length, getD, replicate}
+use lib.ListN.{length, getD}
 use Rattle.lists.specs.Lists.{range, every, sum, count, greatest, tabulate}
-use Rattle.study.specs.declared.Minima.{Minima}
-use Rattle.study.specs.Problem.{Problem, centresAmong, centres, centreOf, choices, block, labels, allSufficient, assignments, assignable, candidates, radius, blocking, diameter, greatestDiameter, feasible}
+use Rattle.study.specs.Problem.{centresAmong, centres, centreOf, choices, block, labels, allSufficient, assignments, assignable, candidates, radius, blocking, diameter, greatestDiameter, feasible}
 use Rattle.study.specs.Study.{Tide, Study, size, noTide, tide, distance, meets, sufficient, problem}
 use Rattle.study.specs.Refusals.{number, seven, Verdict, accepted, refused, firstOf}
 use Rattle.study.specs.Calls.{triangle, breaking, enterReasons, blockReasons}

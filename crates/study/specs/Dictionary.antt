@@ -1,17 +1,16 @@
 -- The blocking comes first in dictionary order, and a list that a search finds by asking only whether some assignment continues a given
 -- front is the blocking. Assumes nothing.
-use Prim.Native.Nat.{ℕ, zero, suc, _+_, _-_, _≤_, _<_}
+use Prim.Native.Nat.{ℕ, _-_, _<_}
 use native.Mathlib.Omega.{arith}
-use mathlib.Core.Path.{_≡_, refl, sym, ap, _∙_, subst}
+use mathlib.Core.Path.{_≡_, refl, subst}
 use mathlib.Core.Logic.{_⊎_, inl, inr, ⊎-elim}
-use mathlib.Core.Bool.{Bool, true, false}
-use mathlib.Core.List.{List, [], _∷_, headD}
-use lib.Dec.{T, leb}
+use mathlib.Core.List.{List, [], headD}
+use lib.Dec.{leb}
 use lib.ListN.{length, getD, take}
-use Rattle.lists.specs.Lists.{_∈_, range, tabulate, filter, before, tuples}
+use Rattle.lists.specs.Lists.{_∈_, tabulate, before}
 use Rattle.lists.specs.Tables.{length-tabulate, getD-tabulate}
-use Rattle.lists.specs.Tuples.{Earlier, first-tuple, before-less}
-use Rattle.study.specs.Problem.{Problem, centres, centreOf, choices, labels, allSufficient, assignments, assignable, radius, blocking}
+use Rattle.lists.specs.Tuples.{first-tuple, before-less}
+use Rattle.study.specs.Problem.{Problem, centres, centreOf, choices, labels, allSufficient, assignments, radius, blocking}
 use Rattle.study.specs.Theorems.{Assignment, Precedes, FirstAssignment}
 use Rattle.study.specs.ProblemLaws.{mem-choices, assignment-tuple, assignable-by, first-assignment}
 

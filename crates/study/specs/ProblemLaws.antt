@@ -1,8 +1,8 @@
 -- Laws of the definitions of Problem.antt, by which everything above speaks of them. Assumes nothing.
-use Prim.Native.Nat.{ℕ, zero, suc, _+_, _-_, _*_, _≤_, _<_, zero-le}
+use Prim.Native.Nat.{ℕ, zero, suc, _+_, _-_, _≤_, _<_, zero-le}
 use native.Mathlib.Nat.{not-suc-le-zero, le-trans}
 use native.Mathlib.Omega.{arith}
-use mathlib.Core.Path.{_≡_, refl, sym, ap, _∙_, subst}
+use mathlib.Core.Path.{_≡_, refl, sym, _∙_, subst}
 use mathlib.Core.Logic.{_⊎_, inl, inr, ⊎-elim, _↔_}
 use mathlib.Core.Bool.{Bool, true, false, cond, _&&_, not}
 use mathlib.Core.List.{List, [], _∷_, _++_, headD, List·Memᴰ·append-cases, Memᴰ·append-left, Memᴰ·append-right, Memᴰ·cast, List·Memᴰ·eq-of-singleton}
@@ -10,12 +10,12 @@ use mathlib.Core.List.{List·Memᴰ·head as here, List·Memᴰ·tail as there}
 use lib.Dec.{T, leb, ltb, eqb, leb→le, le→leb, ltb→lt, nltb→le, eqb→eq}
 use lib.ListN.{length, getD, length-append, List·getD-append}
 use lib.Seq.{getD-append-seam}
-use Rattle.lists.specs.Lists.{_∈_, range, greatest, tabulate, all, filter, least, tuples}
+use Rattle.lists.specs.Lists.{_∈_, range, greatest, tabulate, all, filter, tuples}
 use Rattle.lists.specs.Tests.{and-T, T-left, T-right, split, cond-yes, eq→eqb, every-at, every-of}
 use Rattle.lists.specs.Members.{no-member, all-at, all-of, not-all, filter-mem, mem-filter, first-mem, nonempty, getD-mem, mem-flatMap, range-mem, mem-range, least-mem, least-le, greatest-ge, greatest-le, greatest-is}
 use Rattle.lists.specs.Tables.{length-tabulate, getD-tabulate, mem-tabulate}
 use Rattle.lists.specs.Tuples.{Tuple, tuples-mem, mem-tuples}
-use Rattle.study.specs.Problem.{Problem, centresAmong, centres, centreOf, choices, block, labels, allSufficient, assignments, assignable, candidates, radius, blocking, diameter, greatestDiameter, Feasible, feasible}
+use Rattle.study.specs.Problem.{Problem, centresAmong, centres, centreOf, choices, block, labels, allSufficient, assignments, assignable, candidates, radius, diameter, greatestDiameter, Feasible, feasible}
 use Rattle.study.specs.Theorems.{Symmetric, Lawful, Assignment}
 
 -- ---- centres

@@ -1,14 +1,10 @@
 -- The three records of Theorems.antt. Assumes nothing.
-use Prim.Native.Nat.{ℕ, _+_, _<_}
-use mathlib.Core.Path.{_≡_}
-use mathlib.Core.Logic.{_↔_}
-use mathlib.Core.Bool.{Bool, true}
-use mathlib.Core.List.{List}
+use mathlib.Core.Bool.{true}
 use lib.Dec.{T}
 use lib.ListN.{length}
-use Rattle.study.specs.Problem.{Problem, centres, labels, radius, blocking, Feasible}
-use Rattle.study.specs.Study.{Study, size, sufficient, problem, Valid}
-use Rattle.study.specs.Theorems.{Lawful, Singled, ForProblem, Ample, ForStudy, ForCalls}
+use Rattle.study.specs.Problem.{Problem, centres, labels, radius, blocking}
+use Rattle.study.specs.Study.{Study, problem, Valid}
+use Rattle.study.specs.Theorems.{Lawful, Singled, ForProblem, ForStudy, ForCalls}
 use Rattle.study.specs.ProblemLaws.{cover, apart, assignments-are, assignable-by, greatestDiameter-is, feasible-T}
 use Rattle.study.specs.Approximation.{two-approximation, one-block, feasible-radius, blocking-assigns, feasible-exactly, assignable-exactly}
 use Rattle.study.specs.Dictionary.{blocking-precedes, blocking-found}

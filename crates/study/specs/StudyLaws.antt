@@ -1,8 +1,8 @@
 -- Laws of Study.antt: a study that obeys the three-tide rule poses a lawful problem, in any order of its tides. Assumes nothing.
-use Prim.Native.Nat.{ℕ, zero, suc, _+_, _-_, _≤_, _<_}
-use native.Mathlib.Nat.{le-trans, le-of-eq, le-refl}
+use Prim.Native.Nat.{ℕ, suc, _-_, _≤_, _<_}
+use native.Mathlib.Nat.{le-trans, le-refl}
 use native.Mathlib.Omega.{arith}
-use mathlib.Core.Path.{_≡_, refl, sym, ap, ap₂, _∙_, subst}
+use mathlib.Core.Path.{_≡_, refl, sym, ap, _∙_, subst}
 use mathlib.Core.Logic.{_↔_}
 use mathlib.Core.Bool.{Bool, true, false, cond, _&&_, not}
 use mathlib.Core.List.{List, [], _∷_}
@@ -11,9 +11,8 @@ use lib.Arith.{le→nltb}
 use lib.ListN.{length, getD}
 use Rattle.lists.specs.Lists.{between, every, sum, count}
 use Rattle.lists.specs.Tests.{and-T, T-left, T-right, between-T, each-at, each-of, cond-no, every-at, every-of, eq→eqb}
-use Rattle.lists.specs.Counts.{count-le, count-same, count-into, count-all}
+use Rattle.lists.specs.Counts.{count-into, count-all}
 use Rattle.study.specs.declared.Minima.{Minima}
-use Rattle.study.specs.Problem.{Problem}
 use Rattle.study.specs.Study.{Study, size, tide, distance, meets, sufficient, problem, validMinima, ThreeTideRule, Renumbered}
 use Rattle.study.specs.Theorems.{Symmetric, Lawful, Reordered, Ample}
 

@@ -11,8 +11,8 @@ use Rattle.lists.specs.Lists.{_∈_, count, greatest, before}
 use Rattle.study.specs.declared.Minima.{Minima}
 use Rattle.study.specs.Problem.{Problem, centres, centreOf, choices, block, labels, assignments, assignable, candidates, radius, blocking, diameter, greatestDiameter, Feasible, feasible}
 use Rattle.study.specs.Study.{Study, Contents, size, tide, problem, Valid, Renumbered}
-use Rattle.study.specs.Refusals.{Verdict, accepted, firstOf}
-use Rattle.study.specs.Calls.{openReasons, opening, minimaReasons, settingMinima, enterReasons, entering, withdrawReasons, withdrawing, blockReasons}
+use Rattle.study.specs.Refusals.{accepted, firstOf}
+use Rattle.study.specs.Calls.{openReasons, opening, minimaReasons, settingMinima, enterReasons, entering, withdrawReasons, withdrawing}
 
 -- ---- what the theorems ask of a problem
 

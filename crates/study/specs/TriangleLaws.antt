@@ -1,14 +1,14 @@
 -- The three-tide rule by ordered triples: it is enough that each tide obeys it with every pair before it. Assumes nothing.
-use Prim.Native.Nat.{ℕ, zero, suc, _+_, _-_, _≤_, _<_}
+use Prim.Native.Nat.{ℕ, suc, _+_, _-_, _≤_, _<_}
 use native.Mathlib.Omega.{arith}
-use mathlib.Core.Path.{_≡_, refl, sym, ap, _∙_, subst}
+use mathlib.Core.Path.{_≡_, subst}
 use mathlib.Core.Logic.{_⊎_, inl, inr, ⊎-elim, _↔_}
-use mathlib.Core.Bool.{Bool, true, false, not}
-use mathlib.Core.List.{List, [], _∷_, map, flatMap}
+use mathlib.Core.Bool.{Bool, not}
+use mathlib.Core.List.{List, [], _∷_, map}
 use lib.Dec.{T, leb, leb→le, le→leb, T-not}
-use Rattle.lists.specs.Lists.{_∈_, range, filter, isEmpty}
+use Rattle.lists.specs.Lists.{range, filter, isEmpty}
 use Rattle.lists.specs.Tests.{test, split, each-at, each-of}
-use Rattle.lists.specs.Members.{no-member, filter-mem, mem-filter, map-mem, mem-map, flatMap-mem, mem-flatMap, nonempty, empty-of, range-mem, mem-range}
+use Rattle.lists.specs.Members.{filter-mem, mem-filter, map-mem, mem-map, flatMap-mem, mem-flatMap, nonempty, empty-of, range-mem, mem-range}
 use Rattle.study.specs.Calls.{triangle, Pair, breaking}
 
 pub record Triangle (a b c : ℕ) : Type 0 where
