@@ -1,9 +1,9 @@
 -- Finite lists, and sums, counts and tables over the numbers below a bound. Everything here computes. Assumes nothing.
-use Prim.Native.Nat.{ℕ, zero, suc, _+_, max, min}
+use Prim.Native.Nat.{ℕ, zero, suc, _+_, _*_, max, min}
 use mathlib.Core.Bool.{Bool, true, false, cond, _&&_}
 use mathlib.Core.List.{List, [], _∷_, _++_, map, flatMap, List·Memᴰ}
 use lib.Dec.{leb, eqb}
-use lib.ListN.{drop}
+use lib.ListN.{drop, getD}
 
 infix 40 _∈_
 abbrev pub _∈_ : {A : Type 0} → A → List A → Type 0
@@ -55,6 +55,10 @@ tabulate n f = map f (range 0 n)
 -- the first n places hold f 0, f 1, ..; those past them stay
 unfoldable pub overwrite : {A : Type 0} → ℕ → (ℕ → A) → List A → List A
 overwrite n f l = tabulate n f ++ drop n l
+
+-- place j of row i, in rows of 120
+abbrev pub at : List ℕ → ℕ → ℕ → ℕ
+at l i j = getD l (i * 120 + j) 0
 
 -- ---- lists
 

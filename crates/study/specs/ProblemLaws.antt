@@ -32,7 +32,7 @@ module _ (P : Problem) (g : ℕ) where
   far : ℕ → ℕ → Bool
   far t c = ltb g (P .dist c t)
 
-  among-below : (t : ℕ) {c : ℕ} → c ∈ centresAmong P g t → c < t
+  pub among-below : (t : ℕ) {c : ℕ} → c ∈ centresAmong P g t → c < t
   unfolding centresAmong far
   among-below zero m = no-member m
   among-below (suc t) m =

@@ -1,0 +1,3 @@
+pub mod Posed
+pub mod Gaps
+pub mod Radii
