@@ -88,6 +88,9 @@ unfolding count sum
 count-all zero = refl
 count-all (suc n) = omega (arith, count-all n)
 
+pub count-most : (n : ℕ) (p : ℕ → Bool) → count n p ≤ n
+count-most n p = omega (arith, count-all n, count-le n p (λ t. true) (λ t l h. tt))
+
 -- p without x
 abbrev without : (ℕ → Bool) → ℕ → ℕ → Bool
 without p x t = p t && not (eqb t x)

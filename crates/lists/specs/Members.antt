@@ -5,7 +5,7 @@ use native.Mathlib.Omega.{arith}
 use mathlib.Core.Path.{_≡_, refl, sym, ap, _∙_, subst}
 use mathlib.Core.Logic.{_⊎_, inl, inr, ⊎-elim}
 use mathlib.Core.Bool.{Bool, true, false, cond, _&&_, not}
-use mathlib.Core.List.{List, [], _∷_, map, flatMap, headD, List·Memᴰ·append-cases, Memᴰ·append-left, Memᴰ·append-right, Memᴰ·cast}
+use mathlib.Core.List.{List, [], _∷_, _++_, map, flatMap, headD, List·Memᴰ·append-cases, Memᴰ·append-left, Memᴰ·append-right, Memᴰ·cast}
 use mathlib.Core.List.{List·Memᴰ·head as here, List·Memᴰ·tail as there}
 use lib.Dec.{T}
 use lib.ListN.{length, getD}
@@ -24,6 +24,10 @@ module _ {A : Type 0} where
   pub all-of : (p : A → Bool) (xs : List A) → ((x : A) → x ∈ xs → T (p x)) → T (all p xs)
   all-of p [] f = tt
   all-of p (x ∷ xs) f = and-T (p x) (all p xs) (f x (here refl)) (all-of p xs (λ y m. f y (there m)))
+
+  pub all-append : (p : A → Bool) (xs ys : List A) → T (all p xs) → T (all p ys) → T (all p (xs ++ ys))
+  all-append p [] ys a b = b
+  all-append p (x ∷ xs) ys a b = and-T (p x) (all p (xs ++ ys)) (T-left (p x) (all p xs) a) (all-append p xs ys (T-right (p x) (all p xs) a) b)
 
   -- a test that fails over a list fails at one of its elements
   pub not-all : (p : A → Bool) (xs : List A) → T (not (all p xs)) → (x : A) × (x ∈ xs) × T (not (p x))

@@ -41,17 +41,17 @@ mem-last true cs t s = Memᴰ·append-right cs (here refl)
 mem-last false cs t s = absurd s
 
 module _ (P : Problem) (g : ℕ) where
-  among-more : (t k : ℕ) {c : ℕ} → c ∈ centresAmong P g t → c ∈ centresAmong P g (t + k)
+  among-more : (t k : ℕ) {c : ℕ} → c ∈ centresAmong (P .dist) g t → c ∈ centresAmong (P .dist) g (t + k)
   unfolding centresAmong
-  among-more t zero {c} m = let e : t ≡ t + 0 = omega arith in subst (λ z. c ∈ centresAmong P g z) e m
+  among-more t zero {c} m = let e : t ≡ t + 0 = omega arith in subst (λ z. c ∈ centresAmong (P .dist) g z) e m
   among-more t (suc k) {c} m =
       let e : suc (t + k) ≡ t + suc k = omega arith in
-      subst (λ z. c ∈ centresAmong P g z) e
-      (mem-more (all (λ c. ltb g (P .dist c (t + k))) (centresAmong P g (t + k))) (centresAmong P g (t + k)) (t + k) (among-more t k m))
+      subst (λ z. c ∈ centresAmong (P .dist) g z) e
+      (mem-more (all (λ c. ltb g (P .dist c (t + k))) (centresAmong (P .dist) g (t + k))) (centresAmong (P .dist) g (t + k)) (t + k) (among-more t k m))
 
-  among-centres : (t : ℕ) → t ≤ P .size → {c : ℕ} → c ∈ centresAmong P g t → c ∈ centres P g
+  among-centres : (t : ℕ) → t ≤ P .size → {c : ℕ} → c ∈ centresAmong (P .dist) g t → c ∈ centres P g
   unfolding centres
-  among-centres t l {c} m = let e : t + (P .size - t) ≡ P .size = omega arith in subst (λ z. c ∈ centresAmong P g z) e (among-more t (P .size - t) m)
+  among-centres t l {c} m = let e : t + (P .size - t) ≡ P .size = omega arith in subst (λ z. c ∈ centresAmong (P .dist) g z) e (among-more t (P .size - t) m)
 
   -- two centres, by their numbers as tides, are farther than g apart
   pub apart-mem : ((i j : ℕ) → P .dist i j ≡ P .dist j i) → (c t : ℕ) → c ∈ centres P g → t ∈ centres P g → c < t → g < P .dist c t
@@ -79,19 +79,19 @@ module _ (P : Problem) (g h : ℕ) (up : g ≤ h) where
   far : ℕ → ℕ → ℕ → Bool
   far r t c = ltb r (P .dist c t)
 
-  same-among : Wide → (t : ℕ) → t ≤ P .size → centresAmong P h t ≡ centresAmong P g t
+  same-among : Wide → (t : ℕ) → t ≤ P .size → centresAmong (P .dist) h t ≡ centresAmong (P .dist) g t
   unfolding centresAmong far
   same-among w zero l = refl
   same-among w (suc t) l =
       ap (λ (cs : List ℕ). cond (all (far h t) cs) (cs ++ (t ∷ [])) cs) (same-among w t (omega arith))
-      ∙ ap (λ (b : Bool). cond b (centresAmong P g t ++ (t ∷ [])) (centresAmong P g t))
-      (same-test (all (far g t) (centresAmong P g t)) (all (far h t) (centresAmong P g t))
-      (λ s. all-of (far h t) (centresAmong P g t) (λ c m.
+      ∙ ap (λ (b : Bool). cond b (centresAmong (P .dist) g t ++ (t ∷ [])) (centresAmong (P .dist) g t))
+      (same-test (all (far g t) (centresAmong (P .dist) g t)) (all (far h t) (centresAmong (P .dist) g t))
+      (λ s. all-of (far h t) (centresAmong (P .dist) g t) (λ c m.
       lt→ltb h (P .dist c t) (w c t (among-centres P g t (omega arith) m)
-      (among-centres P g (suc t) l (mem-last (all (far g t) (centresAmong P g t)) (centresAmong P g t) t s))
+      (among-centres P g (suc t) l (mem-last (all (far g t) (centresAmong (P .dist) g t)) (centresAmong (P .dist) g t) t s))
       (among-below P g t m))))
-      (λ s. all-of (far g t) (centresAmong P g t) (λ c m.
-      let k = ltb→lt h (P .dist c t) (all-at (far h t) (centresAmong P g t) s m) in
+      (λ s. all-of (far g t) (centresAmong (P .dist) g t) (λ c m.
+      let k = ltb→lt h (P .dist c t) (all-at (far h t) (centresAmong (P .dist) g t) s m) in
       lt→ltb g (P .dist c t) (omega arith))))
 
   pub same-centres : Wide → centres P h ≡ centres P g

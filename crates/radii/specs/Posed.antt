@@ -1,18 +1,43 @@
 -- The problem that a dataset's lists of numbers pose. Assumes nothing.
-use Prim.Native.Nat.{ℕ, _≤_, _<_}
+use Prim.Native.Nat.{ℕ, _*_, _≤_, _<_}
 use mathlib.Core.Path.{_≡_}
 use mathlib.Core.Logic.{_↔_}
-use mathlib.Core.Bool.{Bool, true}
+use mathlib.Core.Bool.{Bool, true, cond, _&&_}
 use mathlib.Core.List.{List}
-use lib.Dec.{T, leb}
-use lib.ListN.{getD}
-use Rattle.lists.specs.Lists.{at}
+use lib.Dec.{T, leb, ltb, lt→ltb}
+use lib.ListN.{length, getD}
+use Rattle.lists.specs.Lists.{at, sum}
+use Rattle.lists.specs.Tests.{and-T, cond-yes}
 use Rattle.study.specs.declared.Minima.{Minima}
 use Rattle.study.specs.Problem.{Problem}
+use Rattle.study.specs.Study.{meets}
 use Rattle.study.specs.Theorems.{Lawful}
 use Rattle.study.specs.StudyLaws.{Meets}
 
--- P has n tides, with the distances d in rows of 120, the settings s and the minima M; all tides together are sufficient
+-- the distance of two of the first n tides, from distances in rows of 120; 0 beyond them
+unfoldable pub within : List ℕ → ℕ → ℕ → ℕ → ℕ
+within d n i j = cond (ltb i n && ltb j n) (at d i j) 0
+
+pub within-is : (d : List ℕ) (n i j : ℕ) → i < n → j < n → within d n i j ≡ at d i j
+unfolding within
+within-is d n i j a b = cond-yes (ltb i n && ltb j n) (at d i j) 0 (and-T (ltb i n) (ltb j n) (lt→ltb i n a) (lt→ltb j n b))
+
+-- n tides with the distances d, the settings s and the minima M
+unfoldable pub posed : List ℕ → List ℕ → ℕ → Minima → Problem
+posed d s n M = record { size = n; dist = within d n; enough = meets M n (λ t. getD s t 0) }
+
+-- what a search may assume of these lists: they are long enough, and the numbers are those of a valid study
+pub record Sized (d s : List ℕ) (n : ℕ) (M : Minima) : Type 0 where
+  pub few : n ≤ 120
+  pub distances-long : n * 120 ≤ length d
+  pub settings-long : n ≤ length s
+  pub setting-low : (t : ℕ) → t < n → 1 ≤ getD s t 0
+  pub setting-high : (t : ℕ) → t < n → getD s t 0 ≤ 8
+  pub b0-low : 1 ≤ M .b0
+  pub b0-high : M .b0 ≤ 120
+  pub fit : sum 8 (λ j. getD (M .b) j 0) ≤ M .b0
+
+-- P is such a problem; all its tides together are sufficient
 pub record Posed (d s : List ℕ) (n : ℕ) (M : Minima) (P : Problem) : Type 0 where
   pub size : P .size ≡ n
   pub dist : (i j : ℕ) → i < n → j < n → P .dist i j ≡ at d i j

@@ -15,15 +15,15 @@ pub record Problem : Type 0 where
   pub enough : (ℕ → Bool) → Bool
 
 -- the centres at g among the first t tides: in tide order, each that is farther than g from every earlier centre
-unfoldable pub centresAmong : Problem → ℕ → ℕ → List ℕ
-centresAmong P g zero = []
-centresAmong P g (suc t) =
-    let cs = centresAmong P g t in
-    cond (all (λ c. ltb g (P .dist c t)) cs) (cs ++ (t ∷ [])) cs
+unfoldable pub centresAmong : (ℕ → ℕ → ℕ) → ℕ → ℕ → List ℕ
+centresAmong dist g zero = []
+centresAmong dist g (suc t) =
+    let cs = centresAmong dist g t in
+    cond (all (λ c. ltb g (dist c t)) cs) (cs ++ (t ∷ [])) cs
 
 -- document 01: centres at g
 unfoldable pub centres : Problem → ℕ → List ℕ
-centres P g = centresAmong P g (P .size)
+centres P g = centresAmong (P .dist) g (P .size)
 
 -- block m belongs to the m-th centre
 unfoldable pub centreOf : List ℕ → ℕ → ℕ

@@ -32,31 +32,31 @@ module _ (P : Problem) (g : ℕ) where
   far : ℕ → ℕ → Bool
   far t c = ltb g (P .dist c t)
 
-  pub among-below : (t : ℕ) {c : ℕ} → c ∈ centresAmong P g t → c < t
+  pub among-below : (t : ℕ) {c : ℕ} → c ∈ centresAmong (P .dist) g t → c < t
   unfolding centresAmong far
   among-below zero m = no-member m
   among-below (suc t) m =
-      ⊎-elim (λ h. let l = among-below t h in omega arith) (λ e. omega arith) (grow-mem (all (far t) (centresAmong P g t)) (centresAmong P g t) t m)
+      ⊎-elim (λ h. let l = among-below t h in omega arith) (λ e. omega arith) (grow-mem (all (far t) (centresAmong (P .dist) g t)) (centresAmong (P .dist) g t) t m)
 
   pub centre-below : {c : ℕ} → c ∈ centres P g → c < P .size
   unfolding centres
   centre-below m = among-below (P .size) m
 
   -- each tide has a centre at most g away
-  among-cover : Lawful P → (t u : ℕ) → u < t → (c : ℕ) × (c ∈ centresAmong P g t) × (P .dist c u ≤ g)
+  among-cover : Lawful P → (t u : ℕ) → u < t → (c : ℕ) × (c ∈ centresAmong (P .dist) g t) × (P .dist c u ≤ g)
   unfolding centresAmong far
   among-cover L zero u l = absurd (not-suc-le-zero l)
   among-cover L (suc t) u l =
       ⊎-elim
-      (λ s. let r = among-cover L t u s in (r .0, mem-grow (all (far t) (centresAmong P g t)) (centresAmong P g t) t (r .1), r .2))
-      (λ s. let e : u ≡ t = omega arith in last e (all (far t) (centresAmong P g t)) (λ n. n))
+      (λ s. let r = among-cover L t u s in (r .0, mem-grow (all (far t) (centresAmong (P .dist) g t)) (centresAmong (P .dist) g t) t (r .1), r .2))
+      (λ s. let e : u ≡ t = omega arith in last e (all (far t) (centresAmong (P .dist) g t)) (λ n. n))
       (split u t)
     where
-      last : u ≡ t → (b : Bool) → (T (not b) → T (not (all (far t) (centresAmong P g t))))
-          → (c : ℕ) × (c ∈ cond b (centresAmong P g t ++ (t ∷ [])) (centresAmong P g t)) × (P .dist c u ≤ g)
-      last e true f = (t, Memᴰ·append-right (centresAmong P g t) (here refl), subst (λ v. P .dist t v ≤ g) (sym e) (rw (L .symmetric .itself t) (omega arith)))
+      last : u ≡ t → (b : Bool) → (T (not b) → T (not (all (far t) (centresAmong (P .dist) g t))))
+          → (c : ℕ) × (c ∈ cond b (centresAmong (P .dist) g t ++ (t ∷ [])) (centresAmong (P .dist) g t)) × (P .dist c u ≤ g)
+      last e true f = (t, Memᴰ·append-right (centresAmong (P .dist) g t) (here refl), subst (λ v. P .dist t v ≤ g) (sym e) (rw (L .symmetric .itself t) (omega arith)))
       last e false f =
-          let r = not-all (far t) (centresAmong P g t) (f tt) in
+          let r = not-all (far t) (centresAmong (P .dist) g t) (f tt) in
           (r .0, r .1, subst (λ v. P .dist (r .0) v ≤ g) (sym e) (nltb→le g (P .dist (r .0) t) (r .2)))
 
   pub cover : Lawful P → (t : ℕ) → t < P .size → (c : ℕ) × (c ∈ centres P g) × (P .dist c t ≤ g)
@@ -77,13 +77,13 @@ module _ (P : Problem) (g : ℕ) where
       rw (e, List·getD-append cs (t ∷ []) 0 i l, getD-append-seam cs t [] 0) (ltb→lt g (P .dist (getD cs i 0) t) (all-at (far t) cs s (getD-mem 0 cs i l))))
       (split j (length cs))
 
-  among-apart : (t : ℕ) → Apart (centresAmong P g t)
+  among-apart : (t : ℕ) → Apart (centresAmong (P .dist) g t)
   unfolding centresAmong far Apart
   among-apart zero = λ i j h l. absurd (not-suc-le-zero l)
-  among-apart (suc t) = step (among-apart t) (all (far t) (centresAmong P g t)) (λ s. s)
+  among-apart (suc t) = step (among-apart t) (all (far t) (centresAmong (P .dist) g t)) (λ s. s)
     where
       cs : List ℕ
-      cs = centresAmong P g t
+      cs = centresAmong (P .dist) g t
 
       step : Apart cs → (b : Bool) → (T b → T (all (far t) cs)) → Apart (cond b (cs ++ (t ∷ [])) cs)
       step ih true f = snoc-apart cs t ih (f tt)

@@ -1,0 +1,75 @@
+-- A scan of the centres. Assumes nothing.
+use borrow.Author.Needs.{needs}
+use native.Mathlib.Omega.{arith}
+use Rattle.radius.specs.Front.{all-more, all-fails}
+use Rattle.radii.specs.Posed.{within, within-is}
+use Rattle.lists.specs.Tests.{T-true}
+use Rattle.lists.specs.Lists.{all}
+use lib.ListN.{take, getD}
+use lib.Arith.{le→nltb}
+use lib.Dec.{T, ltb, lt→ltb}
+use mathlib.Core.Path.{_≡_, sym, subst}
+use Prim.Native.Nat.{_≤_, _<_, _-_, _+_, _*_}
+use Rattle.radius.proofs.centres.far_from.Statement.{statement}
+use Rattle.radius.proofs.centres.far_from.Tie as tie
+
+abbrev Inv-loop : tie.InvT-loop
+Inv-loop distances n centres count g t m₀ m = (m ≤ count) × T (all (λ c. ltb g (within distances n c t)) (take m centres))
+
+abbrev μ-loop : tie.MeasureT-loop
+μ-loop distances n centres count g t m₀ m = count - m
+
+loop-holds : tie.Need-loop-holds Inv-loop μ-loop
+loop-holds c = (omega arith, tt)
+
+mul-if1 : tie.Need-mul-if1 Inv-loop μ-loop
+mul-if1 c = omega arith
+
+element-copy-out-if1 : tie.Need-element-copy-out-if1 Inv-loop μ-loop
+element-copy-out-if1 c = omega arith
+
+mul-if1-2 : tie.Need-mul-if1-2 Inv-loop μ-loop
+mul-if1-2 c = let h = c .before .before .before .pre .1 (c .before .before .loop .m) (c .before .loop-test .taken) in omega arith
+
+add-if1 : tie.Need-add-if1 Inv-loop μ-loop
+add-if1 c = let h = c .before .before .before .pre .1 (c .before .before .loop .m) (c .before .loop-test .taken) in omega arith
+
+mul-if1-3 : tie.Need-mul-if1-3 Inv-loop μ-loop
+mul-if1-3 c = let h = c .before .before .before .pre .1 (c .before .before .loop .m) (c .before .loop-test .taken) in omega arith
+
+shared-slice-read-if1 : tie.Need-shared-slice-read-if1 Inv-loop μ-loop
+shared-slice-read-if1 c = let h = c .before .before .before .before .pre .1 (c .before .before .before .loop .m) (c .before .before .loop-test .taken) in omega arith
+
+returns : tie.Need-returns Inv-loop μ-loop
+returns c = let h = c .before .before .before .before .before .pre .1 (c .before .before .before .before .loop .m) (c .before .before .before .loop-test .taken) in let w = within-is (c .before .before .before .before .before .args .distances .now) (c .before .before .before .before .before .args .n) (getD (c .before .before .before .before .before .args .centres .now) (c .before .before .before .before .loop .m) 0) (c .before .before .before .before .before .args .t) h (c .before .before .before .before .before .pre .0 .4) in sym (all-fails (λ x. ltb (c .before .before .before .before .before .args .g) (within (c .before .before .before .before .before .args .distances .now) (c .before .before .before .before .before .args .n) x (c .before .before .before .before .before .args .t))) (c .before .before .before .before .before .args .centres .now) (c .before .before .before .before .loop .m) (c .before .before .before .before .before .args .count) (c .before .before .before .loop-test .taken) (omega arith) (le→nltb (c .before .before .before .before .before .args .g) (within (c .before .before .before .before .before .args .distances .now) (c .before .before .before .before .before .args .n) (getD (c .before .before .before .before .before .args .centres .now) (c .before .before .before .before .loop .m) 0) (c .before .before .before .before .before .args .t)) (omega arith)))
+
+add-m : tie.Need-add-m Inv-loop μ-loop
+add-m c = omega arith
+
+loop-less : tie.Need-loop-less Inv-loop μ-loop
+loop-less c = omega arith
+
+loop-again : tie.Need-loop-again Inv-loop μ-loop
+loop-again c = let h = c .before .before .before .before .before .pre .1 (c .before .before .before .before .loop .m) (c .before .before .before .loop-test .taken) in let w = within-is (c .before .before .before .before .before .args .distances .now) (c .before .before .before .before .before .args .n) (getD (c .before .before .before .before .before .args .centres .now) (c .before .before .before .before .loop .m) 0) (c .before .before .before .before .before .args .t) h (c .before .before .before .before .before .pre .0 .4) in (omega arith, all-more (λ x. ltb (c .before .before .before .before .before .args .g) (within (c .before .before .before .before .before .args .distances .now) (c .before .before .before .before .before .args .n) x (c .before .before .before .before .before .args .t))) (c .before .before .before .before .before .args .centres .now) (c .before .before .before .before .loop .m) (omega arith) (c .before .before .before .before .loop .inv .1) (lt→ltb (c .before .before .before .before .before .args .g) (within (c .before .before .before .before .before .args .distances .now) (c .before .before .before .before .before .args .n) (getD (c .before .before .before .before .before .args .centres .now) (c .before .before .before .before .loop .m) 0) (c .before .before .before .before .before .args .t)) (omega arith)))
+
+returns-2 : tie.Need-returns-2 Inv-loop μ-loop
+returns-2 c = let e : c .before .loop .m ≡ c .before .before .args .count = omega arith in sym (T-true _ (subst (λ z. T (all (λ x. ltb (c .before .before .args .g) (within (c .before .before .args .distances .now) (c .before .before .args .n) x (c .before .before .args .t))) (take z (c .before .before .args .centres .now)))) e (c .before .loop .inv .1)))
+
+pub far-from-spec : {M : Type 1} → statement M
+far-from-spec =
+    tie.close
+    (tie.spec
+    Inv-loop
+    μ-loop
+    loop-holds
+    mul-if1
+    element-copy-out-if1
+    mul-if1-2
+    add-if1
+    mul-if1-3
+    shared-slice-read-if1
+    returns
+    add-m
+    loop-less
+    loop-again
+    returns-2)

@@ -1,0 +1,71 @@
+-- The centres among the first tides, one tide after the other. Assumes nothing.
+use borrow.Author.Needs.{needs}
+use native.Mathlib.Omega.{arith}
+use Rattle.radius.specs.Front.{Front, centres-few, centres-below, centres-start, centres-hit, centres-miss}
+use Rattle.radii.specs.Posed.{within}
+use Rattle.study.specs.Problem.{centresAmong}
+use mathlib.Core.Path.{_≡_, sym, _∙_, subst}
+use Prim.Native.Nat.{_≤_, _-_}
+use Rattle.radius.proofs.centres.find_centres.Statement.{statement}
+use Rattle.radius.proofs.centres.find_centres.Tie as tie
+
+abbrev Inv-loop : tie.InvT-loop
+Inv-loop distances n g centres₀ count₀ t₀ centres count t = (t ≤ n) × Front centres count (centresAmong (within distances n) g t)
+
+abbrev μ-loop : tie.MeasureT-loop
+μ-loop distances n g centres₀ count₀ t₀ centres count t = n - t
+
+loop-holds : tie.Need-loop-holds Inv-loop μ-loop
+loop-holds c = (omega arith, centres-start (within (c .before .args .distances .now) (c .before .args .n)) (c .before .args .g) _ (c .before .pre .2))
+
+far-from-requires : tie.Need-far-from-requires Inv-loop μ-loop
+far-from-requires c κs = let F = c .before .before .loop .inv .1 in let q = centres-few (within (c .before .before .before .before .args .distances .now) (c .before .before .before .before .args .n)) (c .before .before .before .before .args .g) (c .before .before .loop .t) in ((c .before .before .before .before .pre .0, c .before .before .before .before .pre .1, F .size, omega (arith, F .long), c .before .loop-test .taken), λ m l. let h = centres-below (within (c .before .before .before .before .args .distances .now) (c .before .before .before .before .args .n)) (c .before .before .before .before .args .g) (c .before .before .loop .t) F m l in omega arith)
+
+mul-centres : tie.Need-mul-centres Inv-loop μ-loop
+mul-centres c = let F = c .before .before .before .before .loop .inv .1 in let q = centres-few (within (c .before .before .before .before .before .before .args .distances .now) (c .before .before .before .before .before .before .args .n)) (c .before .before .before .before .before .before .args .g) (c .before .before .before .before .loop .t) in omega (arith, F .long)
+
+element-write-centres : tie.Need-element-write-centres Inv-loop μ-loop
+element-write-centres c = let F = c .before .before .before .before .loop .inv .1 in let q = centres-few (within (c .before .before .before .before .before .before .args .distances .now) (c .before .before .before .before .before .before .args .n)) (c .before .before .before .before .before .before .args .g) (c .before .before .before .before .loop .t) in omega (arith, F .long)
+
+add-count : tie.Need-add-count Inv-loop μ-loop
+add-count c = let F = c .before .before .before .before .loop .inv .1 in let q = centres-few (within (c .before .before .before .before .before .before .args .distances .now) (c .before .before .before .before .before .before .args .n)) (c .before .before .before .before .before .before .args .g) (c .before .before .before .before .loop .t) in omega (arith, F .long)
+
+add-t : tie.Need-add-t Inv-loop μ-loop
+add-t c = omega arith
+
+loop-less : tie.Need-loop-less Inv-loop μ-loop
+loop-less c = omega arith
+
+loop-again : tie.Need-loop-again Inv-loop μ-loop
+loop-again c = (omega arith, centres-hit (within (c .before .before .before .before .before .before .args .distances .now) (c .before .before .before .before .before .before .args .n)) (c .before .before .before .before .before .before .args .g) (c .before .before .before .before .loop .t) (c .before .before .before .before .loop .inv .1) (sym (c .if1 .taken) ∙ c .before .far-from .ensures) (omega arith))
+
+add-t-2 : tie.Need-add-t-2 Inv-loop μ-loop
+add-t-2 c = omega arith
+
+loop-less-2 : tie.Need-loop-less-2 Inv-loop μ-loop
+loop-less-2 c = omega arith
+
+loop-again-2 : tie.Need-loop-again-2 Inv-loop μ-loop
+loop-again-2 c = (omega arith, centres-miss (within (c .before .before .before .before .before .before .args .distances .now) (c .before .before .before .before .before .before .args .n)) (c .before .before .before .before .before .before .args .g) (c .before .before .before .before .loop .t) (c .before .before .before .before .loop .inv .1) (sym (c .if1 .left) ∙ c .before .far-from .ensures))
+
+returns : tie.Need-returns Inv-loop μ-loop
+returns c = let e : c .before .loop .t ≡ c .before .before .before .args .n = omega arith in subst (λ z. Front (c .before .loop .centres) (c .before .loop .count) (centresAmong (within (c .before .before .before .args .distances .now) (c .before .before .before .args .n)) (c .before .before .before .args .g) z)) e (c .before .loop .inv .1)
+
+pub find-centres-spec : {M : Type 1} → statement M
+find-centres-spec =
+    tie.close
+    (tie.spec
+    Inv-loop
+    μ-loop
+    loop-holds
+    far-from-requires
+    mul-centres
+    element-write-centres
+    add-count
+    add-t
+    loop-less
+    loop-again
+    add-t-2
+    loop-less-2
+    loop-again-2
+    returns)

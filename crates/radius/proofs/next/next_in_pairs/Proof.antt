@@ -1,0 +1,37 @@
+-- The next radius of pairs of a table. Assumes nothing.
+use borrow.Author.Needs.{needs}
+use native.Mathlib.Omega.{arith}
+use Rattle.radius.specs.Next.{Next, InPairs, next-none, pairs-step}
+use mathlib.Core.Path.{_≡_, subst}
+use Prim.Native.Nat.{_≤_, _-_}
+use Rattle.radius.proofs.next.next_in_pairs.Statement.{statement}
+use Rattle.radius.proofs.next.next_in_pairs.Tie as tie
+
+abbrev Inv-loop : tie.InvT-loop
+Inv-loop distances n tides count g best₀ i₀ best i = (i ≤ count) × Next (InPairs distances tides count i) g 1048576 best
+
+abbrev μ-loop : tie.MeasureT-loop
+μ-loop distances n tides count g best₀ i₀ best i = count - i
+
+loop-holds : tie.Need-loop-holds Inv-loop μ-loop
+loop-holds c = (omega arith, next-none _ _ _ (λ x v. omega (arith, v .1)))
+
+next-later-requires : tie.Need-next-later-requires Inv-loop μ-loop
+next-later-requires c κs = ((c .before .before .before .pre .0 .0, c .before .before .before .pre .0 .1, c .before .before .before .pre .0 .2, c .loop-test .taken), c .before .before .before .pre .1)
+
+add-i : tie.Need-add-i Inv-loop μ-loop
+add-i c = omega arith
+
+loop-less : tie.Need-loop-less Inv-loop μ-loop
+loop-less c = omega arith
+
+loop-again : tie.Need-loop-again Inv-loop μ-loop
+loop-again c = (omega arith, pairs-step (c .before .before .before .before .args .distances .now) (c .before .before .before .before .args .g) 1048576 (c .before .before .loop .best) (c .next-later .result) (c .before .before .before .before .args .tides .now) (c .before .before .before .before .args .count) (c .before .before .loop .i) (c .before .before .loop .inv .1) (c .next-later .ensures))
+
+returns : tie.Need-returns Inv-loop μ-loop
+returns c = let e : c .before .loop .i ≡ c .before .before .before .args .count = omega arith in subst (λ z. Next (InPairs (c .before .before .before .args .distances .now) (c .before .before .before .args .tides .now) (c .before .before .before .args .count) z) (c .before .before .before .args .g) 1048576 (c .before .loop .best)) e (c .before .loop .inv .1)
+
+pub next-in-pairs-spec : {M : Type 1} → statement M
+next-in-pairs-spec =
+    tie.close
+    (tie.spec Inv-loop μ-loop loop-holds next-later-requires add-i loop-less loop-again returns)

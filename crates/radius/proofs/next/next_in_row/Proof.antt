@@ -1,0 +1,61 @@
+-- The next radius of one tide's row. Assumes nothing.
+use borrow.Author.Needs.{needs}
+use native.Mathlib.Omega.{arith}
+use Rattle.radius.specs.Next.{Next, InRow, next-none, row-step}
+use mathlib.Core.Path.{_≡_, subst}
+use Prim.Native.Nat.{_≤_, _-_}
+use Rattle.radius.proofs.next.next_in_row.Statement.{statement}
+use Rattle.radius.proofs.next.next_in_row.Tie as tie
+
+abbrev Inv-loop : tie.InvT-loop
+Inv-loop distances n c g start best₀ t₀ best t = (t ≤ n) × Next (InRow distances c t) g start best
+
+abbrev μ-loop : tie.MeasureT-loop
+μ-loop distances n c g start best₀ t₀ best t = n - t
+
+loop-holds : tie.Need-loop-holds Inv-loop μ-loop
+loop-holds c = (omega arith, next-none _ _ _ (λ x v. omega (arith, v .1)))
+
+mul-closer : tie.Need-mul-closer Inv-loop μ-loop
+mul-closer c = omega arith
+
+add-closer : tie.Need-add-closer Inv-loop μ-loop
+add-closer c = omega arith
+
+mul-closer-2 : tie.Need-mul-closer-2 Inv-loop μ-loop
+mul-closer-2 c = omega arith
+
+shared-slice-read-closer : tie.Need-shared-slice-read-closer Inv-loop μ-loop
+shared-slice-read-closer c = omega arith
+
+closer-requires : tie.Need-closer-requires Inv-loop μ-loop
+closer-requires c κs = search needs
+
+add-t : tie.Need-add-t Inv-loop μ-loop
+add-t c = omega arith
+
+loop-less : tie.Need-loop-less Inv-loop μ-loop
+loop-less c = omega arith
+
+loop-again : tie.Need-loop-again Inv-loop μ-loop
+loop-again c = (omega arith, row-step (c .before .before .before .before .before .args .distances .now) (c .before .before .before .before .before .args .g) (c .before .before .before .before .before .args .start) (c .before .before .before .loop .best) (c .closer .result) (c .before .before .before .before .before .args .c) (c .before .before .before .loop .t) (c .before .before .before .loop .inv .1) (c .closer .ensures))
+
+returns : tie.Need-returns Inv-loop μ-loop
+returns c = let e : c .before .loop .t ≡ c .before .before .before .args .n = omega arith in subst (λ z. Next (InRow (c .before .before .before .args .distances .now) (c .before .before .before .args .c) z) (c .before .before .before .args .g) (c .before .before .before .args .start) (c .before .loop .best)) e (c .before .loop .inv .1)
+
+pub next-in-row-spec : {M : Type 1} → statement M
+next-in-row-spec =
+    tie.close
+    (tie.spec
+    Inv-loop
+    μ-loop
+    loop-holds
+    mul-closer
+    add-closer
+    mul-closer-2
+    shared-slice-read-closer
+    closer-requires
+    add-t
+    loop-less
+    loop-again
+    returns)

@@ -1,0 +1,81 @@
+-- The next radius of one tide of a table to the later ones. Assumes nothing.
+use borrow.Author.Needs.{needs}
+use native.Mathlib.Omega.{arith}
+use Rattle.radius.specs.Next.{Next, InLater, next-none, later-step}
+use mathlib.Core.Path.{_≡_, subst}
+use Prim.Native.Nat.{_≤_, _<_, _-_}
+use Rattle.radius.proofs.next.next_later.Statement.{statement}
+use Rattle.radius.proofs.next.next_later.Tie as tie
+
+abbrev Inv-loop : tie.InvT-loop
+Inv-loop distances n tides count i g start c best₀ m₀ best m = (i < m) × (m ≤ count) × Next (InLater distances tides i m) g start best
+
+abbrev μ-loop : tie.MeasureT-loop
+μ-loop distances n tides count i g start c best₀ m₀ best m = count - m
+
+mul-c : tie.Need-mul-c Inv-loop μ-loop
+mul-c c = omega arith
+
+element-copy-out-c : tie.Need-element-copy-out-c Inv-loop μ-loop
+element-copy-out-c c = omega arith
+
+add-m : tie.Need-add-m Inv-loop μ-loop
+add-m c = omega arith
+
+loop-holds : tie.Need-loop-holds Inv-loop μ-loop
+loop-holds c = (omega arith, omega arith, next-none _ _ _ (λ x v. omega (arith, v .1, v .2)))
+
+mul-closer : tie.Need-mul-closer Inv-loop μ-loop
+mul-closer c = let k = c .before .before .before .before .pre .1 (c .before .before .before .before .args .i) (omega arith) in omega arith
+
+mul-closer-2 : tie.Need-mul-closer-2 Inv-loop μ-loop
+mul-closer-2 c = omega arith
+
+element-copy-out-closer : tie.Need-element-copy-out-closer Inv-loop μ-loop
+element-copy-out-closer c = omega arith
+
+add-closer : tie.Need-add-closer Inv-loop μ-loop
+add-closer c = let h = c .before .before .before .before .before .pre .1 (c .before .before .loop .m) (c .before .loop-test .taken) in let k = c .before .before .before .before .before .pre .1 (c .before .before .before .before .before .args .i) (omega arith) in omega arith
+
+mul-closer-3 : tie.Need-mul-closer-3 Inv-loop μ-loop
+mul-closer-3 c = let h = c .before .before .before .before .before .pre .1 (c .before .before .loop .m) (c .before .loop-test .taken) in let k = c .before .before .before .before .before .pre .1 (c .before .before .before .before .before .args .i) (omega arith) in omega arith
+
+shared-slice-read-closer : tie.Need-shared-slice-read-closer Inv-loop μ-loop
+shared-slice-read-closer c = let h = c .before .before .before .before .before .before .pre .1 (c .before .before .before .loop .m) (c .before .before .loop-test .taken) in let k = c .before .before .before .before .before .before .pre .1 (c .before .before .before .before .before .before .args .i) (omega arith) in omega arith
+
+closer-requires : tie.Need-closer-requires Inv-loop μ-loop
+closer-requires c κs = search needs
+
+add-m-2 : tie.Need-add-m-2 Inv-loop μ-loop
+add-m-2 c = omega arith
+
+loop-less : tie.Need-loop-less Inv-loop μ-loop
+loop-less c = omega arith
+
+loop-again : tie.Need-loop-again Inv-loop μ-loop
+loop-again c = (omega arith, omega arith, later-step (c .before .before .before .before .before .before .before .args .distances .now) (c .before .before .before .before .before .before .before .args .g) (c .before .before .before .before .before .before .before .args .start) (c .before .before .before .before .loop .best) (c .closer .result) (c .before .before .before .before .before .before .before .args .tides .now) (c .before .before .before .before .before .before .before .args .i) (c .before .before .before .before .loop .m) (c .before .before .before .before .loop .inv .0) (c .before .before .before .before .loop .inv .2) (c .closer .ensures))
+
+returns : tie.Need-returns Inv-loop μ-loop
+returns c = let e : c .before .loop .m ≡ c .before .before .before .before .args .count = omega arith in subst (λ z. Next (InLater (c .before .before .before .before .args .distances .now) (c .before .before .before .before .args .tides .now) (c .before .before .before .before .args .i) z) (c .before .before .before .before .args .g) (c .before .before .before .before .args .start) (c .before .loop .best)) e (c .before .loop .inv .2)
+
+pub next-later-spec : {M : Type 1} → statement M
+next-later-spec =
+    tie.close
+    (tie.spec
+    Inv-loop
+    μ-loop
+    mul-c
+    element-copy-out-c
+    add-m
+    loop-holds
+    mul-closer
+    mul-closer-2
+    element-copy-out-closer
+    add-closer
+    mul-closer-3
+    shared-slice-read-closer
+    closer-requires
+    add-m-2
+    loop-less
+    loop-again
+    returns)

@@ -1,0 +1,79 @@
+// The next radius to look at: the least above g of some of the distances.
+ghost use mathlib.Core.Path.{_≡_};
+ghost use Prim.Native.Nat.{ℕ, _+_, _*_, _<_, _≤_};
+ghost use lib.ListN.{length, getD};
+ghost use Rattle.lists.specs.Lists.{at};
+ghost use Rattle.radius.specs.Next.{Next, InRow, InRows, InLater, InPairs};
+
+// The lesser of best and x, where x is above g.
+fn closer(x: u32, g: u32, best: u32) -> u32
+    ensures { λ r. ⌜ Next (λ (y : ℕ). y ≡ x) g best r ⌝ }
+{
+    if x <= g {
+        return best;
+    }
+    if x < best {
+        return x;
+    }
+    best
+}
+
+// Over the distances of tide c.
+pub fn next_in_row(distances: &[u32], n: usize, c: usize, g: u32, start: u32) -> u32
+    requires { ⌜ (n ≤ 120) × (c < n) × (n * 120 ≤ length (now distances)) ⌝ }
+    ensures { λ r. ⌜ Next (InRow (now (distances .entry)) c n) g start r ⌝ }
+{
+    let mut best = start;
+    let mut t = 0;
+    while t < n {
+        best = closer(distances[c * 120 + t], g, best);
+        t += 1;
+    }
+    best
+}
+
+// Over the distances of the first count tides in the table.
+pub fn next_in_rows(distances: &[u32], n: usize, tides: &[usize; 120], count: usize, g: u32) -> u32
+    requires { ⌜ (n ≤ 120) × (n * 120 ≤ length (now distances)) × (count ≤ 120) ⌝ }
+    requires { ⌜ ((m : ℕ) → m < count → getD (now tides) m 0 < n) ⌝ }
+    ensures { λ r. ⌜ Next (InRows (now (distances .entry)) n (now (tides .entry)) count) g 1048576 r ⌝ }
+{
+    let mut best: u32 = 1048576;
+    let mut m = 0;
+    while m < count {
+        best = next_in_row(distances, n, tides[m], g, best);
+        m += 1;
+    }
+    best
+}
+
+// Over the distances of tide i of the table from the later ones.
+fn next_later(distances: &[u32], n: usize, tides: &[usize; 120], count: usize, i: usize, g: u32, start: u32) -> u32
+    requires { ⌜ (n ≤ 120) × (n * 120 ≤ length (now distances)) × (count ≤ 120) × (i < count) ⌝ }
+    requires { ⌜ ((m : ℕ) → m < count → getD (now tides) m 0 < n) ⌝ }
+    ensures { λ r. ⌜ Next (InLater (now (distances .entry)) (now (tides .entry)) i count) g start r ⌝ }
+{
+    let c = tides[i];
+    let mut best = start;
+    let mut m = i + 1;
+    while m < count {
+        best = closer(distances[c * 120 + tides[m]], g, best);
+        m += 1;
+    }
+    best
+}
+
+// Over the distances between any two tides of the table.
+pub fn next_in_pairs(distances: &[u32], n: usize, tides: &[usize; 120], count: usize, g: u32) -> u32
+    requires { ⌜ (n ≤ 120) × (n * 120 ≤ length (now distances)) × (count ≤ 120) ⌝ }
+    requires { ⌜ ((m : ℕ) → m < count → getD (now tides) m 0 < n) ⌝ }
+    ensures { λ r. ⌜ Next (InPairs (now (distances .entry)) (now (tides .entry)) count count) g 1048576 r ⌝ }
+{
+    let mut best: u32 = 1048576;
+    let mut i = 0;
+    while i < count {
+        best = next_later(distances, n, tides, count, i, g, best);
+        i += 1;
+    }
+    best
+}
