@@ -46,6 +46,15 @@ abbrev pub settled : {A : Type 0} → Verdict → A → A → A
 settled accepted new old = new
 settled (refused r) new old = old
 
+-- an answer that carries a value, or the refusal
+pub data Reply (A : Type 0) : Type 0 where
+  value : A → Reply A
+  refusal : Numbered → Reply A
+
+abbrev pub replied : {A : Type 0} → Verdict → A → Reply A
+replied accepted x = value x
+replied (refused r) x = refusal r
+
 pub record Reason : Type 0 where
   pub holds : Bool
   pub because : Numbered
