@@ -92,6 +92,13 @@ module _ {A : Type 0} where
     overwrite-more n h =
         rw (drop-cons l n (f n) h, set-at (tabulate n f) (getD l n (f n)) (drop (suc n) l) (f n) n (length-tabulate n f), add-one n, tabulate-suc n f, append-assoc)
 
+    -- the same as a step of a loop that stores a value
+    pub overwrite-step : {m : List A} {n : ℕ} (v : A) → m ≡ overwrite n f l → v ≡ f n → n < length l → set m n v ≡ overwrite (n + 1) f l
+    overwrite-step {m} {n} v e q h = rw (e, q) (overwrite-more n h)
+
+    pub overwrite-done : {m : List A} {i n : ℕ} → i ≡ n → m ≡ overwrite i f l → m ≡ overwrite n f l
+    overwrite-done q e = e ∙ ap (λ z. overwrite z f l) q
+
     pub overwrite-ext : (n : ℕ) (h : ℕ → A) → ((i : ℕ) → i < n → f i ≡ h i) → overwrite n f l ≡ overwrite n h l
     unfolding overwrite tabulate
     overwrite-ext zero h e = refl

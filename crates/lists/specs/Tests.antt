@@ -98,5 +98,20 @@ pub every-more : (n : ℕ) (p : ℕ → Bool) → T (every n p) → T (p n) → 
 unfolding every
 every-more n p a b = rw (add-one n) (and-T (every n p) (p n) a b)
 
+pub every-done : (n : ℕ) (p : ℕ → Bool) (i : ℕ) → T (every i p) → i ≡ n → every n p ≡ true
+every-done n p i t e = T-true (every n p) (subst (λ z. T (every z p)) e t)
+
 pub every-fails : (n : ℕ) (p : ℕ → Bool) (i : ℕ) → i < n → T (not (p i)) → every n p ≡ false
 every-fails n p i l t = T-false (every n p) (not-T (every n p) (λ h. T-not (p i) t (every-at n p h i l)))
+
+-- a test that fails over the numbers below n fails at one of them
+pub not-every : (n : ℕ) (p : ℕ → Bool) → T (not (every n p)) → (i : ℕ) × (i < n) × T (not (p i))
+unfolding every
+not-every zero p t = absurd t
+not-every (suc n) p t = by (every n p) (p n) (λ s. not-every n p s) (λ s. s) t
+  where
+    by : (a b : Bool) → (T (not a) → (i : ℕ) × (i < n) × T (not (p i))) → (T (not b) → T (not (p n))) → T (not (a && b))
+        → (i : ℕ) × (i < suc n) × T (not (p i))
+    by false b f h s = let r = f tt in (r .0, omega (arith, r .1), r .2)
+    by true false f h s = (n, omega arith, h tt)
+    by true true f h s = absurd s

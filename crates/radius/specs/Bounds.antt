@@ -3,17 +3,17 @@ use Prim.Native.Nat.{ℕ, zero, suc, _+_, _-_, _≤_, _<_}
 use native.Mathlib.Omega.{arith}
 use native.Mathlib.Numerals.{add-one}
 use native.Mathlib.Decide.{ℕ-discrete}
-use mathlib.Core.Path.{_≡_, refl, sym, ap, _∙_, subst}
+use mathlib.Core.Path.{_≡_, refl, sym, ap, ap₂, _∙_, subst}
 use mathlib.Core.Logic.{_⊎_, inl, inr, ⊎-elim, _↔_}
 use mathlib.Core.Bool.{Bool, true, false, not, _&&_, _||_}
 use mathlib.Core.List.{List}
 use lib.Dec.{T, leb, ltb, eqb, leb→le, ltb→lt, eqb→eq, not-T, T-not}
 use lib.ListN.{length, getD, set, replicate, length-replicate, getD-replicate, length-set}
 use lib.Seq.{ext-getD, getD-set-same, getD-set-other}
-use Rattle.lists.specs.Lists.{at, every, bit, count, tabulate}
-use Rattle.lists.specs.Tests.{and-T, T-left, T-right, T-true, T-false, test, split, eq→eqb, every-at, every-of}
+use Rattle.lists.specs.Lists.{at, every, bit, count, tabulate, overwrite}
+use Rattle.lists.specs.Tests.{and-T, T-left, T-right, T-true, T-false, test, split, eq→eqb, not-not, every-at, not-every}
 use Rattle.lists.specs.Counts.{count-yes, count-no, count-zero, count-most}
-use Rattle.lists.specs.Tables.{length-tabulate, getD-tabulate}
+use Rattle.lists.specs.Tables.{length-tabulate, getD-tabulate, getD-overwrite}
 use Rattle.study.specs.declared.Minima.{Minima}
 use Rattle.study.specs.Problem.{Problem}
 use Rattle.study.specs.Study.{meets}
@@ -119,9 +119,48 @@ coveredBy d n marks g t = not (every n (λ c. hides (marks c) (at d t c) g))
 unfoldable pub covers : List ℕ → List ℕ → ℕ → Minima → ℕ → Bool
 covers d s n M g = every n (coveredBy d n (λ c. bit (meets M n (λ t. getD s t 0) (ball d c g))) g)
 
+every-same : (n : ℕ) (p q : ℕ → Bool) → ((i : ℕ) → i < n → p i ≡ q i) → every n p ≡ every n q
+unfolding every
+every-same zero p q e = refl
+every-same (suc n) p q e = ap₂ (λ a b. a && b) (every-same n p q (λ i l. e i (omega arith))) (e n (omega arith))
+
+-- the same from the marks in a table
+pub covers-marked : {marks : List ℕ} (old d s : List ℕ) (n : ℕ) (M : Minima) (g : ℕ)
+    → marks ≡ overwrite n (λ c. bit (meets M n (λ t. getD s t 0) (ball d c g))) old → every n (coveredBy d n (λ c. getD marks c 0) g) ≡ covers d s n M g
+unfolding covers coveredBy
+covers-marked {marks} old d s n M g e =
+    every-same n (coveredBy d n (λ c. getD marks c 0) g) (coveredBy d n f g)
+    (λ t k. ap not (every-same n (λ c. hides (getD marks c 0) (at d t c) g) (λ c. hides (f c) (at d t c) g)
+    (λ c l. ap (λ z. hides z (at d t c) g) (ap (λ m. getD m c 0) e ∙ getD-overwrite f old n c 0 l))))
+  where
+    f : ℕ → ℕ
+    f c = bit (meets M n (λ t. getD s t 0) (ball d c g))
+
 -- no radius below r has an assignment
 pub record Bounded (d s : List ℕ) (n : ℕ) (M : Minima) (r : ℕ) : Type 0 where
   pub none : (P : Problem) → Posed d s n M P → (h : ℕ) → h < r → Empty P h
 
 pub bounded-zero : (d s : List ℕ) (n : ℕ) (M : Minima) → Bounded d s n M 0
 bounded-zero d s n M = record { none = λ P Q h l. absurd (omega arith) }
+
+pub bounded-more : (d s : List ℕ) (n : ℕ) (M : Minima) (g : ℕ) → covers d s n M g ≡ false → Bounded d s n M (g + 1)
+unfolding covers coveredBy hides
+bounded-more d s n M g e = record { none = λ P Q h l. none-covered Q g (bare .0) (bare .1) short h (omega arith) }
+  where
+    met : ℕ → Bool
+    met c = meets M n (λ t. getD s t 0) (ball d c g)
+
+    hidden : ℕ → ℕ → Bool
+    hidden t c = hides (bit (met c)) (at d t c) g
+
+    bare : (t : ℕ) × (t < n) × T (not (not (every n (hidden t))))
+    bare = not-every n (λ t. not (every n (hidden t))) (subst (λ b. T (not b)) (sym e) tt)
+
+    never : (b : Bool) (x : ℕ) → T (eqb (bit b) 0 || ltb g x) → x ≤ g → T b → ⊥
+    never true x t l m = let q = ltb→lt g x t in omega arith
+    never false x t l m = m
+
+    short : (c : ℕ) → c < n → at d (bare .0) c ≤ g → Full d s n M c g → ⊥
+    short c l k F =
+        never (met c) (at d (bare .0) c) (every-at n (hidden (bare .0)) (not-not (every n (hidden (bare .0))) (bare .2)) c l) k
+        (meets-T M n (λ t. getD s t 0) (ball d c g) .1 F)

@@ -1,3 +1,4 @@
 pub mod Front
 pub mod Next
 pub mod Bounds
+pub mod Table

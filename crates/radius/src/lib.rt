@@ -2,3 +2,4 @@
 mod centres;
 mod bound;
 mod next;
+mod table;

@@ -1,0 +1,61 @@
+-- The bound, by bisection. Assumes nothing.
+use borrow.Author.Needs.{needs}
+use native.Mathlib.Omega.{arith}
+use Rattle.radius.specs.Bounds.{Bounded, bounded-zero, bounded-more}
+use mathlib.Core.Path.{sym, _∙_}
+use Prim.Native.Nat.{_≤_, _-_}
+use Rattle.radius.proofs.bound.lower_bound.Statement.{statement}
+use Rattle.radius.proofs.bound.lower_bound.Tie as tie
+
+abbrev Inv-loop : tie.InvT-loop
+Inv-loop distances settings n minima low₀ high₀ low high = (low ≤ high) × (high ≤ 1048575) × Bounded distances settings n minima low
+
+abbrev μ-loop : tie.MeasureT-loop
+μ-loop distances settings n minima low₀ high₀ low high = high - low
+
+loop-holds : tie.Need-loop-holds Inv-loop μ-loop
+loop-holds c = (omega arith, omega arith, bounded-zero _ _ _ _)
+
+sub-mid : tie.Need-sub-mid Inv-loop μ-loop
+sub-mid c = omega arith
+
+add-mid : tie.Need-add-mid Inv-loop μ-loop
+add-mid c = omega arith
+
+covered-requires : tie.Need-covered-requires Inv-loop μ-loop
+covered-requires c κs = c .before .before .before .before .pre
+
+loop-less : tie.Need-loop-less Inv-loop μ-loop
+loop-less c = omega arith
+
+loop-again : tie.Need-loop-again Inv-loop μ-loop
+loop-again c = (omega arith, omega arith, c .before .before .before .loop .inv .2)
+
+add-low : tie.Need-add-low Inv-loop μ-loop
+add-low c = omega arith
+
+loop-less-2 : tie.Need-loop-less-2 Inv-loop μ-loop
+loop-less-2 c = omega arith
+
+loop-again-2 : tie.Need-loop-again-2 Inv-loop μ-loop
+loop-again-2 c = (omega arith, omega arith, bounded-more _ _ _ _ _ (sym (c .before .covered .ensures) ∙ c .if1 .left))
+
+returns : tie.Need-returns Inv-loop μ-loop
+returns c = c .before .loop .inv .2
+
+pub lower-bound-spec : {M : Type 1} → statement M
+lower-bound-spec =
+    tie.close
+    (tie.spec
+    Inv-loop
+    μ-loop
+    loop-holds
+    sub-mid
+    add-mid
+    covered-requires
+    loop-less
+    loop-again
+    add-low
+    loop-less-2
+    loop-again-2
+    returns)
