@@ -53,3 +53,7 @@ ball d c g t = leb (at d c t) g
 -- those tides are sufficient
 abbrev pub Full : List ℕ → List ℕ → ℕ → Minima → ℕ → ℕ → Type 0
 Full d s n M c g = Meets M n (λ t. getD s t 0) (ball d c g)
+
+-- the problem that the lists pose themselves
+abbrev pub Proper : List ℕ → List ℕ → ℕ → Minima → Type 0
+Proper d s n M = Posed d s n M (posed d s n M)

@@ -4,20 +4,20 @@ use native.Mathlib.Omega.{arith}
 use native.Mathlib.Numerals.{add-one}
 use native.Mathlib.Decide.{ℕ-discrete}
 use mathlib.Core.Path.{_≡_, refl, sym, ap, ap₂, _∙_, subst}
-use mathlib.Core.Logic.{_⊎_, inl, inr, ⊎-elim, _↔_}
+use mathlib.Core.Logic.{_⊎_, ⊎-elim}
 use mathlib.Core.Bool.{Bool, true, false, not, _&&_, _||_}
 use mathlib.Core.List.{List}
-use lib.Dec.{T, leb, ltb, eqb, leb→le, ltb→lt, eqb→eq, not-T, T-not}
+use lib.Dec.{T, ltb, eqb, ltb→lt, eqb→eq, not-T}
 use lib.ListN.{length, getD, set, replicate, length-replicate, getD-replicate, length-set}
 use lib.Seq.{ext-getD, getD-set-same, getD-set-other}
 use Rattle.lists.specs.Lists.{at, every, bit, count, tabulate, overwrite}
-use Rattle.lists.specs.Tests.{and-T, T-left, T-right, T-true, T-false, test, split, eq→eqb, not-not, every-at, not-every}
+use Rattle.lists.specs.Tests.{and-T, T-left, T-right, T-true, T-false, split, eq→eqb, not-not, every-at, not-every}
 use Rattle.lists.specs.Counts.{count-yes, count-no, count-zero, count-most}
 use Rattle.lists.specs.Tables.{length-tabulate, getD-tabulate, getD-overwrite}
 use Rattle.study.specs.declared.Minima.{Minima}
 use Rattle.study.specs.Problem.{Problem}
 use Rattle.study.specs.Study.{meets}
-use Rattle.study.specs.StudyLaws.{Meets, meets-T}
+use Rattle.study.specs.StudyLaws.{meets-T}
 use Rattle.radii.specs.Posed.{Posed, ball, Full}
 use Rattle.radii.specs.Gaps.{Empty}
 use Rattle.radii.specs.Radii.{none-covered}

@@ -8,11 +8,12 @@ use mathlib.Core.List.{List, [], _∷_, _++_}
 use lib.Dec.{T, ltb, not-T, T-not}
 use lib.ListN.{length, getD, take, set, length-append, length-set}
 use lib.Seq.{take-suc, take-suc-set, getD-take, length-take-le}
-use Rattle.lists.specs.Lists.{_∈_, all}
+use Rattle.lists.specs.Lists.{all}
 use Rattle.lists.specs.Tests.{and-T, T-false}
 use Rattle.lists.specs.Members.{all-at, all-append, getD-mem}
-use Rattle.study.specs.Problem.{Problem, centresAmong}
+use Rattle.study.specs.Problem.{centresAmong}
 use Rattle.study.specs.ProblemLaws.{among-below}
+use Rattle.radii.specs.Posed.{within}
 
 pub record Front (table : List ℕ) (count : ℕ) (l : List ℕ) : Type 0 where
   pub size : length table ≡ 120
@@ -76,3 +77,14 @@ module _ (dist : ℕ → ℕ → ℕ) (g : ℕ) where
     pub centres-miss : false ≡ all (λ c. ltb g (dist c t)) (take count table) → Front table count (centresAmong dist g (t + 1))
     unfolding centresAmong
     centres-miss e = rw (add-one t, ← (F .front), ← e) (rw (F .front) F)
+
+-- ---- the centres at g, by the lists of numbers
+
+pub record CentresAt (d : List ℕ) (n g count : ℕ) (cs : List ℕ) : Type 0 where
+  pub front : Front cs count (centresAmong (within d n) g n)
+
+pub front-few : {d : List ℕ} {n g count : ℕ} {cs : List ℕ} → n ≤ 120 → CentresAt d n g count cs → count ≤ 120
+front-few {d} {n} {g} l C = omega (arith, C .front .long, centres-few (within d n) g n)
+
+pub front-below : {d : List ℕ} {n g count : ℕ} {cs : List ℕ} → CentresAt d n g count cs → (m : ℕ) → m < count → getD cs m 0 < n
+front-below {d} {n} {g} C = centres-below (within d n) g n (C .front)

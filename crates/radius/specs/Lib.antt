@@ -1,4 +1,7 @@
 pub mod Front
 pub mod Next
 pub mod Bounds
+pub mod Limits
 pub mod Table
+pub mod Assigning
+pub mod Attempts

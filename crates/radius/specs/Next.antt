@@ -1,7 +1,7 @@
 -- The least number above g of those that Of holds of, or start where none of them is less. Assumes nothing.
-use Prim.Native.Nat.{ℕ, zero, suc, _+_, _≤_, _<_}
+use Prim.Native.Nat.{ℕ, _+_, _-_, _≤_, _<_}
 use native.Mathlib.Omega.{arith}
-use mathlib.Core.Path.{_≡_, refl, sym, ap, _∙_, subst}
+use mathlib.Core.Path.{_≡_, refl, sym, subst}
 use mathlib.Core.Logic.{_⊎_, inl, inr, ⊎-elim}
 use mathlib.Core.List.{List}
 use lib.ListN.{getD}
@@ -32,9 +32,9 @@ next-more Of Also Any g start best r by old new N M =
 abbrev pub InRow : List ℕ → ℕ → ℕ → ℕ → Type 0
 InRow d c t x = (u : ℕ) × (u < t) × (x ≡ at d c u)
 
--- of the first m tides of a table from the tides below n
-abbrev pub InRows : List ℕ → ℕ → List ℕ → ℕ → ℕ → Type 0
-InRows d n cs m x = (i : ℕ) × (i < m) × InRow d (getD cs i 0) n x
+-- of the tides f 0, f 1, .. f (m - 1) from the tides below n
+abbrev pub InRows : List ℕ → ℕ → (ℕ → ℕ) → ℕ → ℕ → Type 0
+InRows d n f m x = (i : ℕ) × (i < m) × InRow d (f i) n x
 
 -- of tide i of a table from the later ones below m
 abbrev pub InLater : List ℕ → List ℕ → ℕ → ℕ → ℕ → Type 0
@@ -55,10 +55,10 @@ module _ (d : List ℕ) (g start best r : ℕ) where
       (λ x w. last (λ u. x ≡ at d c u) (InRow d c t x ⊎ (x ≡ at d c t)) t (w .0) (w .1) (λ k. inl (w .0, k, w .2)) (λ e. inr e) (w .2))
       (λ x v. (v .0, omega (arith, v .1), v .2)) (λ x e. (t, omega arith, e))
 
-  pub rows-step : (n : ℕ) (cs : List ℕ) (m : ℕ) → Next (InRows d n cs m) g start best → Next (InRow d (getD cs m 0) n) g best r → Next (InRows d n cs (m + 1)) g start r
-  rows-step n cs m =
-      next-more (InRows d n cs m) (InRow d (getD cs m 0) n) (InRows d n cs (m + 1)) g start best r
-      (λ x w. last (λ i. InRow d (getD cs i 0) n x) (InRows d n cs m x ⊎ InRow d (getD cs m 0) n x) m (w .0) (w .1) (λ k. inl (w .0, k, w .2)) (λ e. inr e) (w .2))
+  pub rows-step : (n : ℕ) (f : ℕ → ℕ) (m : ℕ) → Next (InRows d n f m) g start best → Next (InRow d (f m) n) g best r → Next (InRows d n f (m + 1)) g start r
+  rows-step n f m =
+      next-more (InRows d n f m) (InRow d (f m) n) (InRows d n f (m + 1)) g start best r
+      (λ x w. last (λ i. InRow d (f i) n x) (InRows d n f m x ⊎ InRow d (f m) n x) m (w .0) (w .1) (λ k. inl (w .0, k, w .2)) (λ e. inr e) (w .2))
       (λ x v. (v .0, omega (arith, v .1), v .2)) (λ x u. (m, omega arith, u))
 
   pub later-step : (cs : List ℕ) (i m : ℕ) → i < m → Next (InLater d cs i m) g start best → Next (λ y. y ≡ at d (getD cs i 0) (getD cs m 0)) g best r
@@ -74,3 +74,23 @@ module _ (d : List ℕ) (g start best r : ℕ) where
       next-more (InPairs d cs count k) (InLater d cs k count) (InPairs d cs count (k + 1)) g start best r
       (λ x w. last (λ i. InLater d cs i count x) (InPairs d cs count k x ⊎ InLater d cs k count x) k (w .0) (w .1) (λ q. inl (w .0, q, w .2)) (λ e. inr e) (w .2))
       (λ x v. (v .0, omega (arith, v .1), v .2)) (λ x u. (k, omega arith, u))
+
+-- ---- the least candidate from g on
+
+-- every distance
+abbrev pub InAll : List ℕ → ℕ → ℕ → Type 0
+InAll d n = InRows d n (λ i. i) n
+
+pub record FirstFrom (d : List ℕ) (n g r : ℕ) : Type 0 where
+  pub least : (x : ℕ) → (x ≡ 0) ⊎ InAll d n x → g ≤ x → r ≤ x
+  pub is : (r ≡ 1048576) ⊎ ((r ≡ 0) ⊎ InAll d n r)
+
+pub first-zero : (d : List ℕ) (n : ℕ) → FirstFrom d n 0 0
+first-zero d n = record { least = λ x v l. omega arith; is = inr (inl refl) }
+
+pub first-next : (d : List ℕ) (n g r : ℕ) → 0 < g → Next (InAll d n) (g - 1) 1048576 r → FirstFrom d n g r
+first-next d n g r l N =
+    record {
+      least = λ x v k. ⊎-elim (λ e. absurd (omega arith)) (λ w. N .least x w (omega arith)) v;
+      is = ⊎-elim (λ e. inl e) (λ q. inr (inr (q .0))) (N .is);
+    }

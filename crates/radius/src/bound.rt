@@ -2,11 +2,9 @@
 // ball of that radius is sufficient.
 use study::Minima;
 ghost use mathlib.Core.Path.{_≡_};
-ghost use mathlib.Core.Bool.{_&&_};
 ghost use Prim.Native.Nat.{ℕ, _*_, _<_, _≤_};
-ghost use lib.Dec.{eqb};
 ghost use lib.ListN.{length, getD, replicate};
-ghost use Rattle.lists.specs.Lists.{at, bit, count, overwrite, tabulate};
+ghost use Rattle.lists.specs.Lists.{bit, count, overwrite};
 ghost use Rattle.study.specs.Study.{meets};
 ghost use Rattle.radii.specs.Posed.{Sized, ball};
 ghost use Rattle.radius.specs.Bounds.{tally, hides, coveredBy, covers, Bounded};
@@ -18,7 +16,15 @@ fn wide(x: u8) -> usize
 }
 
 // Counts the tides at most g from tide c, and by their settings.
-fn count_near(distances: &[u32], settings: &[u8], n: usize, minima: Minima, c: usize, g: u32, counts: &mut [usize; 9]) -> usize
+fn count_near(
+    distances: &[u32],
+    settings: &[u8],
+    n: usize,
+    minima: Minima,
+    c: usize,
+    g: u32,
+    counts: &mut [usize; 9],
+) -> usize
     requires { ⌜ Sized (now distances) (now settings) n minima ⌝ }
     requires { ⌜ c < n ⌝ }
     requires { ⌜ now counts ≡ replicate 9 0 ⌝ }
@@ -41,7 +47,14 @@ fn count_near(distances: &[u32], settings: &[u8], n: usize, minima: Minima, c: u
 }
 
 // Whether the tides at most g from tide c are sufficient.
-pub fn ball_meets(distances: &[u32], settings: &[u8], n: usize, minima: Minima, c: usize, g: u32) -> bool
+pub fn ball_meets(
+    distances: &[u32],
+    settings: &[u8],
+    n: usize,
+    minima: Minima,
+    c: usize,
+    g: u32,
+) -> bool
     requires { ⌜ Sized (now distances) (now settings) n minima ⌝ }
     requires { ⌜ c < n ⌝ }
     ensures { λ r. ⌜ r ≡ meets minima n (λ (t : ℕ). getD (now (settings .entry)) t 0) (ball (now (distances .entry)) c g) ⌝ }
@@ -74,7 +87,14 @@ fn ball_mark(distances: &[u32], settings: &[u8], n: usize, minima: Minima, c: us
 }
 
 // Marks the tides whose balls of radius g are sufficient.
-fn mark_balls(distances: &[u32], settings: &[u8], n: usize, minima: Minima, g: u32, marks: &mut [u8; 120])
+fn mark_balls(
+    distances: &[u32],
+    settings: &[u8],
+    n: usize,
+    minima: Minima,
+    g: u32,
+    marks: &mut [u8; 120],
+)
     requires { ⌜ Sized (now distances) (now settings) n minima ⌝ }
     requires { ⌜ length (now marks) ≡ 120 ⌝ }
     ensures { λ _. ⌜ now (marks .exit) ≡ overwrite n (λ (c : ℕ). bit (meets minima n (λ (t : ℕ). getD (now (settings .entry)) t 0) (ball (now (distances .entry)) c g))) (now (marks .entry)) ⌝ }

@@ -4,12 +4,18 @@ ghost use Prim.Native.Nat.{ℕ, _*_, _<_, _≤_};
 ghost use lib.Dec.{ltb};
 ghost use lib.ListN.{length, getD, take};
 ghost use Rattle.lists.specs.Lists.{all};
-ghost use Rattle.study.specs.Problem.{centresAmong};
 ghost use Rattle.radii.specs.Posed.{within};
-ghost use Rattle.radius.specs.Front.{Front};
+ghost use Rattle.radius.specs.Front.{CentresAt};
 
 // Whether tide t is farther than g from each of the first count centres.
-fn far_from(distances: &[u32], n: usize, centres: &[usize; 120], count: usize, g: u32, t: usize) -> bool
+fn far_from(
+    distances: &[u32],
+    n: usize,
+    centres: &[usize; 120],
+    count: usize,
+    g: u32,
+    t: usize,
+) -> bool
     requires { ⌜ (n ≤ 120) × (n * 120 ≤ length (now distances)) × (length (now centres) ≡ 120) × (count ≤ 120) × (t < n) ⌝ }
     requires { ⌜ ((m : ℕ) → m < count → getD (now centres) m 0 < n) ⌝ }
     ensures { λ r. ⌜ r ≡ all (λ c. ltb g (within (now (distances .entry)) n c t)) (take count (now (centres .entry))) ⌝ }
@@ -27,7 +33,7 @@ fn far_from(distances: &[u32], n: usize, centres: &[usize; 120], count: usize, g
 // Writes the centres at g to the front of the table, and tells how many there are.
 pub fn find_centres(distances: &[u32], n: usize, g: u32, centres: &mut [usize; 120]) -> usize
     requires { ⌜ (n ≤ 120) × (n * 120 ≤ length (now distances)) × (length (now centres) ≡ 120) ⌝ }
-    ensures { λ r. ⌜ Front (now (centres .exit)) r (centresAmong (within (now (distances .entry)) n) g n) ⌝ }
+    ensures { λ r. ⌜ CentresAt (now (distances .entry)) n g r (now (centres .exit)) ⌝ }
 {
     let mut count = 0;
     let mut t = 0;

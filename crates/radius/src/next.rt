@@ -2,8 +2,7 @@
 ghost use mathlib.Core.Path.{_≡_};
 ghost use Prim.Native.Nat.{ℕ, _+_, _*_, _<_, _≤_};
 ghost use lib.ListN.{length, getD};
-ghost use Rattle.lists.specs.Lists.{at};
-ghost use Rattle.radius.specs.Next.{Next, InRow, InRows, InLater, InPairs};
+ghost use Rattle.radius.specs.Next.{Next, InRow, InRows, InLater, InPairs, InAll, FirstFrom};
 
 // The lesser of best and x, where x is above g.
 fn closer(x: u32, g: u32, best: u32) -> u32
@@ -36,7 +35,7 @@ pub fn next_in_row(distances: &[u32], n: usize, c: usize, g: u32, start: u32) ->
 pub fn next_in_rows(distances: &[u32], n: usize, tides: &[usize; 120], count: usize, g: u32) -> u32
     requires { ⌜ (n ≤ 120) × (n * 120 ≤ length (now distances)) × (count ≤ 120) ⌝ }
     requires { ⌜ ((m : ℕ) → m < count → getD (now tides) m 0 < n) ⌝ }
-    ensures { λ r. ⌜ Next (InRows (now (distances .entry)) n (now (tides .entry)) count) g 1048576 r ⌝ }
+    ensures { λ r. ⌜ Next (InRows (now (distances .entry)) n (λ (i : ℕ). getD (now (tides .entry)) i 0) count) g 1048576 r ⌝ }
 {
     let mut best: u32 = 1048576;
     let mut m = 0;
@@ -48,7 +47,15 @@ pub fn next_in_rows(distances: &[u32], n: usize, tides: &[usize; 120], count: us
 }
 
 // Over the distances of tide i of the table from the later ones.
-fn next_later(distances: &[u32], n: usize, tides: &[usize; 120], count: usize, i: usize, g: u32, start: u32) -> u32
+fn next_later(
+    distances: &[u32],
+    n: usize,
+    tides: &[usize; 120],
+    count: usize,
+    i: usize,
+    g: u32,
+    start: u32,
+) -> u32
     requires { ⌜ (n ≤ 120) × (n * 120 ≤ length (now distances)) × (count ≤ 120) × (i < count) ⌝ }
     requires { ⌜ ((m : ℕ) → m < count → getD (now tides) m 0 < n) ⌝ }
     ensures { λ r. ⌜ Next (InLater (now (distances .entry)) (now (tides .entry)) i count) g start r ⌝ }
@@ -76,4 +83,29 @@ pub fn next_in_pairs(distances: &[u32], n: usize, tides: &[usize; 120], count: u
         i += 1;
     }
     best
+}
+
+// Over all distances.
+fn next_of_all(distances: &[u32], n: usize, g: u32) -> u32
+    requires { ⌜ (n ≤ 120) × (n * 120 ≤ length (now distances)) ⌝ }
+    ensures { λ r. ⌜ Next (InAll (now (distances .entry)) n) g 1048576 r ⌝ }
+{
+    let mut best: u32 = 1048576;
+    let mut c = 0;
+    while c < n {
+        best = next_in_row(distances, n, c, g, best);
+        c += 1;
+    }
+    best
+}
+
+// The least candidate from g on, or 1048576 where there is none.
+pub fn first_from(distances: &[u32], n: usize, g: u32) -> u32
+    requires { ⌜ (n ≤ 120) × (n * 120 ≤ length (now distances)) ⌝ }
+    ensures { λ r. ⌜ FirstFrom (now (distances .entry)) n g r ⌝ }
+{
+    if g == 0 {
+        return 0;
+    }
+    next_of_all(distances, n, g - 1)
 }

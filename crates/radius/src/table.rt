@@ -16,7 +16,15 @@ fn mark(x: u32, g: u32) -> u8
 }
 
 // Row t: the blocks whose centres are at most g away.
-fn allow_row(distances: &[u32], n: usize, centres: &[usize; 120], count: usize, g: u32, t: usize, allowed: &mut [u8])
+fn allow_row(
+    distances: &[u32],
+    n: usize,
+    centres: &[usize; 120],
+    count: usize,
+    g: u32,
+    t: usize,
+    allowed: &mut [u8],
+)
     requires { ⌜ (n ≤ 120) × (n * 120 ≤ length (now distances)) × (n * 120 ≤ length (now allowed)) × (count ≤ 120) × (t < n) ⌝ }
     requires { ⌜ ((m : ℕ) → m < count → getD (now centres) m 0 < n) ⌝ }
     ensures { λ _. ⌜ RowTo (now (distances .entry)) (now (centres .entry)) g t count (now (allowed .entry)) (now (allowed .exit)) ⌝ }
@@ -29,7 +37,14 @@ fn allow_row(distances: &[u32], n: usize, centres: &[usize; 120], count: usize, 
 }
 
 // Which blocks each tide may go to: those whose centres are at most g away.
-pub fn allow(distances: &[u32], n: usize, centres: &[usize; 120], count: usize, g: u32, allowed: &mut [u8])
+pub fn allow(
+    distances: &[u32],
+    n: usize,
+    centres: &[usize; 120],
+    count: usize,
+    g: u32,
+    allowed: &mut [u8],
+)
     requires { ⌜ (n ≤ 120) × (n * 120 ≤ length (now distances)) × (n * 120 ≤ length (now allowed)) × (count ≤ 120) ⌝ }
     requires { ⌜ ((m : ℕ) → m < count → getD (now centres) m 0 < n) ⌝ }
     ensures { λ _. ⌜ Table (now (distances .entry)) (now (centres .entry)) g count n (now (allowed .entry)) (now (allowed .exit)) ⌝ }

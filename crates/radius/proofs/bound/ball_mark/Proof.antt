@@ -1,8 +1,6 @@
 -- A ball's mark. Assumes nothing.
-use native.Mathlib.Omega.{arith}
 use Rattle.lists.specs.Lists.{bit}
 use mathlib.Core.Path.{sym, ap, _∙_}
-use borrow.Author.Needs.{needs}
 use Rattle.radius.proofs.bound.ball_mark.Statement.{statement}
 use Rattle.radius.proofs.bound.ball_mark.Tie as tie
 

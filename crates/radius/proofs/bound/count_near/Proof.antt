@@ -7,7 +7,7 @@ use Rattle.lists.specs.Counts.{count-zero, count-yes, count-no}
 use Rattle.lists.specs.Lists.{at, count as countBelow}
 use lib.ListN.{getD}
 use lib.Dec.{T, leb→le, le→leb}
-use mathlib.Core.Path.{_≡_, refl, sym, ap, _∙_, subst}
+use mathlib.Core.Path.{_≡_, sym, ap, _∙_}
 use Prim.Native.Nat.{_≤_, _<_, _-_, _+_}
 use Rattle.radius.proofs.bound.count_near.Statement.{statement}
 use Rattle.radius.proofs.bound.count_near.Tie as tie

@@ -1,5 +1,4 @@
 -- A scan of the tides. Assumes nothing.
-use borrow.Author.Needs.{needs}
 use native.Mathlib.Omega.{arith}
 use Rattle.radius.specs.Bounds.{coveredBy, covers-marked}
 use Rattle.lists.specs.Tests.{true-T, every-more, every-done, every-fails}

@@ -1,5 +1,4 @@
 -- The bound, by bisection. Assumes nothing.
-use borrow.Author.Needs.{needs}
 use native.Mathlib.Omega.{arith}
 use Rattle.radius.specs.Bounds.{Bounded, bounded-zero, bounded-more}
 use mathlib.Core.Path.{sym, _∙_}

@@ -1,5 +1,4 @@
 -- The marks of all balls. Assumes nothing.
-use borrow.Author.Needs.{needs}
 use native.Mathlib.Omega.{arith}
 use Rattle.radii.specs.Posed.{ball}
 use Rattle.study.specs.Study.{meets}

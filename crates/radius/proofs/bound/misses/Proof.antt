@@ -1,6 +1,4 @@
 -- Whether a tide does not cover, by its mark and its distance. Assumes nothing.
-use borrow.Author.Needs.{needs}
-use native.Mathlib.Omega.{arith}
 use Rattle.radius.specs.Bounds.{hides}
 use borrow.Author.Tests.{eq-eqb, ne-eqb}
 use Rattle.radius.proofs.bound.misses.Statement.{statement}

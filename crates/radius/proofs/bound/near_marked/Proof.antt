@@ -9,7 +9,7 @@ use lib.Dec.{T}
 use borrow.Author.Tests.{not-false}
 use mathlib.Core.Bool.{true, not}
 use mathlib.Core.Path.{_≡_, sym, ap, _∙_, subst}
-use Prim.Native.Nat.{_≤_, _<_, _-_}
+use Prim.Native.Nat.{_≤_, _-_}
 use Rattle.radius.proofs.bound.near_marked.Statement.{statement}
 use Rattle.radius.proofs.bound.near_marked.Tie as tie
 

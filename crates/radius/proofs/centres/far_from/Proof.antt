@@ -1,5 +1,4 @@
 -- A scan of the centres. Assumes nothing.
-use borrow.Author.Needs.{needs}
 use native.Mathlib.Omega.{arith}
 use Rattle.radius.specs.Front.{all-more, all-fails}
 use Rattle.radii.specs.Posed.{within, within-is}
@@ -9,7 +8,7 @@ use lib.ListN.{take, getD}
 use lib.Arith.{le→nltb}
 use lib.Dec.{T, ltb, lt→ltb}
 use mathlib.Core.Path.{_≡_, sym, subst}
-use Prim.Native.Nat.{_≤_, _<_, _-_, _+_, _*_}
+use Prim.Native.Nat.{_≤_, _-_}
 use Rattle.radius.proofs.centres.far_from.Statement.{statement}
 use Rattle.radius.proofs.centres.far_from.Tie as tie
 

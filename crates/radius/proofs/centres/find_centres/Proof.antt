@@ -1,5 +1,4 @@
 -- The centres among the first tides, one tide after the other. Assumes nothing.
-use borrow.Author.Needs.{needs}
 use native.Mathlib.Omega.{arith}
 use Rattle.radius.specs.Front.{Front, centres-few, centres-below, centres-start, centres-hit, centres-miss}
 use Rattle.radii.specs.Posed.{within}
@@ -49,7 +48,7 @@ loop-again-2 : tie.Need-loop-again-2 Inv-loop μ-loop
 loop-again-2 c = (omega arith, centres-miss (within (c .before .before .before .before .before .before .args .distances .now) (c .before .before .before .before .before .before .args .n)) (c .before .before .before .before .before .before .args .g) (c .before .before .before .before .loop .t) (c .before .before .before .before .loop .inv .1) (sym (c .if1 .left) ∙ c .before .far-from .ensures))
 
 returns : tie.Need-returns Inv-loop μ-loop
-returns c = let e : c .before .loop .t ≡ c .before .before .before .args .n = omega arith in subst (λ z. Front (c .before .loop .centres) (c .before .loop .count) (centresAmong (within (c .before .before .before .args .distances .now) (c .before .before .before .args .n)) (c .before .before .before .args .g) z)) e (c .before .loop .inv .1)
+returns c = let e : c .before .loop .t ≡ c .before .before .before .args .n = omega arith in record { front = subst (λ z. Front (c .before .loop .centres) (c .before .loop .count) (centresAmong (within (c .before .before .before .args .distances .now) (c .before .before .before .args .n)) (c .before .before .before .args .g) z)) e (c .before .loop .inv .1) }
 
 pub find-centres-spec : {M : Type 1} → statement M
 find-centres-spec =

@@ -1,8 +1,7 @@
 -- The lesser of the best and a number above g. Assumes nothing.
-use borrow.Author.Needs.{needs}
 use native.Mathlib.Omega.{arith}
 use mathlib.Core.Logic.{inl, inr}
-use mathlib.Core.Path.{refl, sym}
+use mathlib.Core.Path.{refl}
 use Rattle.radius.proofs.next.closer.Statement.{statement}
 use Rattle.radius.proofs.next.closer.Tie as tie
 

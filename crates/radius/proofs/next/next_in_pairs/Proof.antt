@@ -1,5 +1,4 @@
 -- The next radius of pairs of a table. Assumes nothing.
-use borrow.Author.Needs.{needs}
 use native.Mathlib.Omega.{arith}
 use Rattle.radius.specs.Next.{Next, InPairs, next-none, pairs-step}
 use mathlib.Core.Path.{_≡_, subst}

@@ -1,14 +1,14 @@
 -- The next radius of several rows. Assumes nothing.
-use borrow.Author.Needs.{needs}
 use native.Mathlib.Omega.{arith}
 use Rattle.radius.specs.Next.{Next, InRows, next-none, rows-step}
+use lib.ListN.{getD}
 use mathlib.Core.Path.{_≡_, subst}
 use Prim.Native.Nat.{_≤_, _-_}
 use Rattle.radius.proofs.next.next_in_rows.Statement.{statement}
 use Rattle.radius.proofs.next.next_in_rows.Tie as tie
 
 abbrev Inv-loop : tie.InvT-loop
-Inv-loop distances n tides count g best₀ m₀ best m = (m ≤ count) × Next (InRows distances n tides m) g 1048576 best
+Inv-loop distances n tides count g best₀ m₀ best m = (m ≤ count) × Next (InRows distances n (λ i. getD tides i 0) m) g 1048576 best
 
 abbrev μ-loop : tie.MeasureT-loop
 μ-loop distances n tides count g best₀ m₀ best m = count - m
@@ -32,10 +32,10 @@ loop-less : tie.Need-loop-less Inv-loop μ-loop
 loop-less c = omega arith
 
 loop-again : tie.Need-loop-again Inv-loop μ-loop
-loop-again c = (omega arith, rows-step (c .before .before .before .before .before .args .distances .now) (c .before .before .before .before .before .args .g) 1048576 (c .before .before .before .loop .best) (c .next-in-row .result) (c .before .before .before .before .before .args .n) (c .before .before .before .before .before .args .tides .now) (c .before .before .before .loop .m) (c .before .before .before .loop .inv .1) (c .next-in-row .ensures))
+loop-again c = (omega arith, rows-step (c .before .before .before .before .before .args .distances .now) (c .before .before .before .before .before .args .g) 1048576 (c .before .before .before .loop .best) (c .next-in-row .result) (c .before .before .before .before .before .args .n) (λ i. getD (c .before .before .before .before .before .args .tides .now) i 0) (c .before .before .before .loop .m) (c .before .before .before .loop .inv .1) (c .next-in-row .ensures))
 
 returns : tie.Need-returns Inv-loop μ-loop
-returns c = let e : c .before .loop .m ≡ c .before .before .before .args .count = omega arith in subst (λ z. Next (InRows (c .before .before .before .args .distances .now) (c .before .before .before .args .n) (c .before .before .before .args .tides .now) z) (c .before .before .before .args .g) 1048576 (c .before .loop .best)) e (c .before .loop .inv .1)
+returns c = let e : c .before .loop .m ≡ c .before .before .before .args .count = omega arith in subst (λ z. Next (InRows (c .before .before .before .args .distances .now) (c .before .before .before .args .n) (λ i. getD (c .before .before .before .args .tides .now) i 0) z) (c .before .before .before .args .g) 1048576 (c .before .loop .best)) e (c .before .loop .inv .1)
 
 pub next-in-rows-spec : {M : Type 1} → statement M
 next-in-rows-spec =

@@ -1,5 +1,4 @@
 -- The table, row after row. Assumes nothing.
-use borrow.Author.Needs.{needs}
 use native.Mathlib.Omega.{arith}
 use Rattle.radius.specs.Table.{Table, table-none, table-more, table-done}
 use mathlib.Core.Path.{_≡_}

@@ -1,5 +1,4 @@
 -- An entry of the table. Assumes nothing.
-use borrow.Author.Needs.{needs}
 use native.Mathlib.Omega.{arith}
 use Rattle.lists.specs.Lists.{bit}
 use borrow.Author.Tests.{le-leb, lt-leb}

@@ -1,0 +1,57 @@
+-- The four ends of the search keep the promise. Assumes nothing.
+use mathlib.Core.Path.{_≡_, refl, _∙_}
+use mathlib.Core.List.{List}
+use mathlib.Core.Bool.{Bool, true, false, true≢false, false≢true}
+use Prim.Native.Nat.{ℕ, _*_, _≤_, _<_}
+use native.Mathlib.Omega.{arith}
+use Rattle.study.specs.declared.Minima.{Minima}
+use Rattle.matching.specs.Promise.{Assigned, Asked, Promise}
+use Rattle.matching.specs.Matching.{Unsaturable}
+use Rattle.matching.specs.Graph.{Edge, Saturated}
+use Rattle.matching.specs.Slots.{Slots}
+use Rattle.matching.specs.Steps.{Nowhere, Rest, Written}
+use Rattle.matching.proofs.Correspondence.{enough-tides, no-assignment, written-assigned}
+
+module _ (n blocks : ℕ) (M : Minima) (settings allowed list : List ℕ) where
+  -- more slots than tides
+  pub too-few : n < blocks * M .b0 → Promise n blocks M settings allowed list list false
+  too-few h =
+      record {
+        found = λ e. absurd (false≢true e);
+        none = λ _ D asg. let l = enough-tides n blocks M settings allowed D asg in omega arith;
+        same-length = refl;
+        rest = refl;
+      }
+
+  module _ (owner kind list′ : List ℕ) (ask : Asked n blocks M settings allowed list) (sl : Slots blocks (M .b0) (M .b) owner kind) where
+    -- no matching gives every slot a tide
+    pub unsaturable : Unsaturable (Edge allowed settings owner kind) (blocks * M .b0) n → Rest n list list′ → Promise n blocks M settings allowed list list′ false
+    unsaturable un re =
+        record {
+          found = λ e. absurd (false≢true e);
+          none = λ _ D asg. no-assignment n blocks M settings allowed list owner kind D ask sl asg un;
+          same-length = re .same-length;
+          rest = re .rest;
+        }
+
+    -- one does, and the list is written
+    pub listed : (tide slot : List ℕ) → Saturated (Edge allowed settings owner kind) (blocks * M .b0) n (blocks * M .b0) tide slot
+        → Written n blocks (blocks * M .b0) allowed owner slot list′ → Rest n list list′ → Promise n blocks M settings allowed list list′ true
+    listed tide slot sat wr re =
+        record {
+          found = λ _. written-assigned n blocks M settings allowed owner kind tide slot list′ (ask .fit) sl sat wr;
+          none = λ e. absurd (true≢false e);
+          same-length = re .same-length;
+          rest = re .rest;
+        }
+
+  -- a tide may go nowhere
+  pub no-place : (list₁ list₂ : List ℕ) → (t : ℕ) × (t < n) × Nowhere allowed t blocks → Rest n list list₁ → Rest n list₁ list₂
+      → Promise n blocks M settings allowed list list₂ false
+  no-place list₁ list₂ w re re′ =
+      record {
+        found = λ e. absurd (false≢true e);
+        none = λ _ D asg. w .2 (D (w .0)) (asg .below (w .0) (w .1)) (asg .may (w .0) (w .1));
+        same-length = re′ .same-length ∙ re .same-length;
+        rest = re′ .rest ∙ re .rest;
+      }

@@ -1,0 +1,45 @@
+use mathlib.Core.Bool.{true≢false, false≢true}
+use native.Mathlib.Omega.{arith}
+use borrow.Author.Needs.{needs}
+use Rattle.matching.proofs.augment.wanted.Statement.{statement}
+use Rattle.matching.proofs.augment.wanted.Tie as tie
+
+mul-if1 : tie.Need-mul-if1
+mul-if1 c = search needs
+
+element-copy-out-if1 : tie.Need-element-copy-out-if1
+element-copy-out-if1 c = search needs
+
+returns : tie.Need-returns
+returns c = record { new = λ e. absurd (false≢true e); edge = λ e. absurd (false≢true e); not = λ _ _. c .if1 .taken }
+
+mul-edge : tie.Need-mul-edge
+mul-edge c = search needs
+
+element-copy-out-edge : tie.Need-element-copy-out-edge
+element-copy-out-edge c = search needs
+
+element-copy-out-edge-2 : tie.Need-element-copy-out-edge-2
+element-copy-out-edge-2 c = search needs
+
+edge-requires : tie.Need-edge-requires
+edge-requires c κs =
+    let p = c .before .before .before .before .before .before .pre in
+    let b = p .0 .blocks (c .before .before .before .before .before .before .args .s) (p .1 .0) in
+    omega (arith, p, b)
+
+returns-2 : tie.Need-returns-2
+returns-2 c = record { new = λ _. omega arith; edge = λ e. c .edge .ensures .holds e; not = λ e p. absurd (c .edge .ensures .fails e p) }
+
+pub wanted-spec : {M : Type 1} → statement M
+wanted-spec =
+    tie.close
+    (tie.spec
+    mul-if1
+    element-copy-out-if1
+    returns
+    mul-edge
+    element-copy-out-edge
+    element-copy-out-edge-2
+    edge-requires
+    returns-2)

@@ -1,0 +1,104 @@
+// The list that a matching gives: the block of each tide.
+ghost use mathlib.Core.Path.{_≡_};
+ghost use mathlib.Core.Bool.{true, false};
+ghost use Prim.Native.Nat.{ℕ, _+_, _*_, _<_, _≤_};
+ghost use lib.ListN.{length};
+ghost use Rattle.matching.specs.Matching.{at};
+ghost use Rattle.matching.specs.Steps.{FirstAllowed, Owned, Placed, Listed, Rest};
+
+// The first block that the tide t may go to, or 120 where there is none.
+fn first_allowed(allowed: &[u8], t: usize, blocks: usize) -> usize
+    requires { ⌜ blocks ≤ 120 ⌝ }
+    requires { ⌜ t < 120 ⌝ }
+    requires { ⌜ (t + 1) * 120 ≤ length (now allowed) ⌝ }
+    ensures { λ r. ⌜ FirstAllowed (now (allowed .entry)) t blocks r ⌝ }
+{
+    let mut m = 0;
+    while m < blocks {
+        if allowed[t * 120 + m] != 0 {
+            return m;
+        }
+        m += 1;
+    }
+    120
+}
+
+// The block of the tide t: its slot's, or else the first allowed one; 120 where there is none.
+fn block_of(
+    allowed: &[u8],
+    blocks: usize,
+    owner: &[usize; 120],
+    slots: usize,
+    slot: &[usize; 120],
+    t: usize,
+) -> usize
+    requires { ⌜ blocks ≤ 120 ⌝ }
+    requires { ⌜ t < 120 ⌝ }
+    requires { ⌜ slots ≤ 120 ⌝ }
+    requires { ⌜ (t + 1) * 120 ≤ length (now allowed) ⌝ }
+    requires { ⌜ Owned (now allowed) (now owner) (now slot) blocks slots t ⌝ }
+    ensures { λ r. ⌜ Placed (now (allowed .entry)) (now (owner .entry)) (now (slot .entry)) blocks slots t r ⌝ }
+{
+    let s = slot[t];
+    if s < slots {
+        return owner[s];
+    }
+    first_allowed(allowed, t, blocks)
+}
+
+// Writes the block of each tide to the front of list. False where a tide may go to no block.
+pub fn write_list(
+    allowed: &[u8],
+    n: usize,
+    blocks: usize,
+    owner: &[usize; 120],
+    slots: usize,
+    slot: &[usize; 120],
+    list: &mut [u8],
+) -> bool
+    requires { ⌜ blocks ≤ 120 ⌝ }
+    requires { ⌜ n ≤ 120 ⌝ }
+    requires { ⌜ slots ≤ 120 ⌝ }
+    requires { ⌜ n * 120 ≤ length (now allowed) ⌝ }
+    requires { ⌜ n ≤ length (now list) ⌝ }
+    requires { ⌜ ((t : ℕ) → t < n → Owned (now allowed) (now owner) (now slot) blocks slots t) ⌝ }
+    ensures { λ r. ⌜ Listed n blocks slots (now (allowed .entry)) (now (owner .entry)) (now (slot .entry)) (now (list .entry)) (now (list .exit)) r ⌝ }
+{
+    let mut t = 0;
+    while t < n {
+        let m = block_of(allowed, blocks, owner, slots, slot, t);
+        if m >= blocks {
+            return false;
+        }
+        list[t] = m as u8;
+        t += 1;
+    }
+    true
+}
+
+// Leaves in list the blocks that a partial matching gives, where it gives one.
+pub fn write_partial(
+    n: usize,
+    owner: &[usize; 120],
+    slots: usize,
+    slot: &[usize; 120],
+    list: &mut [u8],
+)
+    requires { ⌜ n ≤ 120 ⌝ }
+    requires { ⌜ slots ≤ 120 ⌝ }
+    requires { ⌜ n ≤ length (now list) ⌝ }
+    requires { ⌜ ((x : ℕ) → x < slots → at (now owner) x < 120) ⌝ }
+    ensures { λ _. ⌜ Rest n (now (list .entry)) (now (list .exit)) ⌝ }
+{
+    let mut t = 0;
+    while t < n {
+        let s = slot[t];
+        if s < slots {
+            let m = owner[s];
+            list[t] = m as u8;
+            t += 1;
+        } else {
+            t += 1;
+        }
+    }
+}

@@ -1,0 +1,112 @@
+// A first matching, made from a hint of each tide's block. The hint may be anything.
+use crate::augment::edge;
+use crate::augment::swap;
+ghost use mathlib.Core.Path.{_≡_};
+ghost use Prim.Native.Nat.{ℕ, _+_, _*_, _<_, _≤_};
+ghost use lib.ListN.{length};
+ghost use Rattle.matching.specs.Matching.{at, Matching};
+ghost use Rattle.matching.specs.Graph.{Edge, Sized};
+
+fn wide(x: u8) -> usize {
+    x as usize
+}
+
+// Gives the free tide t the next slot of block m and kind k, where it is free and can hold t.
+fn take_next(
+    allowed: &[u8],
+    settings: &[u8],
+    owner: &[usize; 120],
+    kind: &[u8; 120],
+    slots: usize,
+    n: usize,
+    tide: &mut [usize; 120],
+    slot: &mut [usize; 120],
+    next: &mut [u8; 1080],
+    m: usize,
+    k: u8,
+    t: usize,
+)
+    requires { ⌜ Sized (now allowed) (now settings) (now owner) (now kind) slots n ⌝ }
+    requires { ⌜ Matching (Edge (now allowed) (now settings) (now owner) (now kind)) slots n (now tide) (now slot) ⌝ }
+    requires { ⌜ m < 120 ⌝ }
+    requires { ⌜ k ≤ 8 ⌝ }
+    requires { ⌜ t < n ⌝ }
+    ensures { λ _. ⌜ Matching (Edge (now (allowed .entry)) (now (settings .entry)) (now (owner .entry)) (now (kind .entry))) slots n (now (tide .exit)) (now (slot .exit)) ⌝ }
+{
+    let s = wide(next[m * 9 + (k as usize)]);
+    if s >= slots {
+        return;
+    }
+    if slot[t] < slots {
+        return;
+    }
+    if owner[s] != m {
+        return;
+    }
+    if kind[s] != k {
+        return;
+    }
+    if !edge(allowed, settings, owner[s], kind[s], t) {
+        return;
+    }
+    swap(tide, slot, s, t, n);
+    next[m * 9 + (k as usize)] = (s + 1) as u8;
+}
+
+// Starts a matching from the hint: each tide takes a slot of its setting in its block, or else one of
+// any setting.
+pub fn adopt(
+    allowed: &[u8],
+    settings: &[u8],
+    owner: &[usize; 120],
+    kind: &[u8; 120],
+    slots: usize,
+    n: usize,
+    tide: &mut [usize; 120],
+    slot: &mut [usize; 120],
+    next: &mut [u8; 1080],
+    hint: &[u8],
+)
+    requires { ⌜ Sized (now allowed) (now settings) (now owner) (now kind) slots n ⌝ }
+    requires { ⌜ n ≤ length (now hint) ⌝ }
+    requires { ⌜ Matching (Edge (now allowed) (now settings) (now owner) (now kind)) slots n (now tide) (now slot) ⌝ }
+    ensures { λ _. ⌜ Matching (Edge (now (allowed .entry)) (now (settings .entry)) (now (owner .entry)) (now (kind .entry))) slots n (now (tide .exit)) (now (slot .exit)) ⌝ }
+{
+    let mut t = 0;
+    while t < n {
+        let m = wide(hint[t]);
+        if m < 120 {
+            take_next(
+                allowed,
+                settings,
+                owner,
+                kind,
+                slots,
+                n,
+                tide,
+                slot,
+                next,
+                m,
+                settings[t],
+                t,
+            );
+            take_next(
+                allowed,
+                settings,
+                owner,
+                kind,
+                slots,
+                n,
+                tide,
+                slot,
+                next,
+                m,
+                0,
+                t,
+            );
+            t += 1;
+        } else {
+            t += 1;
+        }
+    }
+}

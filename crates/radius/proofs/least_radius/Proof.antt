@@ -1,0 +1,67 @@
+-- Radii upwards, until one has an assignment. Assumes nothing.
+use native.Mathlib.Omega.{arith}
+use Rattle.radius.specs.Attempts.{Kept, kept-same, kept-on, lowest-small, first-lowest, next-lowest, least-found}
+use Rattle.radii.specs.Radii.{Lowest}
+use Rattle.radii.specs.Posed.{posed}
+use lib.ListN.{length}
+use mathlib.Core.Path.{_≡_, refl, _∙_}
+use Prim.Native.Nat.{_<_, _-_}
+use Rattle.radius.proofs.least_radius.Statement.{statement}
+use Rattle.radius.proofs.least_radius.Tie as tie
+
+abbrev Inv-loop : tie.InvT-loop
+Inv-loop distances settings n minima centres₀ allowed₀ list₀ totals low g₀ centres allowed list g = Lowest (posed distances settings n minima) g × (g < 1048576) × (length centres ≡ 120) × (length allowed ≡ length allowed₀) × Kept n list₀ list
+
+abbrev μ-loop : tie.MeasureT-loop
+μ-loop distances settings n minima centres₀ allowed₀ list₀ totals low g₀ centres allowed list g = 1048576 - g
+
+count-settings-requires : tie.Need-count-settings-requires Inv-loop μ-loop
+count-settings-requires c κs = (c .before .before .before .before .before .pre .0 .settings-long, refl)
+
+lower-bound-requires : tie.Need-lower-bound-requires Inv-loop μ-loop
+lower-bound-requires c κs = c .before .before .before .before .before .before .pre .0
+
+first-from-requires : tie.Need-first-from-requires Inv-loop μ-loop
+first-from-requires c κs = (c .before .before .before .before .before .before .before .pre .0 .few, c .before .before .before .before .before .before .before .pre .0 .distances-long)
+
+loop-holds : tie.Need-loop-holds Inv-loop μ-loop
+loop-holds c = let l = first-lowest (c .before .before .before .before .before .before .before .before .pre .1 .0) (c .before .before .before .before .before .before .before .before .pre .1 .1 .0) (c .before .lower-bound .result) (c .first-from .result) (c .before .lower-bound .ensures) (c .first-from .ensures) in (l, lowest-small (c .before .before .before .before .before .before .before .before .pre .1 .0) (c .before .before .before .before .before .before .before .before .pre .1 .1 .0) (c .first-from .result) l, c .before .before .before .before .before .before .before .before .pre .1 .1 .1, refl, kept-same _ _)
+
+find-centres-requires : tie.Need-find-centres-requires Inv-loop μ-loop
+find-centres-requires c κs = (c .before .before .before .before .before .before .before .before .before .before .pre .0 .few, c .before .before .before .before .before .before .before .before .before .before .pre .0 .distances-long, c .before .loop .inv .2)
+
+attempt-requires : tie.Need-attempt-requires Inv-loop μ-loop
+attempt-requires c κs = let i = c .before .before .before .before .before .before .loop .inv in let k = i .4 .same-length in (c .before .before .before .before .before .before .before .before .before .before .before .before .before .before .before .pre .0, (c .before .before .before .before .before .before .before .before .before .before .before .before .before .before .before .pre .1 .0, (c .before .before .before .before .before .before .before .before .before .count-settings .ensures, (c .before .before .before .before .find-centres .ensures, (i .1, omega (arith, i .3), omega arith)))))
+
+same-length : tie.Need-same-length Inv-loop μ-loop
+same-length c = c .before .before .before .before .before .attempt .ensures .0 .same-length ∙ c .before .before .before .before .before .before .before .before .before .before .before .before .loop .inv .3
+
+same-length-2 : tie.Need-same-length-2 Inv-loop μ-loop
+same-length-2 c = c .before .before .before .before .before .attempt .ensures .1 .same-length ∙ c .before .before .before .before .before .before .before .before .before .before .before .before .loop .inv .4 .same-length
+
+returns : tie.Need-returns Inv-loop μ-loop
+returns c = (least-found (c .before .before .before .before .before .before .before .before .before .before .before .before .loop .inv .0) (c .before .before .before .before .before .before .before .before .before .before .find-centres .ensures) (c .before .before .before .before .before .before .before .before .before .before .before .before .loop .inv .3) (c .before .before .before .before .before .attempt .ensures .0) (c .if1 .taken), kept-on (c .before .before .before .before .before .before .before .before .before .before .before .before .loop .inv .4) (c .before .before .before .before .before .attempt .ensures .1))
+
+loop-less : tie.Need-loop-less Inv-loop μ-loop
+loop-less c = let l = next-lowest (c .before .before .before .before .before .before .before .before .before .before .before .before .before .before .before .before .before .before .before .before .before .pre .1 .0) (c .before .before .before .before .before .before .before .before .before .before .before .before .before .before .before .before .before .before .before .before .before .pre .1 .1 .0) (c .before .before .before .before .before .before .before .before .before .before .before .before .loop .inv .0) (c .before .before .before .before .before .attempt .ensures .0) (omega arith) in let q = lowest-small (c .before .before .before .before .before .before .before .before .before .before .before .before .before .before .before .before .before .before .before .before .before .pre .1 .0) (c .before .before .before .before .before .before .before .before .before .before .before .before .before .before .before .before .before .before .before .before .before .pre .1 .1 .0) (c .before .before .before .before .before .attempt .result) l in omega arith
+
+loop-again : tie.Need-loop-again Inv-loop μ-loop
+loop-again c = let l = next-lowest (c .before .before .before .before .before .before .before .before .before .before .before .before .before .before .before .before .before .before .before .before .before .pre .1 .0) (c .before .before .before .before .before .before .before .before .before .before .before .before .before .before .before .before .before .before .before .before .before .pre .1 .1 .0) (c .before .before .before .before .before .before .before .before .before .before .before .before .loop .inv .0) (c .before .before .before .before .before .attempt .ensures .0) (omega arith) in (l, lowest-small (c .before .before .before .before .before .before .before .before .before .before .before .before .before .before .before .before .before .before .before .before .before .pre .1 .0) (c .before .before .before .before .before .before .before .before .before .before .before .before .before .before .before .before .before .before .before .before .before .pre .1 .1 .0) (c .before .before .before .before .before .attempt .result) l, c .before .before .before .before .before .before .before .before .before .before .find-centres .ensures .front .size, c .before .before .before .before .before .attempt .ensures .0 .same-length ∙ c .before .before .before .before .before .before .before .before .before .before .before .before .loop .inv .3, kept-on (c .before .before .before .before .before .before .before .before .before .before .before .before .loop .inv .4) (c .before .before .before .before .before .attempt .ensures .1))
+
+pub least-radius-spec : {M : Type 1} → statement M
+least-radius-spec =
+    tie.close
+    (tie.spec
+    Inv-loop
+    μ-loop
+    count-settings-requires
+    lower-bound-requires
+    first-from-requires
+    loop-holds
+    find-centres-requires
+    attempt-requires
+    same-length
+    same-length-2
+    returns
+    loop-less
+    loop-again)

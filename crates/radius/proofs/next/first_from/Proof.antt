@@ -1,0 +1,22 @@
+-- The least candidate from a bound on. Assumes nothing.
+use native.Mathlib.Omega.{arith}
+use Rattle.radius.specs.Next.{FirstFrom, first-zero, first-next}
+use mathlib.Core.Path.{sym, subst}
+use borrow.Author.Needs.{needs}
+use Rattle.radius.proofs.next.first_from.Statement.{statement}
+use Rattle.radius.proofs.next.first_from.Tie as tie
+
+returns : tie.Need-returns
+returns c = subst (λ z. FirstFrom (c .before .before .args .distances .now) (c .before .before .args .n) z 0) (sym (c .if1 .taken)) (first-zero (c .before .before .args .distances .now) (c .before .before .args .n))
+
+sub-next-of-all : tie.Need-sub-next-of-all
+sub-next-of-all c = search needs
+
+next-of-all-requires : tie.Need-next-of-all-requires
+next-of-all-requires c κs = search needs
+
+returns-2 : tie.Need-returns-2
+returns-2 c = first-next (c .before .before .before .args .distances .now) (c .before .before .before .args .n) (c .before .before .before .args .g) (c .next-of-all .result) (omega arith) (c .next-of-all .ensures)
+
+pub first-from-spec : {M : Type 1} → statement M
+first-from-spec = tie.close (tie.spec returns sub-next-of-all next-of-all-requires returns-2)

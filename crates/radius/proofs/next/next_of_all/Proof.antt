@@ -1,0 +1,36 @@
+-- The next radius of all rows. Assumes nothing.
+use native.Mathlib.Omega.{arith}
+use Rattle.radius.specs.Next.{Next, InRows, next-none, rows-step}
+use mathlib.Core.Path.{_≡_, subst}
+use Prim.Native.Nat.{_≤_, _-_}
+use Rattle.radius.proofs.next.next_of_all.Statement.{statement}
+use Rattle.radius.proofs.next.next_of_all.Tie as tie
+
+abbrev Inv-loop : tie.InvT-loop
+Inv-loop distances n g best₀ c₀ best c = (c ≤ n) × Next (InRows distances n (λ i. i) c) g 1048576 best
+
+abbrev μ-loop : tie.MeasureT-loop
+μ-loop distances n g best₀ c₀ best c = n - c
+
+loop-holds : tie.Need-loop-holds Inv-loop μ-loop
+loop-holds c = (omega arith, next-none _ _ _ (λ x v. omega (arith, v .1)))
+
+next-in-row-requires : tie.Need-next-in-row-requires Inv-loop μ-loop
+next-in-row-requires c κs = (c .before .before .before .pre .0, c .loop-test .taken, c .before .before .before .pre .1)
+
+add-c : tie.Need-add-c Inv-loop μ-loop
+add-c c = omega arith
+
+loop-less : tie.Need-loop-less Inv-loop μ-loop
+loop-less c = omega arith
+
+loop-again : tie.Need-loop-again Inv-loop μ-loop
+loop-again c = (omega arith, rows-step (c .before .before .before .before .args .distances .now) (c .before .before .before .before .args .g) 1048576 (c .before .before .loop .best) (c .next-in-row .result) (c .before .before .before .before .args .n) (λ i. i) (c .before .before .loop .c) (c .before .before .loop .inv .1) (c .next-in-row .ensures))
+
+returns : tie.Need-returns Inv-loop μ-loop
+returns c = let e : c .before .loop .c ≡ c .before .before .before .args .n = omega arith in subst (λ z. Next (InRows (c .before .before .before .args .distances .now) (c .before .before .before .args .n) (λ i. i) z) (c .before .before .before .args .g) 1048576 (c .before .loop .best)) e (c .before .loop .inv .1)
+
+pub next-of-all-spec : {M : Type 1} → statement M
+next-of-all-spec =
+    tie.close
+    (tie.spec Inv-loop μ-loop loop-holds next-in-row-requires add-c loop-less loop-again returns)
