@@ -2,7 +2,7 @@
 use Prim.Native.Nat.{ℕ, zero, suc, _+_, _-_, _≤_, _<_, zero-le}
 use native.Mathlib.Nat.{not-suc-le-zero, le-trans}
 use native.Mathlib.Omega.{arith}
-use mathlib.Core.Path.{_≡_, refl, sym, _∙_, subst}
+use mathlib.Core.Path.{_≡_, refl, sym, ap, ap₂, _∙_, subst}
 use mathlib.Core.Logic.{_⊎_, inl, inr, ⊎-elim, _↔_}
 use mathlib.Core.Bool.{Bool, true, false, cond, _&&_, not}
 use mathlib.Core.List.{List, [], _∷_, _++_, headD, List·Memᴰ·append-cases, Memᴰ·append-left, Memᴰ·append-right, Memᴰ·cast, List·Memᴰ·eq-of-singleton}
@@ -176,6 +176,30 @@ module _ (P : Problem) (D : ℕ → ℕ) where
   pub feasible-T : T (feasible P D) ↔ Feasible P D
   unfolding feasible
   feasible-T = (every-at (P .size) (λ t. P .enough (block D (D t))), every-of (P .size) (λ t. P .enough (block D (D t))))
+
+-- ---- a partition is what it gives the tides
+
+pub blocks-same : (D E : ℕ → ℕ) (m t : ℕ) → D t ≡ E t → block D m t ≡ block E m t
+unfolding block
+blocks-same D E m t e = ap (λ z. eqb z m) e
+
+greatest-same : (n : ℕ) (f h : ℕ → ℕ) → ((t : ℕ) → t < n → f t ≡ h t) → greatest n f ≡ greatest n h
+greatest-same n f h e =
+    let a = greatest-le n f (greatest n h) (λ t l. rw (e t l) (greatest-ge n h t l)) in
+    let b = greatest-le n h (greatest n f) (λ t l. rw (← (e t l)) (greatest-ge n f t l)) in
+    omega arith
+
+module _ (P : Problem) (D E : ℕ → ℕ) where
+  pub diameter-same : (m : ℕ) → ((t : ℕ) → t < P .size → D t ≡ E t) → diameter P D m ≡ diameter P E m
+  unfolding diameter
+  diameter-same m e =
+      greatest-same (P .size) _ _ (λ t l. greatest-same t _ _ (λ u k.
+      ap₂ (λ a b. cond (a && b) (P .dist u t) 0) (blocks-same D E m u (e u (omega arith))) (blocks-same D E m t (e t l))))
+
+  pub greatestDiameter-same : ((t : ℕ) → t < P .size → D t ≡ E t) → greatestDiameter P D ≡ greatestDiameter P E
+  unfolding greatestDiameter
+  greatestDiameter-same e =
+      greatest-same (P .size) _ _ (λ t l. greatest-same t _ _ (λ u k. ap₂ (λ a b. cond (eqb a b) (P .dist u t) 0) (e u (omega arith)) (e t l)))
 
 -- ---- choices: the blocks whose centre is at most g away. Nothing else is used of them but their order, in Dictionary.antt
 

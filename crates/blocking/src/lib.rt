@@ -1,0 +1,4 @@
+// Centres, Block and Judge.
+mod core;
+mod first;
+mod measure;
