@@ -1,23 +1,20 @@
 -- The radius, centres and list that the search ends with are those of the problem. Assumes nothing.
-use Prim.Native.Nat.{ℕ, zero, suc, _+_, _-_, _*_, _≤_, _<_}
+use Prim.Native.Nat.{ℕ, suc, _+_, _-_, _≤_, _<_}
 use native.Mathlib.Omega.{arith}
 use native.Mathlib.Numerals.{add-one}
-use mathlib.Core.Path.{_≡_, refl, sym, ap, ap₂, _∙_, subst}
-use mathlib.Core.Bool.{Bool, true}
-use mathlib.Core.List.{List, [], _∷_, _++_}
-use lib.Dec.{T, eqb}
-use lib.ListN.{length, getD, take, drop}
+use mathlib.Core.Path.{_≡_, sym, ap, ap₂, _∙_, subst}
+use mathlib.Core.List.{List, _++_}
+use lib.ListN.{length, getD, take, drop, set}
 use lib.Seq.{getD-take}
-use Rattle.lists.specs.Lists.{_∈_, tabulate, overwrite, count, before}
+use Rattle.lists.specs.Lists.{tabulate, overwrite, count}
 use Rattle.lists.specs.Counts.{count-same}
-use Rattle.lists.specs.Tables.{length-tabulate, getD-tabulate, tabulate-is, getD-overwrite, length-overwrite}
+use Rattle.lists.specs.Tables.{length-tabulate, getD-tabulate, tabulate-is, getD-overwrite, getD-past, length-overwrite, overwrite-none, overwrite-step, overwrite-done}
 use Rattle.study.specs.declared.Minima.{Minima}
-use Rattle.study.specs.Problem.{Problem, centresAmong, centres, choices, block, labels, radius, blocking, diameter, greatestDiameter}
+use Rattle.study.specs.Problem.{Problem, centresAmong, centres, block, labels, radius, blocking, diameter, greatestDiameter}
 use Rattle.study.specs.Theorems.{Assignment, FirstAssignment}
 use Rattle.study.specs.ProblemLaws.{mem-choices, blocks-same, diameter-same, greatestDiameter-same}
 use Rattle.study.specs.Dictionary.{choice-before, blocking-found}
-use Rattle.matching.specs.Promise.{Assigned}
-use Rattle.radii.specs.Posed.{within, posed, Posed, Proper}
+use Rattle.radii.specs.Posed.{within, posed, Proper}
 use Rattle.radii.specs.Radii.{lowest-radius}
 use Rattle.radius.specs.Front.{Front, CentresAt, front-at, front-few, centres-few}
 use Rattle.radius.specs.Assigning.{numbered, numbered-at, allowed-by, assigns}
@@ -142,3 +139,25 @@ core-blocks {d} {s} {n} {M} {g} {count₁} {cs = cs} {list = list} few A R =
 
     block-same : (i : ℕ) → count n (block (labels list) (suc i)) ≡ count n (block (labels (blocking P)) (suc i))
     block-same i = count-same n (block (labels list) (suc i)) (block (labels (blocking P)) (suc i)) (λ t l. blocks-same (labels list) (labels (blocking P)) (suc i) t (A .same t l))
+
+-- ---- the first t places are one more
+
+pub record NumberedTo (t : ℕ) (old list : List ℕ) : Type 0 where
+  pub is : list ≡ overwrite t (λ x. labels old x + 1) old
+
+pub numbered-none : (old : List ℕ) → NumberedTo 0 old old
+numbered-none old = record { is = overwrite-none (λ x. labels old x + 1) old }
+
+pub numbered-length : {t : ℕ} {old list : List ℕ} → NumberedTo t old list → t ≤ length old → length list ≡ length old
+numbered-length {t} {old} N l = ap length (N .is) ∙ length-overwrite (λ x. labels old x + 1) old t l
+
+pub numbered-here : {t : ℕ} {old list : List ℕ} → NumberedTo t old list → getD list t 0 ≡ labels old t
+unfolding labels
+numbered-here {t} {old} N = ap (λ z. getD z t 0) (N .is) ∙ getD-past (λ x. labels old x + 1) old t t 0 (omega arith)
+
+pub numbered-more : {t : ℕ} {old list : List ℕ} → NumberedTo t old list → t < length old → NumberedTo (t + 1) old (set list t (getD list t 0 + 1))
+numbered-more {t} {old} {list} N l =
+    record { is = overwrite-step (λ x. labels old x + 1) old (getD list t 0 + 1) (N .is) (ap (λ z. z + 1) (numbered-here N)) l }
+
+pub numbered-done : {t n : ℕ} {old list : List ℕ} → t ≡ n → NumberedTo t old list → list ≡ overwrite n (λ x. labels old x + 1) old
+numbered-done {old = old} e N = overwrite-done (λ x. labels old x + 1) old e (N .is)

@@ -1,12 +1,12 @@
 // The blocking of a valid study that has enough tides.
 use crate::first::first_assignment;
 use crate::measure::measure;
-use radius::least_radius;
 use radius::Found;
+use radius::least_radius;
 use study::Minima;
 ghost use mathlib.Core.Path.{_≡_};
 ghost use mathlib.Core.List.{_++_};
-ghost use Prim.Native.Nat.{ℕ, _+_, _*_, _<_, _≤_};
+ghost use Prim.Native.Nat.{ℕ, _+_, _<_, _≤_};
 ghost use lib.ListN.{length, drop};
 ghost use Rattle.lists.specs.Lists.{overwrite};
 ghost use Rattle.study.specs.Problem.{labels, blocking};
@@ -37,22 +37,21 @@ fn number(list: &mut [u8], n: usize)
 }
 
 // The least radius with an assignment, its centres, and the first assignment there.
-fn assign(distances: &[u32], settings: &[u8], n: usize, minima: Minima, centres: &mut [usize; 120], list: &mut [u8]) -> Found
+fn assign(
+    distances: &[u32],
+    settings: &[u8],
+    n: usize,
+    minima: Minima,
+    centres: &mut [usize; 120],
+    list: &mut [u8],
+) -> Found
     requires { ⌜ Sized (now distances) (now settings) n minima ⌝ }
     requires { ⌜ Proper (now distances) (now settings) n minima ⌝ }
     requires { ⌜ (0 < n) × (length (now centres) ≡ 120) × (n ≤ length (now list)) ⌝ }
     ensures { λ r. ⌜ Assigns (now (distances .entry)) (now (settings .entry)) n minima (r .radius) (r .count) (now (centres .exit)) (now (list .entry)) (now (list .exit)) ⌝ }
 {
     let mut allowed: [u8; 14400] = [0; 14400];
-    let found = least_radius(
-        distances,
-        settings,
-        n,
-        minima,
-        centres,
-        &mut allowed,
-        list,
-    );
+    let found = least_radius(distances, settings, n, minima, centres, &mut allowed, list);
     let count = found.count;
     first_assignment(n, count, minima, settings, &mut allowed, list);
     number(list, n);
@@ -60,7 +59,13 @@ fn assign(distances: &[u32], settings: &[u8], n: usize, minima: Minima, centres:
 }
 
 // The blocking: radius, centres and list, and the blocks' sizes and diameters.
-pub fn block_rows(distances: &[u32], settings: &[u8], n: usize, minima: Minima, list: &mut [u8]) -> Rows
+pub fn block_rows(
+    distances: &[u32],
+    settings: &[u8],
+    n: usize,
+    minima: Minima,
+    list: &mut [u8],
+) -> Rows
     requires { ⌜ Sized (now distances) (now settings) n minima ⌝ }
     requires { ⌜ Proper (now distances) (now settings) n minima ⌝ }
     requires { ⌜ (0 < n) × (n ≤ length (now list)) ⌝ }

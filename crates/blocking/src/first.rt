@@ -2,12 +2,11 @@
 use matching::search;
 use study::Minima;
 ghost use mathlib.Core.Path.{_≡_};
-ghost use mathlib.Core.Logic.{_⊎_};
 ghost use Prim.Native.Nat.{ℕ, _+_, _*_, _<_, _≤_};
 ghost use lib.ListN.{length};
 ghost use Rattle.lists.specs.Lists.{overwrite};
 ghost use Rattle.study.specs.Problem.{labels};
-ghost use Rattle.matching.specs.Promise.{allows, Assigned, Asked};
+ghost use Rattle.matching.specs.Promise.{Assigned, Asked};
 ghost use Rattle.radius.specs.Attempts.{Kept};
 ghost use Rattle.blocking.specs.Narrowed.{Narrowed};
 ghost use Rattle.blocking.specs.First.{First, Tried, Settled};
@@ -37,7 +36,14 @@ fn copy(from: &[u8], to: &mut [u8], n: usize)
 }
 
 // Whether the table has an assignment, which is then written to list. On no, list stays.
-fn try_search(n: usize, blocks: usize, minima: Minima, settings: &[u8], allowed: &[u8], list: &mut [u8]) -> bool
+fn try_search(
+    n: usize,
+    blocks: usize,
+    minima: Minima,
+    settings: &[u8],
+    allowed: &[u8],
+    list: &mut [u8],
+) -> bool
     requires { ⌜ Asked n blocks minima (now settings) (now allowed) (now list) ⌝ }
     ensures { λ r. ⌜ Tried n blocks minima (now (settings .entry)) (now (allowed .entry)) (now (list .entry)) (now (list .exit)) r ⌝ }
 {
@@ -58,7 +64,16 @@ fn wide(x: u8) -> usize
 
 // Whether there is an assignment that gives tide t a block below v, which is then written to list. The blocks from v on are
 // taken away from t.
-fn lower(n: usize, blocks: usize, minima: Minima, settings: &[u8], allowed: &mut [u8], list: &mut [u8], t: usize, v: usize) -> bool
+fn lower(
+    n: usize,
+    blocks: usize,
+    minima: Minima,
+    settings: &[u8],
+    allowed: &mut [u8],
+    list: &mut [u8],
+    t: usize,
+    v: usize,
+) -> bool
     requires { ⌜ Asked n blocks minima (now settings) (now allowed) (now list) ⌝ }
     requires { ⌜ (t < n) × (v < 120) ⌝ }
     ensures { λ _. ⌜ Narrowed t (λ (m : ℕ). m < v) (now (allowed .entry)) (now (allowed .exit)) ⌝ }
@@ -69,7 +84,15 @@ fn lower(n: usize, blocks: usize, minima: Minima, settings: &[u8], allowed: &mut
 }
 
 // Gives tide t the least block that an assignment with the tides before it as they are gives it, and leaves it that block alone.
-fn settle(n: usize, blocks: usize, minima: Minima, settings: &[u8], allowed: &mut [u8], list: &mut [u8], t: usize)
+fn settle(
+    n: usize,
+    blocks: usize,
+    minima: Minima,
+    settings: &[u8],
+    allowed: &mut [u8],
+    list: &mut [u8],
+    t: usize,
+)
     requires { ⌜ Asked n blocks minima (now settings) (now allowed) (now list) ⌝ }
     requires { ⌜ Assigned n blocks minima (now settings) (now allowed) (labels (now list)) ⌝ }
     requires { ⌜ t < n ⌝ }
@@ -85,7 +108,14 @@ fn settle(n: usize, blocks: usize, minima: Minima, settings: &[u8], allowed: &mu
 }
 
 // Turns an assignment into the first one in dictionary order. The table is used up.
-pub fn first_assignment(n: usize, blocks: usize, minima: Minima, settings: &[u8], allowed: &mut [u8], list: &mut [u8])
+pub fn first_assignment(
+    n: usize,
+    blocks: usize,
+    minima: Minima,
+    settings: &[u8],
+    allowed: &mut [u8],
+    list: &mut [u8],
+)
     requires { ⌜ Asked n blocks minima (now settings) (now allowed) (now list) ⌝ }
     requires { ⌜ Assigned n blocks minima (now settings) (now allowed) (labels (now list)) ⌝ }
     ensures { λ _. ⌜ First n blocks minima (now (settings .entry)) (now (allowed .entry)) (now (list .exit)) ⌝ }

@@ -49,7 +49,13 @@ fn wide(x: u8) -> usize
 }
 
 // Sizes and diameters of the blocks, which are numbered from 1, and the greatest diameter.
-pub fn measure(distances: &[u32], list: &[u8], n: usize, sizes: &mut [u8; 120], diameters: &mut [u32; 120]) -> u32
+pub fn measure(
+    distances: &[u32],
+    list: &[u8],
+    n: usize,
+    sizes: &mut [u8; 120],
+    diameters: &mut [u32; 120],
+) -> u32
     requires { ⌜ (n ≤ 120) × (n * 120 ≤ length (now distances)) × (n ≤ length (now list)) ⌝ }
     requires { ⌜ ((t : ℕ) → t < n → 1 ≤ labels (now list) t) ⌝ }
     requires { ⌜ ((t : ℕ) → t < n → labels (now list) t ≤ 120) ⌝ }

@@ -8,7 +8,7 @@ use native.Mathlib.Omega.{arith}
 use lib.Dec.{T, eqb, leb, eqb→eq, eqb-refl, nleb→lt}
 use lib.ListN.{getD}
 use borrow.Author.Tests.{eq-eqb, ne-eqb, lt-leb}
-use Rattle.lists.specs.Lists.{sum, count}
+use Rattle.lists.specs.Lists.{count}
 use Rattle.lists.specs.Tests.{and-T, T-left, T-right, eq→eqb}
 use Rattle.lists.specs.Counts.{sum-same, sum-le, count-all, count-into}
 use Rattle.study.specs.declared.Minima.{Minima}
@@ -16,9 +16,9 @@ use Rattle.study.specs.Problem.{block, labels}
 use Rattle.study.specs.StudyLaws.{Meets, meets-T}
 use Rattle.matching.specs.Promise.{allows, Assigned, Asked}
 use Rattle.matching.specs.Counting.{sum-none, sum-one, sum-const, count-before, count-apart, count-none, nth, Nth, nth-is, firsts, count-classes}
-use Rattle.matching.specs.Surplus.{ofSetting, needed, surplus, own-needed, own-setting, own-in, surplus-in, surplus-not, count-own, count-surplus}
-use Rattle.matching.specs.Matching.{at, Saturating, Unsaturable}
-use Rattle.matching.specs.Graph.{EdgeAt, Edge, Saturated}
+use Rattle.matching.specs.Surplus.{ofSetting, surplus, own-needed, own-setting, own-in, surplus-in, surplus-not, count-own, count-surplus}
+use Rattle.matching.specs.Matching.{at, Unsaturable}
+use Rattle.matching.specs.Graph.{Edge, Saturated}
 use Rattle.matching.specs.Slots.{total, blockSum, slotTest, Slots}
 use Rattle.matching.specs.Steps.{Written}
 

@@ -1,7 +1,7 @@
--- A tree all of whose slots are scanned, with no free tide seen: no matching gives every slot a tide. Assumes nothing.
-use mathlib.Core.Path.{_≡_, refl, sym, ap, _∙_, subst}
+-- The slots of a tree that are all scanned, with no free tide seen, are a Hall violator: no matching gives every slot a tide. Assumes nothing.
+use mathlib.Core.Path.{_≡_, sym, ap, _∙_}
 use mathlib.Core.List.{List}
-use Prim.Native.Nat.{ℕ, zero, suc, _+_, _-_, _≤_, _<_}
+use Prim.Native.Nat.{ℕ, _-_, _≤_, _<_}
 use native.Mathlib.Omega.{arith}
 use Rattle.lists.specs.Counts.{pigeonhole}
 use Rattle.matching.specs.Matching.{at, Saturating, Unsaturable, Matching, Tree, Closed}

@@ -2,11 +2,10 @@
 use mathlib.Core.Path.{_≡_, refl, sym, ap, _∙_}
 use mathlib.Core.List.{List}
 use mathlib.Core.Bool.{Bool, true, false, cond}
-use Prim.Native.Nat.{ℕ, zero, suc, _+_, _*_, _-_, _≤_, _<_}
-use native.Mathlib.Numerals.{add-one}
+use Prim.Native.Nat.{ℕ, suc, _+_, _*_, _-_, _≤_, _<_}
 use native.Mathlib.Nat.{mul-le-mul-right}
 use native.Mathlib.Omega.{arith}
-use lib.ListN.{length, getD, set, length-set}
+use lib.ListN.{set, length-set}
 use lib.Seq.{getD-set-same, getD-set-other}
 use Rattle.lists.specs.Lists.{sum, bit, count}
 use Rattle.lists.specs.Counts.{sum-zero, sum-suc, count-zero, count-same}
@@ -48,15 +47,15 @@ pub added-more : (pos m k i : ℕ) (owner₀ kind₀ owner kind : List ℕ) → 
     → Added pos m k (i + 1) owner₀ kind₀ (set owner (pos + i) m) (set kind (pos + i) k)
 added-more pos m k i owner₀ kind₀ owner kind ad l =
     record {
-      tables = record { ownerLen = length-set owner (pos + i) m ∙ ad .tables .ownerLen; kindLen = length-set kind (pos + i) k ∙ ad .tables .kindLen };
+      tables = record { owner-long = length-set owner (pos + i) m ∙ ad .tables .owner-long; kind-long = length-set kind (pos + i) k ∙ ad .tables .kind-long };
       law = law;
     }
   where
     law : (Q : ℕ → ℕ → Bool) → count (pos + (i + 1)) (slotTest Q (set owner (pos + i) m) (set kind (pos + i) k)) ≡ count pos (slotTest Q owner₀ kind₀) + cond (Q m k) (i + 1) 0
     law Q =
         let q : ℕ → Bool = slotTest Q (set owner (pos + i) m) (set kind (pos + i) k) in
-        let x : at (set owner (pos + i) m) (pos + i) ≡ m = getD-set-same owner (pos + i) m 0 (omega (arith, ad .tables .ownerLen)) in
-        let y : at (set kind (pos + i) k) (pos + i) ≡ k = getD-set-same kind (pos + i) k 0 (omega (arith, ad .tables .kindLen)) in
+        let x : at (set owner (pos + i) m) (pos + i) ≡ m = getD-set-same owner (pos + i) m 0 (omega (arith, ad .tables .owner-long)) in
+        let y : at (set kind (pos + i) k) (pos + i) ≡ k = getD-set-same kind (pos + i) k 0 (omega (arith, ad .tables .kind-long)) in
         let here : bit (q (pos + i)) ≡ bit (Q m k) = rw (x, y) in
         let below : count (pos + i) q ≡ count (pos + i) (slotTest Q owner kind)
         = count-same (pos + i) q (slotTest Q owner kind)

@@ -1,10 +1,10 @@
 -- One more slot in a tree: the holder h of a tide t that was not seen, seen from the slot s of the tree. Assumes nothing.
-use mathlib.Core.Path.{_≡_, refl, sym, ap, _∙_, subst}
+use mathlib.Core.Path.{_≡_, refl, sym, ap, _∙_}
 use mathlib.Core.List.{List}
-use Prim.Native.Nat.{ℕ, zero, suc, _+_, _-_, _≤_, _<_}
+use Prim.Native.Nat.{ℕ, zero, suc, _+_, _≤_, _<_}
 use native.Mathlib.Decide.{ℕ-discrete, decLt}
 use native.Mathlib.Omega.{arith}
-use lib.ListN.{length, getD, set, length-set}
+use lib.ListN.{set, length-set}
 use lib.Seq.{getD-set-same, getD-set-other}
 use Rattle.lists.specs.Counts.{pigeonhole}
 use Rattle.matching.specs.Matching.{at, Matching, Tree}
@@ -15,7 +15,7 @@ front h f zero = h
 front h f (suc i) = f i
 
 module _ (E : ℕ → ℕ → Type 0) (slots tides tail : ℕ) (tide slot from rank queue : List ℕ) (small : slots ≤ 120)
-    (fewTides : tides ≤ 120)
+    (few-tides : tides ≤ 120)
     (v : Matching E slots tides tide slot) (tr : Tree E slots tides tail tide slot from rank queue)
     (s t : ℕ) (sl : s < slots) (sr : at rank s < 120) (tl : t < tides) (new : slots ≤ at from t) (e : E s t) (hl : at slot t < slots) where
   -- the holder
@@ -77,13 +77,13 @@ module _ (E : ℕ → ℕ → Type 0) (slots tides tail : ℕ) (tide slot from r
   queue′ = set queue tail h
 
   from-t : at from′ t ≡ s
-  from-t = getD-set-same from t s 0 (omega (arith, tr .fromLen))
+  from-t = getD-set-same from t s 0 (omega (arith, tr .from-long))
 
   rank-h : at rank′ h ≡ tail
-  rank-h = getD-set-same rank h tail 0 (omega (arith, tr .rankLen))
+  rank-h = getD-set-same rank h tail 0 (omega (arith, tr .rank-long))
 
   queue-tail : at queue′ tail ≡ h
-  queue-tail = let r = room in getD-set-same queue tail h 0 (omega (arith, tr .queueLen))
+  queue-tail = let r = room in getD-set-same queue tail h 0 (omega (arith, tr .queue-long))
 
   -- what was in the tree stays as it was
   pub rank-old : (x : ℕ) → at rank x < 120 → at rank′ x ≡ at rank x
@@ -127,9 +127,9 @@ module _ (E : ℕ → ℕ → Type 0) (slots tides tail : ℕ) (tide slot from r
   pub pushed : Tree E slots tides (tail + 1) tide slot from′ rank′ queue′
   pushed =
       record {
-        fromLen = length-set from t s ∙ tr .fromLen;
-        rankLen = length-set rank h tail ∙ tr .rankLen;
-        queueLen = length-set queue tail h ∙ tr .queueLen;
+        from-long = length-set from t s ∙ tr .from-long;
+        rank-long = length-set rank h tail ∙ tr .rank-long;
+        queue-long = length-set queue tail h ∙ tr .queue-long;
         some = omega arith;
         few = let r = room in omega arith;
         root = let a = tr .root in rw (queue-old 0 (tr .some)) a;

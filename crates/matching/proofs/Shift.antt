@@ -1,13 +1,12 @@
--- One step along an alternating path: the slot s gets the free tide t, and its old tide goes free. Assumes nothing.
-use mathlib.Core.Path.{_≡_, refl, sym, ap, _∙_, subst}
+-- One step along an augmenting path: the slot s gets the free tide t, and its old tide goes free. Assumes nothing.
+use mathlib.Core.Path.{_≡_, sym, ap, _∙_}
 use mathlib.Core.List.{List}
 use mathlib.Core.Bool.{cond}
-use Prim.Native.Nat.{ℕ, zero, suc, _+_, _-_, _≤_, _<_}
+use Prim.Native.Nat.{ℕ, _+_, _≤_, _<_}
 use native.Mathlib.Decide.{ℕ-discrete, decLt}
 use native.Mathlib.Omega.{arith}
 use borrow.Author.Tests.{lt-ltb, le-ltb}
-use lib.ListN.{length, getD, set, length-set}
-use lib.Dec.{ltb}
+use lib.ListN.{length, set, length-set}
 use lib.Seq.{getD-set-same, getD-set-other}
 use Rattle.matching.specs.Matching.{at, Matching, Tree, Path, Kept, freed}
 
@@ -70,16 +69,16 @@ module _ (E : ℕ → ℕ → Type 0) (slots tides : ℕ) (tide slot : List ℕ)
       omega arith
 
   tide-s : at tide′ s ≡ t
-  tide-s = getD-set-same tide s t 0 (omega (arith, v .tideLen))
+  tide-s = getD-set-same tide s t 0 (omega (arith, v .tide-long))
 
   tide-other : (x : ℕ) → (x ≡ s → ⊥) → at tide′ x ≡ at tide x
   tide-other x n = getD-set-other tide s x t 0 n
 
   slot-t : at slot′ t ≡ s
-  slot-t = freed-t slot s t tides (v .slotLen) tl few o t-not-o
+  slot-t = freed-t slot s t tides (v .slot-long) tl few o t-not-o
 
   slot-o : o < tides → at slot′ o ≡ 120
-  slot-o h = freed-o slot s t tides (v .slotLen) tl few o h
+  slot-o h = freed-o slot s t tides (v .slot-long) tl few o h
 
   -- the tide of another slot stays with it
   slot-kept : (x : ℕ) → x < slots → (x ≡ s → ⊥) → at tide x < tides → at slot′ (at tide x) ≡ x
@@ -89,7 +88,7 @@ module _ (E : ℕ → ℕ → Type 0) (slots tides : ℕ) (tide slot : List ℕ)
       s
       t
       tides
-      (v .slotLen)
+      (v .slot-long)
       tl
       few
       o
@@ -122,7 +121,7 @@ module _ (E : ℕ → ℕ → Type 0) (slots tides : ℕ) (tide slot : List ℕ)
           let b : at slot′ y ≡ 120 = ap (at slot′) q ∙ slot-o a in
           absurd (omega arith)
       go (no n) (no m) =
-          let b = freed-other slot s t tides (v .slotLen) tl few o y n m in
+          let b = freed-other slot s t tides (v .slot-long) tl few o y n m in
           let k : at slot y < slots = omega arith in
           let r = v .back y yl k in
           rw b (tide-other (at slot y) (λ q. m (sym r ∙ ap (at tide) q)) ∙ r)
@@ -130,8 +129,8 @@ module _ (E : ℕ → ℕ → Type 0) (slots tides : ℕ) (tide slot : List ℕ)
   pub swapped : Matching E slots tides tide′ slot′
   swapped =
       record {
-        tideLen = length-set tide s t ∙ v .tideLen;
-        slotLen = freed-length slot s t o tides ∙ v .slotLen;
+        tide-long = length-set tide s t ∙ v .tide-long;
+        slot-long = freed-length slot s t o tides ∙ v .slot-long;
         edge = edge′;
         there = there′;
         back = back′;

@@ -1,13 +1,13 @@
--- The turns of the loops of `scan`, `grow` and `shift`, on plain lists. Assumes nothing.
-use mathlib.Core.Path.{_≡_, refl, sym, ap, _∙_, subst₂}
+-- The turns of the loops that build a matching, on plain lists: `scan`, `shift`, `visit`, `adopt`, `grow`, `improve`, `saturate`. Assumes nothing.
+use mathlib.Core.Path.{_≡_, refl, sym, ap, _∙_, subst, subst₂}
+use mathlib.Core.Logic.{_⊎_, inl, ⊎-elim}
 use mathlib.Core.List.{List}
-use mathlib.Core.Bool.{Bool, true, false}
-use Prim.Native.Nat.{ℕ, _+_, _*_, _-_, _≤_, _<_}
+use Prim.Native.Nat.{ℕ, _+_, _*_, _≤_, _<_}
 use native.Mathlib.Decide.{ℕ-discrete, decLt}
 use native.Mathlib.Omega.{arith}
-use lib.ListN.{length, getD, set, replicate, length-set, length-replicate, getD-replicate}
+use lib.ListN.{length, set, replicate, length-set, length-replicate, getD-replicate}
 use lib.Seq.{getD-set-same, getD-set-other}
-use Rattle.matching.specs.Matching.{at, Matching, Tree, Path, Kept, Closed, Unsaturable, freed}
+use Rattle.matching.specs.Matching.{at, Matching, Tree, Kept, Closed, freed}
 use Rattle.matching.specs.Graph.{EdgeAt, Edge, Sized, Scanning, Marked, Free, Searched, Augmented, Shifting, Saturated}
 use Rattle.matching.proofs.Push.{pushed, push-seen, push-here, push-rank, room, queue-old, rank-old}
 use Rattle.matching.proofs.Shift.{swapped, swap-free, swap-kept, swap-here, swap-root, swap-falls, swap-next, swap-edge, swap-path, tree-path}
@@ -152,10 +152,10 @@ module _ (allowed settings owner kind : List ℕ) (slots tides : ℕ) (z : Sized
   pub class-below : at owner s * 9 + at kind s < 1080
   class-below = omega (arith, z .blocks s sl, z .kinds s sl)
 
-  -- every tide that the slot can hold is seen
-  pub visit-known : (start : ℕ) (tide slot rank queue : List ℕ) → Tree E slots tides start tide slot from rank queue → at rank s < 120
-      → (at mark (at owner s * 9 + at kind s) ≡ 0 → ⊥) → Scanning E slots tides s start 120 start tide slot from rank queue from rank queue
-  visit-known start tide slot rank queue tr sr h =
+  -- every tide that the slot can hold is seen, from a slot of the kind k
+  pub visit-known : (k i start : ℕ) (tide slot rank queue : List ℕ) → Tree E slots tides start tide slot from rank queue → at rank s < 120
+      → (k ≡ 0) ⊎ (k ≡ at kind s) → i ≡ at owner s * 9 + k → (at mark i ≡ 0 → ⊥) → Scanning E slots tides s start 120 start tide slot from rank queue from rank queue
+  visit-known k i start tide slot rank queue tr sr w ei h =
       record {
         tree = tr;
         grown = omega arith;
@@ -163,7 +163,8 @@ module _ (allowed settings owner kind : List ℕ) (slots tides : ℕ) (z : Sized
         in-tree = sr;
         seen = λ t tl k. k;
         old = λ x xl k. refl;
-        done = λ t l tl e. mk .seen (at owner s) (at kind s) (z .blocks s sl) (z .kinds s sl) h t tl e;
+        done = λ t l tl e. mk .seen (at owner s) k (z .blocks s sl) (⊎-elim (λ q. omega arith) (λ q. omega (arith, z .kinds s sl)) w) (rw (← ei) h) t tl
+            (record { may = e .may; suits = ⊎-elim (λ q. inl q) (λ q. subst (λ (i : ℕ). (i ≡ 0) ⊎ (at settings t ≡ i)) (sym q) (e .suits)) w });
       }
 
   -- the slot is scanned, and its block and kind marked
@@ -196,8 +197,8 @@ blank-marked allowed settings from slots tides =
 pub blank-matching : (E : ℕ → ℕ → Type 0) (slots tides : ℕ) → slots ≤ 120 → tides ≤ 120 → Matching E slots tides (replicate 120 120) (replicate 120 120)
 blank-matching E slots tides small few =
     record {
-      tideLen = length-replicate {A = ℕ} 120 120;
-      slotLen = length-replicate {A = ℕ} 120 120;
+      tide-long = length-replicate {A = ℕ} 120 120;
+      slot-long = length-replicate {A = ℕ} 120 120;
       edge = λ s sl h. let a = blank s (omega arith) in absurd (omega arith);
       there = λ s sl h. let a = blank s (omega arith) in absurd (omega arith);
       back = λ t tl h. let a = blank t (omega arith) in absurd (omega arith);
@@ -315,9 +316,9 @@ module _ (E : ℕ → ℕ → Type 0) (slots tides root : ℕ) (tide slot : List
   pub alone : Tree E slots tides 1 tide slot blank rank₁ queue₁
   alone =
       record {
-        fromLen = blank-len;
-        rankLen = length-set blank root 0 ∙ blank-len;
-        queueLen = length-set blank 0 root ∙ blank-len;
+        from-long = blank-len;
+        rank-long = length-set blank root 0 ∙ blank-len;
+        queue-long = length-set blank 0 root ∙ blank-len;
         some = omega arith;
         few = omega arith;
         root = rw queue-root free;
@@ -333,23 +334,22 @@ module _ (E : ℕ → ℕ → Type 0) (slots tides root : ℕ) (tide slot : List
         through = λ s sl h p. let q = only s sl h in let z : at rank₁ s ≡ 0 = rw q rank-root in absurd (omega arith);
       }
 
-  pub alone-root : root ≡ at queue₁ 0
-  alone-root = sym queue-root
-
 -- ---- the slots in turn
 module _ (E : ℕ → ℕ → Type 0) (slots tides : ℕ) (tide slot : List ℕ) where
-  pub saturated-start : Matching E slots tides tide slot → Saturated E slots tides 0 tide slot
-  saturated-start v = record { matching = v; full = λ x l. absurd (omega arith) }
+  pub saturated-start : Matching E slots tides tide slot → (i : ℕ) → i ≤ 0 → Saturated E slots tides i tide slot
+  saturated-start v i h = record { matching = v; full = λ x l. absurd (omega arith) }
 
-  module _ (s : ℕ) (fu : Saturated E slots tides s tide slot) where
+  module _ (s : ℕ) (sat : Saturated E slots tides s tide slot) where
     pub saturated-end : slots ≤ s → Saturated E slots tides slots tide slot
-    saturated-end h = record { matching = fu .matching; full = λ x l. fu .full x (omega arith) }
+    saturated-end h = record { matching = sat .matching; full = λ x l. sat .full x (omega arith) }
 
-    pub saturated-skip : at tide s < tides → (tide′ slot′ : List ℕ) → tide′ ≡ tide → slot′ ≡ slot → Saturated E slots tides (s + 1) tide′ slot′
-    saturated-skip h tide′ slot′ e₁ e₂ =
-        rw (e₁, e₂) (record { matching = fu .matching; full = λ x l. upto-case s x l (λ q. rw q h) (λ k. fu .full x k) })
+    module _ (i : ℕ) (step : i ≤ s + 1) (tide₁ slot₁ tide′ slot′ : List ℕ) (e₁ : tide′ ≡ tide₁) (e₂ : slot′ ≡ slot₁) where
+      -- the slot s has a tide
+      pub saturated-skip : at tide s < tides → tide₁ ≡ tide → slot₁ ≡ slot → Saturated E slots tides i tide′ slot′
+      saturated-skip h q₁ q₂ =
+          rw (e₁, e₂, q₁, q₂) (record { matching = sat .matching; full = λ x l. upto-case s x (omega arith) (λ q. rw q h) (λ k. sat .full x k) })
 
-    pub saturated-more : (tide₁ slot₁ : List ℕ) → s < slots → Augmented E slots tides s tide tide₁ slot₁ → (tide′ slot′ : List ℕ) → tide′ ≡ tide₁ → slot′ ≡ slot₁
-        → Saturated E slots tides (s + 1) tide′ slot′
-    saturated-more tide₁ slot₁ sl be tide′ slot′ e₁ e₂ =
-        rw (e₁, e₂) (record { matching = be .matching; full = λ x l. upto-case s x l (λ q. rw q (be .here)) (λ k. be .kept x (omega arith) (fu .full x k)) })
+      -- the slot s gets one
+      pub saturated-more : s < slots → Augmented E slots tides s tide tide₁ slot₁ → Saturated E slots tides i tide′ slot′
+      saturated-more sl be =
+          rw (e₁, e₂) (record { matching = be .matching; full = λ x l. upto-case s x (omega arith) (λ q. rw q (be .here)) (λ k. be .kept x (omega arith) (sat .full x k)) })

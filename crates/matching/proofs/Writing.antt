@@ -1,16 +1,16 @@
 -- The turns of the loops that write a matching out as a list. Assumes nothing.
-use mathlib.Core.Path.{_≡_, refl, ap, _∙_, subst}
+use mathlib.Core.Path.{_≡_, refl, _∙_, subst}
 use mathlib.Core.List.{List}
-use mathlib.Core.Bool.{Bool, true, false, true≢false, false≢true}
+use mathlib.Core.Bool.{true, false, true≢false, false≢true}
 use Prim.Native.Nat.{ℕ, _+_, _*_, _≤_, _<_}
 use native.Mathlib.Decide.{ℕ-discrete}
 use native.Mathlib.Nat.{mul-le-mul-right}
 use native.Mathlib.Omega.{arith}
 use lib.Dec.{T}
-use lib.ListN.{length, drop, getD, set, length-set}
+use lib.ListN.{length, set, length-set}
 use lib.Seq.{getD-set-same, getD-set-other, drop-set-lt}
 use Rattle.study.specs.declared.Minima.{Minima}
-use Rattle.matching.specs.Promise.{allows, Assigned, Asked, Promise}
+use Rattle.matching.specs.Promise.{allows, Asked}
 use Rattle.matching.specs.Matching.{at, Matching}
 use Rattle.matching.specs.Graph.{Edge, Sized}
 use Rattle.matching.specs.Slots.{Slots}
@@ -73,10 +73,10 @@ module _ (n blocks : ℕ) (M : Minima) (settings allowed list owner kind : List 
   pub sized : Sized allowed settings owner kind (blocks * M .b0) n
   sized =
       record {
-        fewSlots = omega (arith, ask .few-tides);
-        fewTides = ask .few-tides;
-        allowedLen = ask .allowed-long;
-        settingsLen = ask .settings-long;
+        few-slots = omega (arith, ask .few-tides);
+        few-tides = ask .few-tides;
+        allowed-long = ask .allowed-long;
+        settings-long = ask .settings-long;
         blocks = λ s l. omega (arith, slot-below blocks (M .b0) (M .b) owner kind sl s l, ask .few-blocks);
         kinds = λ s l. slot-kind blocks (M .b0) (M .b) owner kind sl s l;
         high = ask .setting-high;

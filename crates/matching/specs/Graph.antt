@@ -7,7 +7,7 @@ use Prim.Native.Nat.{ℕ, _+_, _*_, _≤_, _<_}
 use lib.Dec.{T}
 use lib.ListN.{length}
 use Rattle.matching.specs.Promise.{allows}
-use Rattle.matching.specs.Matching.{at, Matching, Tree, Closed, Path, Kept, Unsaturable}
+use Rattle.matching.specs.Matching.{at, Matching, Tree, Path, Kept, Unsaturable}
 
 -- a slot of block m and kind k can hold the tide t: the tide may go to the block, and the kind is 0 or the tide's setting
 pub record EdgeAt (allowed settings : List ℕ) (m k t : ℕ) : Type 0 where
@@ -25,10 +25,10 @@ pub record Decides (P : Type 0) (r : Bool) : Type 0 where
 
 -- what every function on a graph may assume: the tables are long enough, blocks are below 120, settings and kinds at most 8
 pub record Sized (allowed settings owner kind : List ℕ) (slots tides : ℕ) : Type 0 where
-  pub fewSlots : slots ≤ 120
-  pub fewTides : tides ≤ 120
-  pub allowedLen : tides * 120 ≤ length allowed
-  pub settingsLen : tides ≤ length settings
+  pub few-slots : slots ≤ 120
+  pub few-tides : tides ≤ 120
+  pub allowed-long : tides * 120 ≤ length allowed
+  pub settings-long : tides ≤ length settings
   pub blocks : (s : ℕ) → s < slots → at owner s < 120
   pub kinds : (s : ℕ) → s < slots → at kind s ≤ 8
   pub high : (t : ℕ) → t < tides → at settings t ≤ 8
@@ -78,7 +78,7 @@ pub record Augmented (E : ℕ → ℕ → Type 0) (slots tides root : ℕ) (tide
   pub kept : Kept slots tides tide tide′
   pub here : at tide′ root < tides
 
--- on the path along an alternating path: the slot s is to get the free tide t
+-- part of the way along an augmenting path: the slot s is to get the free tide t
 pub record Shifting (E : ℕ → ℕ → Type 0) (slots tides root s t : ℕ) (tide₀ tide slot from rank : List ℕ) : Type 0 where
   pub below : s < slots
   pub tide-below : t < tides

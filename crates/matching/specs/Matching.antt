@@ -1,7 +1,7 @@
 -- Matchings of slots with tides. E s t says that the slot s can hold the tide t. Assumes nothing.
 use mathlib.Core.Path.{_≡_}
 use mathlib.Core.List.{List}
-use Prim.Native.Nat.{ℕ, _+_, _≤_, _<_}
+use Prim.Native.Nat.{ℕ, _≤_, _<_}
 use lib.ListN.{length, getD, set}
 use lib.Dec.{ltb}
 use mathlib.Core.Bool.{cond}
@@ -21,8 +21,8 @@ Unsaturable E slots tides = (g : ℕ → ℕ) → Saturating E slots tides g →
 
 -- tide has the tide of each slot and slot the slot of each tide: a number past the end where there is none
 pub record Matching (E : ℕ → ℕ → Type 0) (slots tides : ℕ) (tide slot : List ℕ) : Type 0 where
-  pub tideLen : length tide ≡ 120
-  pub slotLen : length slot ≡ 120
+  pub tide-long : length tide ≡ 120
+  pub slot-long : length slot ≡ 120
   pub edge : (s : ℕ) → s < slots → at tide s < tides → E s (at tide s)
   pub there : (s : ℕ) → s < slots → at tide s < tides → at slot (at tide s) ≡ s
   pub back : (t : ℕ) → t < tides → at slot t < slots → at tide (at slot t) ≡ t
@@ -30,9 +30,9 @@ pub record Matching (E : ℕ → ℕ → Type 0) (slots tides : ℕ) (tide slot 
 -- a tree of alternating paths from the free slot at the front of queue: from has the slot that a tide
 -- was seen from, and rank the place of a slot in queue, 120 where it is not in the tree
 pub record Tree (E : ℕ → ℕ → Type 0) (slots tides tail : ℕ) (tide slot from rank queue : List ℕ) : Type 0 where
-  pub fromLen : length from ≡ 120
-  pub rankLen : length rank ≡ 120
-  pub queueLen : length queue ≡ 120
+  pub from-long : length from ≡ 120
+  pub rank-long : length rank ≡ 120
+  pub queue-long : length queue ≡ 120
   pub some : 0 < tail
   pub few : tail ≤ slots
   pub root : tides ≤ at tide (at queue 0)

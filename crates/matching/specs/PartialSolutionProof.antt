@@ -1,27 +1,26 @@
 -- Section 3's partial solution exists exactly when an assignment does: an assignment keeps b0 tides of each block, and a partial
 -- solution sends every other tide to any centre within g. Assumes nothing.
-use Prim.Native.Nat.{ℕ, zero, suc, _-_, _≤_, _<_}
+use Prim.Native.Nat.{ℕ, suc, _-_, _≤_, _<_}
 use native.Mathlib.Nat.{le-trans}
 use native.Mathlib.Omega.{arith}
 use mathlib.Core.Path.{_≡_, refl, sym, ap, _∙_, subst}
 use mathlib.Core.Logic.{⊎-elim}
-use mathlib.Core.Bool.{Bool, true, false, cond, _&&_, not}
+use mathlib.Core.Bool.{Bool, cond, _&&_}
 use mathlib.Core.List.{List, [], headD}
-use lib.Dec.{T, leb, eqb, leb→le, nleb→lt, le→leb, eqb→eq}
+use lib.Dec.{T, leb, eqb, leb→le, nleb→lt, eqb→eq}
 use lib.ListN.{length, getD}
-use Rattle.lists.specs.Lists.{sum, count, between, every, tabulate}
-use Rattle.lists.specs.Tests.{and-T, T-left, T-right, test, split, eq→eqb, cond-yes, cond-no, each-at}
+use Rattle.lists.specs.Lists.{sum, count, tabulate}
+use Rattle.lists.specs.Tests.{and-T, T-left, T-right, test, split, eq→eqb, cond-yes, cond-no}
 use Rattle.lists.specs.Members.{place}
 use Rattle.lists.specs.Counts.{count-le}
 use Rattle.lists.specs.Tables.{length-tabulate, getD-tabulate}
-use Rattle.study.specs.declared.Minima.{Minima}
-use Rattle.study.specs.Problem.{Problem, centres, centreOf, block, labels, assignments, assignable}
-use Rattle.study.specs.Study.{Study, size, tide, validMinima, sufficient, problem, Valid}
-use Rattle.study.specs.Theorems.{Lawful, Assignment}
+use Rattle.study.specs.Problem.{centres, centreOf, block, labels, assignments, assignable}
+use Rattle.study.specs.Study.{Study, size, tide, sufficient, problem, Valid}
+use Rattle.study.specs.Theorems.{Assignment}
 use Rattle.study.specs.ProblemLaws.{cover, assignable-by, first-assignment}
 use Rattle.study.specs.StudyLaws.{Meets, meets-T, validMinima-T, study-lawful}
 use Rattle.matching.specs.Counting.{count-iff}
-use Rattle.matching.specs.Surplus.{ofSetting, kept, kept-in, count-kept, kept-each}
+use Rattle.matching.specs.Surplus.{ofSetting, kept, count-kept, kept-each}
 use Rattle.matching.specs.PartialSolution.{PartialSolution, PartialSolutionExactly}
 
 module _ (S : Study) (ok : Valid S) (g : ℕ) where

@@ -26,8 +26,8 @@ pub record Slots (blocks b0 : ℕ) (b owner kind : List ℕ) : Type 0 where
 
 -- the tables of the slots' blocks and kinds
 pub record Tables (owner kind : List ℕ) : Type 0 where
-  pub ownerLen : length owner ≡ 120
-  pub kindLen : length kind ≡ 120
+  pub owner-long : length owner ≡ 120
+  pub kind-long : length kind ≡ 120
 
 -- size slots of block m and kind k stand from pos on, behind the slots that were there
 pub record Added (pos m k size : ℕ) (owner₀ kind₀ owner kind : List ℕ) : Type 0 where

@@ -1,15 +1,14 @@
 -- Of a set p of tides: those that are needed for the minima of their settings, the first b of each setting; the surplus ones; and
 -- b0 tides that have what is needed. Assumes nothing.
-use Prim.Native.Nat.{ℕ, zero, suc, _+_, _-_, _≤_, _<_, min}
+use Prim.Native.Nat.{ℕ, suc, _+_, _-_, _≤_, _<_}
 use native.Mathlib.Omega.{arith}
-use mathlib.Core.Path.{_≡_, refl, sym, ap, _∙_, subst}
-use mathlib.Core.Logic.{_⊎_, inl, inr, ⊎-elim}
+use mathlib.Core.Path.{_≡_, sym, ap, _∙_, subst}
 use mathlib.Core.Bool.{Bool, true, false, _&&_, _||_, not}
 use mathlib.Core.List.{List}
-use lib.Dec.{T, ltb, eqb, eqb→eq, not-T, T-not}
+use lib.Dec.{T, eqb, eqb→eq, not-T, T-not}
 use lib.ListN.{getD}
 use Rattle.lists.specs.Lists.{sum, count}
-use Rattle.lists.specs.Tests.{and-T, T-left, T-right, T-true, T-false, test, eq→eqb}
+use Rattle.lists.specs.Tests.{and-T, T-left, T-right, eq→eqb}
 use Rattle.lists.specs.Counts.{sum-same, count-le}
 use Rattle.matching.specs.Counting.{firsts, firsts-pass, count-firsts, count-iff, count-by, count-classes}
 
@@ -105,10 +104,6 @@ module _ (b : List ℕ) (setting : ℕ → ℕ) (p : ℕ → Bool) where
 
       abbrev rest : ℕ
       rest = b0 - sum 8 (λ j. getD b j 0)
-
-      pub kept-in : (t : ℕ) → T (kept rest b setting p t) → T (p t)
-      unfolding kept
-      kept-in t h = T-left (p t) (needed b setting p t || firsts rest (surplus b setting p) t) h
 
       -- b0 of them are kept
       pub count-kept : count n (kept rest b setting p) ≡ b0

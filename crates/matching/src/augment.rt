@@ -2,16 +2,18 @@
 // holds and slot[t] the slot that holds the tide t: 120 where there is none.
 ghost use mathlib.Core.Path.{_≡_};
 ghost use mathlib.Core.Bool.{true, false};
-ghost use Prim.Native.Nat.{ℕ, _+_, _*_, _<_, _≤_};
+ghost use Prim.Native.Nat.{_+_, _*_, _<_, _≤_};
 ghost use lib.ListN.{length, set};
-ghost use Rattle.matching.specs.Matching.{at, Matching, Tree, Path, Kept, Closed, Unsaturable, freed};
+ghost use Rattle.matching.specs.Matching.{at, Matching, Tree, Path, Unsaturable, freed};
 ghost use Rattle.matching.specs.Graph.{EdgeAt, Edge, Decides, Sized, Wanted, Scanning, Marked, Passed, Free, Searched, Augmented, Saturated};
 
+// The length of the queue after a scan, and the free tide that was met, or 120.
 pub struct Scanned {
     pub tail: usize,
     pub free: usize,
 }
 
+// A free tide and the slot that it was seen from; 120 and 120 where none was met.
 pub struct Grown {
     pub slot: usize,
     pub tide: usize,
@@ -151,8 +153,8 @@ fn scan(
     }
 }
 
-// Scans the slot s, unless a slot of its block and kind was scanned before: then no tide is left that
-// it can hold and that is not seen.
+// Scans the slot s, unless a slot of its block that takes the same tides or any was scanned before:
+// then every tide that s can hold is seen.
 fn visit(
     allowed: &[u8],
     settings: &[u8],
@@ -179,7 +181,14 @@ fn visit(
     ensures { λ r. ⌜ (r .free < tides → Free (Edge (now (allowed .entry)) (now (settings .entry)) (now (owner .entry)) (now (kind .entry))) slots s (r .free) (now (slot .entry))) ⌝ }
     ensures { λ r. ⌜ (tides ≤ r .free → Passed (now (allowed .entry)) (now (settings .entry)) slots tides (r .free) (now (mark .exit)) (now (from .exit))) ⌝ }
 {
-    let class = owner[s] * 9 + (kind[s] as usize);
+    let any = owner[s] * 9;
+    if mark[any] != 0 {
+        return Scanned {
+            tail: start,
+            free: 120,
+        };
+    }
+    let class = any + (kind[s] as usize);
     if mark[class] != 0 {
         return Scanned {
             tail: start,
@@ -377,14 +386,16 @@ pub fn saturate(
     ensures { λ r. ⌜ (r ≡ true → Saturated (Edge (now (allowed .entry)) (now (settings .entry)) (now (owner .entry)) (now (kind .entry))) slots tides slots (now (tide .exit)) (now (slot .exit))) ⌝ }
     ensures { λ r. ⌜ (r ≡ false → Unsaturable (Edge (now (allowed .entry)) (now (settings .entry)) (now (owner .entry)) (now (kind .entry))) slots tides) ⌝ }
 {
-    let mut s = 0;
-    while s < slots {
+    // How many slots are still to be looked at.
+    let mut left = slots;
+    while left > 0 {
+        let s = slots - left;
         if tide[s] >= tides {
             if !improve(allowed, settings, owner, kind, slots, tides, tide, slot, s) {
                 return false;
             }
         }
-        s += 1;
+        left -= 1;
     }
     true
 }

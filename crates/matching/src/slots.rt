@@ -1,8 +1,7 @@
 // The minima of all blocks as slots. Slot s belongs to the block owner[s] and takes tides of the
 // setting kind[s], or of any setting where kind[s] is 0. The slots of block m and kind k stand in a
 // row, and next[m * 9 + k] has the first of them.
-ghost use mathlib.Core.Path.{_≡_};
-ghost use Prim.Native.Nat.{ℕ, _+_, _*_, _<_, _≤_};
+ghost use Prim.Native.Nat.{_+_, _*_, _<_, _≤_};
 ghost use Rattle.matching.specs.Slots.{total, Slots, Tables, Added, BlockAdded};
 
 // Adds count slots of block m and kind k at the place pos.

@@ -1,17 +1,17 @@
 // A first matching, made from a hint of each tide's block. The hint may be anything.
 use crate::augment::edge;
 use crate::augment::swap;
-ghost use mathlib.Core.Path.{_≡_};
-ghost use Prim.Native.Nat.{ℕ, _+_, _*_, _<_, _≤_};
+ghost use Prim.Native.Nat.{_<_, _≤_};
 ghost use lib.ListN.{length};
-ghost use Rattle.matching.specs.Matching.{at, Matching};
+ghost use Rattle.matching.specs.Matching.{Matching};
 ghost use Rattle.matching.specs.Graph.{Edge, Sized};
 
 fn wide(x: u8) -> usize {
     x as usize
 }
 
-// Gives the free tide t the next slot of block m and kind k, where it is free and can hold t.
+// Gives the tide t, where it has no slot yet, the next slot of block m and kind k, where there is one
+// that can hold it.
 fn take_next(
     allowed: &[u8],
     settings: &[u8],

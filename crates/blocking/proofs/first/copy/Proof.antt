@@ -1,5 +1,4 @@
 -- A copy of the first places. Assumes nothing.
-use borrow.Author.Needs.{needs}
 use native.Mathlib.Omega.{arith}
 use Rattle.study.specs.Problem.{labels}
 use Rattle.lists.specs.Tables.{length-overwrite, overwrite-none, overwrite-step, overwrite-done}

@@ -1,5 +1,4 @@
 -- Blocks taken away from a tide. Assumes nothing.
-use borrow.Author.Needs.{needs}
 use native.Mathlib.Omega.{arith}
 use Rattle.blocking.specs.Narrowed.{Narrowed, Outside, cut-none, cut-more, cut-end}
 use Prim.Native.Nat.{_≤_, _-_}

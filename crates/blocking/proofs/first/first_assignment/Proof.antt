@@ -1,9 +1,7 @@
 -- Tide after tide. Assumes nothing.
-use borrow.Author.Needs.{needs}
 use native.Mathlib.Omega.{arith}
 use Rattle.blocking.specs.First.{Fixed, fixed-start, fixed-more, fixed-end, asked-on}
 use Rattle.radius.specs.Attempts.{Kept, kept-same, kept-on}
-use mathlib.Core.Path.{_∙_}
 use Prim.Native.Nat.{_≤_, _-_}
 use Rattle.blocking.proofs.first.first_assignment.Statement.{statement}
 use Rattle.blocking.proofs.first.first_assignment.Tie as tie

@@ -4,7 +4,7 @@ use native.Mathlib.Omega.{arith}
 use Rattle.blocking.specs.First.{Settling, settling-start, settling-lt, settling-pin, settling-less, settling-more, settling-end, settling-kept, asked-on}
 use Rattle.study.specs.Problem.{labels}
 use lib.ListN.{length-set}
-use mathlib.Core.Path.{_≡_, _∙_}
+use mathlib.Core.Path.{_∙_}
 use Rattle.blocking.proofs.first.settle.Statement.{statement}
 use Rattle.blocking.proofs.first.settle.Tie as tie
 

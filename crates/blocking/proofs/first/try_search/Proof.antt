@@ -1,5 +1,4 @@
 -- The search on a copy. Assumes nothing.
-use native.Mathlib.Omega.{arith}
 use Rattle.blocking.specs.First.{tried-found, tried-none}
 use borrow.Author.Tests.{not-true, not-false}
 use borrow.Author.Needs.{needs}

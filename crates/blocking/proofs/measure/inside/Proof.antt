@@ -1,6 +1,4 @@
 -- A distance inside a block. Assumes nothing.
-use borrow.Author.Needs.{needs}
-use native.Mathlib.Omega.{arith}
 use borrow.Author.Tests.{eq-eqb, ne-eqb}
 use Rattle.blocking.proofs.measure.inside.Statement.{statement}
 use Rattle.blocking.proofs.measure.inside.Tie as tie

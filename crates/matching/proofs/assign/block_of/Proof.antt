@@ -1,37 +1,32 @@
+-- `block_of` meets its contract. Assumes nothing.
 use native.Mathlib.Omega.{arith}
 use mathlib.Core.Path.{refl}
 use borrow.Author.Needs.{needs}
 use Rattle.matching.proofs.assign.block_of.Statement.{statement}
 use Rattle.matching.proofs.assign.block_of.Tie as tie
-use Rattle.matching.proofs.assign.block_of.Reads as reads
-use Rattle.matching.proofs.assign.block_of.Lts as lts
-use Rattle.matching.proofs.assign.first_allowed.Reads as first-allowed-reads
 
--- src/assign.rt:42:13
 mul-s : tie.Need-mul-s
 mul-s c = search needs
 
--- src/assign.rt:42:13
 element-copy-out-s : tie.Need-element-copy-out-s
 element-copy-out-s c = search needs
 
--- src/assign.rt:44:16
 mul-result : tie.Need-mul-result
 mul-result c = search needs
 
--- src/assign.rt:44:16
 element-copy-out-result : tie.Need-element-copy-out-result
 element-copy-out-result c = search needs
 
--- src/assign.rt:44:9
 returns : tie.Need-returns
-returns c = let law = c .before .before .before .before .pre .1 .1 .1 .1 in let h = c .before .if1 .taken in let l = law .below h in record { may = λ _. law .may h; own = λ _. refl; none = λ k. absurd (omega arith) }
+returns c =
+    let law = c .before .before .before .before .pre .1 .1 .1 .1 in
+    let h = c .before .if1 .taken in
+    let l = law .below h in
+    record { may = λ _. law .may h; own = λ _. refl; none = λ k. absurd (omega arith) }
 
--- src/assign.rt:46:5
 first-allowed-requires : tie.Need-first-allowed-requires
 first-allowed-requires c κs = search needs
 
--- src/assign.rt:27:1
 returns-2 : tie.Need-returns-2
 returns-2 c = search needs
 

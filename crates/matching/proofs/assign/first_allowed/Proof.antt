@@ -1,14 +1,11 @@
-use borrow.Author.Needs.{needs}
+-- `first_allowed` meets its contract: the tide may go to no block passed. Assumes nothing.
 use native.Mathlib.Omega.{arith}
+use Prim.Native.Nat.{_-_, _≤_}
+use borrow.Author.Count.{below-more}
 use Rattle.matching.proofs.Pairs.{allows-yes, allows-no}
 use Rattle.matching.specs.Steps.{Nowhere}
-use borrow.Author.Count.{below-more}
-use Prim.Native.Nat.{ℕ, _+_, _*_, _-_, _<_, _≤_}
-use mathlib.Core.Path.{_≡_, refl}
 use Rattle.matching.proofs.assign.first_allowed.Statement.{statement}
 use Rattle.matching.proofs.assign.first_allowed.Tie as tie
-use Rattle.matching.proofs.assign.first_allowed.Reads as reads
-use Rattle.matching.proofs.assign.first_allowed.Lts as lts
 
 abbrev Inv-loop : tie.InvT-loop
 Inv-loop allowed t blocks m₀ m = (m ≤ blocks) × Nowhere allowed t m
@@ -16,39 +13,30 @@ Inv-loop allowed t blocks m₀ m = (m ≤ blocks) × Nowhere allowed t m
 abbrev μ-loop : tie.MeasureT-loop
 μ-loop allowed t blocks m₀ m = blocks - m
 
--- src/assign.rt:17:5
 loop-holds : tie.Need-loop-holds Inv-loop μ-loop
 loop-holds c = (omega arith, λ k l. absurd (omega arith))
 
--- src/assign.rt:18:20
 mul-if1 : tie.Need-mul-if1 Inv-loop μ-loop
 mul-if1 c = omega arith
 
--- src/assign.rt:18:20
 add-if1 : tie.Need-add-if1 Inv-loop μ-loop
 add-if1 c = omega arith
 
--- src/assign.rt:18:12
 shared-slice-read-if1 : tie.Need-shared-slice-read-if1 Inv-loop μ-loop
 shared-slice-read-if1 c = omega arith
 
--- src/assign.rt:19:13
 returns : tie.Need-returns Inv-loop μ-loop
 returns c = record { may = λ _. allows-yes _ _ _ (c .if1 .taken); none = λ h. absurd (omega arith) }
 
--- src/assign.rt:21:9
 add-m : tie.Need-add-m Inv-loop μ-loop
 add-m c = omega arith
 
--- src/assign.rt:17:5
 loop-less : tie.Need-loop-less Inv-loop μ-loop
 loop-less c = omega arith
 
--- src/assign.rt:17:5
 loop-again : tie.Need-loop-again Inv-loop μ-loop
 loop-again c = (omega arith, below-more _ _ (c .before .before .before .loop .inv .1) (allows-no _ _ _ (c .if1 .left)))
 
--- src/assign.rt:10:1
 returns-2 : tie.Need-returns-2 Inv-loop μ-loop
 returns-2 c = record { may = λ h. absurd (omega arith); none = λ _ k l. let e = c .loop-test .left in c .before .loop .inv .1 k (omega arith) }
 

@@ -1,12 +1,9 @@
-use borrow.Author.Needs.{needs}
+-- `write_list` meets its contract. Each turn writes one tide's block. Assumes nothing.
 use native.Mathlib.Omega.{arith}
-use Rattle.matching.proofs.Writing.{WrittenTo, write-start, write-more, write-end, write-none}
 use Prim.Native.Nat.{_-_, _≤_}
+use Rattle.matching.proofs.Writing.{WrittenTo, write-start, write-more, write-end, write-none}
 use Rattle.matching.proofs.assign.write_list.Statement.{statement}
 use Rattle.matching.proofs.assign.write_list.Tie as tie
-use Rattle.matching.proofs.assign.write_list.Reads as reads
-use Rattle.matching.proofs.assign.write_list.Lts as lts
-use Rattle.matching.proofs.assign.block_of.Reads as block-of-reads
 
 abbrev Inv-loop : tie.InvT-loop
 Inv-loop allowed n blocks owner slots slot list₀ t₀ list t = (t ≤ n) × WrittenTo t n blocks slots allowed owner slot list₀ list
@@ -14,47 +11,53 @@ Inv-loop allowed n blocks owner slots slot list₀ t₀ list t = (t ≤ n) × Wr
 abbrev μ-loop : tie.MeasureT-loop
 μ-loop allowed n blocks owner slots slot list₀ t₀ list t = n - t
 
--- src/assign.rt:68:5
 loop-holds : tie.Need-loop-holds Inv-loop μ-loop
 loop-holds c = (omega arith, write-start _ _ _ _ _ _ _)
 
--- src/assign.rt:69:13
 block-of-requires : tie.Need-block-of-requires Inv-loop μ-loop
-block-of-requires c κs = let p = c .before .before .before .before .pre in let l = c .loop-test .taken in let few = p .1 .0 in let len = p .1 .1 .1 .0 in (p .0, (omega arith, (p .1 .1 .0, (omega arith, p .1 .1 .1 .1 .1 _ l))))
+block-of-requires c κs =
+    let p = c .before .before .before .before .pre in
+    let l = c .loop-test .taken in
+    let few = p .1 .0 in
+    let len = p .1 .1 .1 .0 in
+    (p .0, (omega arith, (p .1 .1 .0, (omega arith, p .1 .1 .1 .1 .1 _ l))))
 
--- src/assign.rt:71:13
 same-length : tie.Need-same-length Inv-loop μ-loop
 same-length c = c .before .before .before .loop .inv .1 .rest .same-length
 
--- src/assign.rt:71:13
 returns : tie.Need-returns Inv-loop μ-loop
 returns c = write-none _ _ _ _ _ _ _ _ _ (c .before .before .before .loop .inv .1) (c .before .before .loop-test .taken) (c .before .block-of .ensures .none (c .if1 .taken))
 
--- src/assign.rt:73:19
 cast-list : tie.Need-cast-list Inv-loop μ-loop
-cast-list c = let p = c .before .before .before .before .before .before .pre .0 in let h = c .if1 .left in omega arith
+cast-list c =
+    let p = c .before .before .before .before .before .before .pre .0 in
+    let h = c .if1 .left in
+    omega arith
 
--- src/assign.rt:73:9
 slice-write-list : tie.Need-slice-write-list Inv-loop μ-loop
-slice-write-list c = let l = c .before .before .loop-test .taken in let e = c .before .before .before .loop .inv .1 .rest .same-length in let q = c .before .before .before .before .before .before .pre .1 .1 .1 .1 .0 in omega arith
+slice-write-list c =
+    let l = c .before .before .loop-test .taken in
+    let e = c .before .before .before .loop .inv .1 .rest .same-length in
+    let q = c .before .before .before .before .before .before .pre .1 .1 .1 .1 .0 in
+    omega arith
 
--- src/assign.rt:74:9
 add-t : tie.Need-add-t Inv-loop μ-loop
-add-t c = let l = c .before .before .loop-test .taken in let q = c .before .before .before .before .before .before .pre .1 .0 in omega arith
+add-t c =
+    let l = c .before .before .loop-test .taken in
+    let q = c .before .before .before .before .before .before .pre .1 .0 in
+    omega arith
 
--- src/assign.rt:68:5
 loop-less : tie.Need-loop-less Inv-loop μ-loop
 loop-less c = let l = c .before .before .loop-test .taken in omega arith
 
--- src/assign.rt:68:5
 loop-again : tie.Need-loop-again Inv-loop μ-loop
-loop-again c = let l = c .before .before .loop-test .taken in (omega arith, write-more _ _ _ _ _ _ _ _ _ (c .before .before .before .loop .inv .1) _ l (c .before .before .before .before .before .before .pre .1 .1 .1 .1 .0) (c .if1 .left) (c .before .block-of .ensures))
+loop-again c =
+    let l = c .before .before .loop-test .taken in
+    (omega arith, write-more _ _ _ _ _ _ _ _ _ (c .before .before .before .loop .inv .1) _ l (c .before .before .before .before .before .before .pre .1 .1 .1 .1 .0) (c .if1 .left) (c .before .block-of .ensures))
 
--- src/assign.rt:50:1
 same-length-2 : tie.Need-same-length-2 Inv-loop μ-loop
 same-length-2 c = c .before .loop .inv .1 .rest .same-length
 
--- src/assign.rt:50:1
 returns-2 : tie.Need-returns-2 Inv-loop μ-loop
 returns-2 c = let i = c .before .loop .inv in write-end _ _ _ _ _ _ _ _ _ (i .1) (c .loop-test .left) (i .0)
 

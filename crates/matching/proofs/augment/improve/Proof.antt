@@ -1,39 +1,34 @@
-use native.Mathlib.Omega.{arith}
-use Rattle.matching.proofs.Turns.{alone, blank-marked}
+-- `improve` meets its contract: the tree of the root alone is grown, and its path to a free tide shifted. Assumes nothing.
 use mathlib.Core.Bool.{true≢false, false≢true}
 use borrow.Author.Needs.{needs}
+use Rattle.matching.proofs.Turns.{alone, blank-marked}
 use Rattle.matching.proofs.augment.improve.Statement.{statement}
 use Rattle.matching.proofs.augment.improve.Tie as tie
-use Rattle.matching.proofs.augment.improve.Reads as reads
-use Rattle.matching.proofs.augment.improve.Lts as lts
-use Rattle.matching.proofs.augment.grow.Reads as grow-reads
-use Rattle.matching.proofs.augment.shift.Reads as shift-reads
 
--- src/augment.rt:325:5
 mul-rank : tie.Need-mul-rank
 mul-rank c = search needs
 
--- src/augment.rt:325:5
 array-write-rank : tie.Need-array-write-rank
 array-write-rank c = search needs
 
--- src/augment.rt:326:5
 array-write-queue : tie.Need-array-write-queue
 array-write-queue c = search needs
 
--- src/augment.rt:327:9
 grow-requires : tie.Need-grow-requires
-grow-requires c κs = let p = c .before .before .before .before .before .before .before .before .pre in (p .0, (p .1 .0, (alone _ _ _ _ _ _ (p .0 .fewSlots) (p .0 .fewTides) (p .1 .1 .0) (p .1 .1 .1), blank-marked _ _ _ _ _)))
+grow-requires c κs =
+    let p = c .before .before .before .before .before .before .before .before .pre in
+    (p .0, (p .1 .0, (alone _ _ _ _ _ _ (p .0 .few-slots) (p .0 .few-tides) (p .1 .1 .0) (p .1 .1 .1), blank-marked _ _ _ _ _)))
 
--- src/augment.rt:344:9
 returns : tie.Need-returns
 returns c = (λ e. absurd (false≢true e), λ _. c .before .grow .ensures .none (c .if1 .taken))
 
--- src/augment.rt:346:5
 shift-requires : tie.Need-shift-requires
-shift-requires c κs = let p = c .before .before .before .before .before .before .before .before .before .before .before .before .before .before .pre in let e = c .before .before .before .before .before .grow .ensures in let l = c .before .before .before .before .if1 .left in (p .0, (e .below l, (l, (e .in-tree l, (p .1 .0, (e .found l, e .path l))))))
+shift-requires c κs =
+    let p = c .before .before .before .before .before .before .before .before .before .before .before .before .before .before .pre in
+    let e = c .before .before .before .before .before .grow .ensures in
+    let l = c .before .before .before .before .if1 .left in
+    (p .0, (e .below l, (l, (e .in-tree l, (p .1 .0, (e .found l, e .path l))))))
 
--- src/augment.rt:303:1
 returns-2 : tie.Need-returns-2
 returns-2 c = (λ _. c .shift .ensures, λ e. absurd (true≢false e))
 

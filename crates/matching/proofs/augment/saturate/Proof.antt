@@ -1,47 +1,54 @@
-use borrow.Author.Tests.{not-true, not-false}
-use mathlib.Core.Bool.{true≢false, false≢true}
-use mathlib.Core.Logic.{⊎-elim}
-use Prim.Native.Nat.{_+_, _-_, _<_, _≤_}
+-- `saturate` meets its contract. Each turn leaves one slot more with a tide; the measure is the slots left. Assumes nothing.
 use native.Mathlib.Omega.{arith}
-use borrow.Author.Needs.{needs}
-use Rattle.matching.specs.Matching.{at}
-use Rattle.matching.specs.Graph.{Edge, Saturated}
+use Prim.Native.Nat.{_-_, _≤_}
+use mathlib.Core.Logic.{⊎-elim}
+use mathlib.Core.Bool.{true≢false, false≢true}
+use mathlib.Core.Path.{refl}
+use borrow.Author.Tests.{not-true, not-false}
 use Rattle.matching.proofs.Turns.{saturated-start, saturated-skip, saturated-more, saturated-end}
+use Rattle.matching.specs.Graph.{Edge, Saturated}
 use Rattle.matching.proofs.augment.saturate.Statement.{statement}
 use Rattle.matching.proofs.augment.saturate.Tie as tie
 
 abbrev Inv-loop : tie.InvT-loop
-Inv-loop allowed settings owner kind slots tides tide₀ slot₀ s₀ tide slot s = (s ≤ slots) × Saturated (Edge allowed settings owner kind) slots tides s tide slot
+Inv-loop allowed settings owner kind slots tides tide₀ slot₀ left₀ tide slot left = (left ≤ slots) × Saturated (Edge allowed settings owner kind) slots tides (slots - left) tide slot
 
 abbrev μ-loop : tie.MeasureT-loop
-μ-loop allowed settings owner kind slots tides tide₀ slot₀ s₀ tide slot s = slots - s
+μ-loop allowed settings owner kind slots tides tide₀ slot₀ left₀ tide slot left = left
 
 loop-holds : tie.Need-loop-holds Inv-loop μ-loop
-loop-holds c = let p = c .before .before .pre in (omega arith, saturated-start _ _ _ _ _ (p .1))
+loop-holds c = (omega arith, saturated-start _ _ _ _ _ (c .before .before .pre .1) _ (omega arith))
+
+sub-s : tie.Need-sub-s Inv-loop μ-loop
+sub-s c = omega arith
 
 mul-if1 : tie.Need-mul-if1 Inv-loop μ-loop
-mul-if1 c = let z = c .before .before .before .before .pre .0 .fewSlots in omega arith
+mul-if1 c = let z = c .before .before .before .before .pre .0 .few-slots in omega arith
 
 element-copy-out-if1 : tie.Need-element-copy-out-if1 Inv-loop μ-loop
-element-copy-out-if1 c = let z = c .before .before .before .before .pre .0 .fewSlots in omega arith
+element-copy-out-if1 c = let z = c .before .before .before .before .pre .0 .few-slots in omega arith
 
 improve-requires : tie.Need-improve-requires Inv-loop μ-loop
-improve-requires c κs = let p = c .before .before .before .before .before .before .before .before .pre in (p .0, (c .before .before .before .before .before .loop .inv .1 .matching, (c .before .before .before .before .loop-test .taken, c .before .before .if1 .taken)))
+improve-requires c κs =
+    let p = c .before .before .before .before .before .before .before .before .pre in
+    (p .0, (c .before .before .before .before .before .loop .inv .1 .matching, (omega arith, c .before .before .if1 .taken)))
 
 returns : tie.Need-returns Inv-loop μ-loop
 returns c = (λ e. absurd (false≢true e), λ _. c .before .improve .ensures .1 (not-true _ (c .if2 .taken)))
 
-add-s : tie.Need-add-s Inv-loop μ-loop
-add-s c = let z = c .before .before .before .before .before .before .pre .0 .fewSlots in omega arith
+sub-left : tie.Need-sub-left Inv-loop μ-loop
+sub-left c = omega arith
 
 loop-less : tie.Need-loop-less Inv-loop μ-loop
 loop-less c = omega arith
 
 loop-again : tie.Need-loop-again Inv-loop μ-loop
-loop-again c = (omega arith, ⊎-elim (λ w. saturated-more _ _ _ _ _ _ (c .before .before .before .loop .inv .1) _ _ (c .before .before .loop-test .taken) (w .3 .ensures .0 (not-false _ (w .4 .left))) _ _ (w .5) (w .6)) (λ w. saturated-skip _ _ _ _ _ _ (c .before .before .before .loop .inv .1) (w .0 .left) _ _ (w .1) (w .2)) (c .if1 .came))
+loop-again c =
+    let i = c .before .before .before .loop .inv .1 in
+    (omega arith, ⊎-elim (λ w. saturated-more _ _ _ _ _ _ i _ (omega arith) _ _ _ _ (w .5) (w .6) (omega arith) (w .3 .ensures .0 (not-false _ (w .4 .left)))) (λ w. saturated-skip _ _ _ _ _ _ i _ (omega arith) _ _ _ _ (w .1) (w .2) (w .0 .left) refl refl) (c .if1 .came))
 
 returns-2 : tie.Need-returns-2 Inv-loop μ-loop
-returns-2 c = (λ _. saturated-end _ _ _ _ _ _ (c .before .loop .inv .1) (c .loop-test .left), λ e. absurd (true≢false e))
+returns-2 c = (λ _. saturated-end _ _ _ _ _ _ (c .before .loop .inv .1) (omega arith), λ e. absurd (true≢false e))
 
 pub saturate-spec : {M : Type 1} → statement M
 saturate-spec =
@@ -50,11 +57,12 @@ saturate-spec =
     Inv-loop
     μ-loop
     loop-holds
+    sub-s
     mul-if1
     element-copy-out-if1
     improve-requires
     returns
-    add-s
+    sub-left
     loop-less
     loop-again
     returns-2)

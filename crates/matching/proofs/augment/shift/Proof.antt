@@ -1,6 +1,5 @@
-use Prim.Native.Nat.{_+_, _<_, _≤_}
+-- `shift` meets its contract. Each turn gives one slot its new tide; the measure is the slot's rank, which falls on the way to the root. Assumes nothing.
 use native.Mathlib.Omega.{arith}
-use borrow.Author.Needs.{needs}
 use Rattle.matching.specs.Matching.{at}
 use Rattle.matching.specs.Graph.{Edge, Shifting}
 use Rattle.matching.proofs.Turns.{shift-again, shift-end, shift-falls}
@@ -31,31 +30,33 @@ swap-requires : tie.Need-swap-requires Inv-loop μ-loop
 swap-requires c κs =
     let z = c .before .before .before .before .before .pre .0 in
     let i = c .before .before .loop .inv in
-    omega (arith, i .below, i .tide-below, z .fewSlots, z .fewTides)
+    omega (arith, i .below, i .tide-below, z .few-slots, z .few-tides)
 
 returns : tie.Need-returns Inv-loop μ-loop
 returns c =
     let z = c .before .before .before .before .before .before .before .pre .0 in
     let e = c .before .swap .ensures in
-    shift-end _ _ _ _ _ _ _ _ _ _ _ (z .fewSlots) (z .fewTides) (c .before .before .before .before .loop .inv) _ _ _ (e .0) (e .1 .0) (e .1 .1) (c .if1 .taken)
+    shift-end _ _ _ _ _ _ _ _ _ _ _ (z .few-slots) (z .few-tides) (c .before .before .before .before .loop .inv) _ _ _ (e .0) (e .1 .0) (e .1 .1) (c .if1 .taken)
 
 mul-s : tie.Need-mul-s Inv-loop μ-loop
-mul-s c = let few = c .before .before .before .before .before .before .before .pre .0 .fewTides in omega arith
+mul-s c = let few = c .before .before .before .before .before .before .before .pre .0 .few-tides in omega arith
 
 element-copy-out-s : tie.Need-element-copy-out-s Inv-loop μ-loop
-element-copy-out-s c = let few = c .before .before .before .before .before .before .before .pre .0 .fewTides in omega arith
+element-copy-out-s c =
+    let few = c .before .before .before .before .before .before .before .pre .0 .few-tides in
+    omega arith
 
 loop-less : tie.Need-loop-less Inv-loop μ-loop
 loop-less c =
     let z = c .before .before .before .before .before .before .before .before .pre .0 in
     let e = c .before .before .swap .ensures in
-    shift-falls _ _ _ _ _ _ _ _ _ _ _ (z .fewSlots) (z .fewTides) (c .before .before .before .before .before .loop .inv) _ _ _ (e .0) (e .1 .0) (e .1 .1) (c .before .if1 .left)
+    shift-falls _ _ _ _ _ _ _ _ _ _ _ (z .few-slots) (z .few-tides) (c .before .before .before .before .before .loop .inv) _ _ _ (e .0) (e .1 .0) (e .1 .1) (c .before .if1 .left)
 
 loop-again : tie.Need-loop-again Inv-loop μ-loop
 loop-again c =
     let z = c .before .before .before .before .before .before .before .before .pre .0 in
     let e = c .before .before .swap .ensures in
-    shift-again _ _ _ _ _ _ _ _ _ _ _ (z .fewSlots) (z .fewTides) (c .before .before .before .before .before .loop .inv) _ _ _ (e .0) (e .1 .0) (e .1 .1) (c .before .if1 .left)
+    shift-again _ _ _ _ _ _ _ _ _ _ _ (z .few-slots) (z .few-tides) (c .before .before .before .before .before .loop .inv) _ _ _ (e .0) (e .1 .0) (e .1 .1) (c .before .if1 .left)
 
 pub shift-spec : {M : Type 1} → statement M
 shift-spec =

@@ -1,6 +1,7 @@
+-- `swap` meets its contract: the two stores are what `freed` says. Assumes nothing.
 use mathlib.Core.Path.{refl, sym}
-use Rattle.matching.proofs.Shift.{freed-yes, freed-no}
 use borrow.Author.Needs.{needs}
+use Rattle.matching.proofs.Shift.{freed-yes, freed-no}
 use Rattle.matching.proofs.augment.swap.Statement.{statement}
 use Rattle.matching.proofs.augment.swap.Tie as tie
 

