@@ -5,3 +5,4 @@ pub mod Members
 pub mod Counts
 pub mod Tables
 pub mod Tuples
+pub mod Scans

@@ -99,6 +99,10 @@ module _ {A : Type 0} where
     pub overwrite-done : {m : List A} {i n : ℕ} → i ≡ n → m ≡ overwrite i f l → m ≡ overwrite n f l
     overwrite-done q e = e ∙ ap (λ z. overwrite z f l) q
 
+    -- a place not yet written
+    pub overwrite-read : {m : List A} {n : ℕ} (d : A) → m ≡ overwrite n f l → (i : ℕ) → n ≤ i → getD m i d ≡ getD l i d
+    overwrite-read {m} {n} d e i h = ap (λ (x : List A). getD x i d) e ∙ getD-past n i d h
+
     pub overwrite-ext : (n : ℕ) (h : ℕ → A) → ((i : ℕ) → i < n → f i ≡ h i) → overwrite n f l ≡ overwrite n h l
     unfolding overwrite tabulate
     overwrite-ext zero h e = refl

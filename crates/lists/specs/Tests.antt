@@ -1,12 +1,11 @@
 -- Boolean tests: what it says that one passes or fails. Assumes nothing.
-use Prim.Native.Nat.{ℕ, zero, suc, _+_, _≤_, _<_}
+use Prim.Native.Nat.{ℕ, zero, suc, _≤_, _<_}
 use native.Mathlib.Omega.{arith}
-use native.Mathlib.Numerals.{add-one}
 use mathlib.Core.Path.{_≡_, refl, sym, subst}
 use mathlib.Core.Logic.{_⊎_, inl, inr, ⊎-elim, _↔_}
 use mathlib.Core.Bool.{Bool, true, false, cond, _&&_, not}
 use mathlib.Core.List.{List, [], _∷_}
-use lib.Dec.{T, leb, eqb, leb→le, le→leb, nleb→lt, eqb-refl, not-T, T-not}
+use lib.Dec.{T, leb, eqb, leb→le, le→leb, nleb→lt, eqb-refl}
 use Rattle.lists.specs.Lists.{between, each, every}
 
 pub and-T : (a b : Bool) → T a → T b → T (a && b)
@@ -92,17 +91,6 @@ pub every-of : (n : ℕ) (p : ℕ → Bool) → ((i : ℕ) → i < n → T (p i)
 unfolding every
 every-of zero p f = tt
 every-of (suc n) p f = and-T (every n p) (p n) (every-of n p (λ i l. f i (omega arith))) (f n (omega arith))
-
--- a scan with an early end
-pub every-more : (n : ℕ) (p : ℕ → Bool) → T (every n p) → T (p n) → T (every (n + 1) p)
-unfolding every
-every-more n p a b = rw (add-one n) (and-T (every n p) (p n) a b)
-
-pub every-done : (n : ℕ) (p : ℕ → Bool) (i : ℕ) → T (every i p) → i ≡ n → every n p ≡ true
-every-done n p i t e = T-true (every n p) (subst (λ z. T (every z p)) e t)
-
-pub every-fails : (n : ℕ) (p : ℕ → Bool) (i : ℕ) → i < n → T (not (p i)) → every n p ≡ false
-every-fails n p i l t = T-false (every n p) (not-T (every n p) (λ h. T-not (p i) t (every-at n p h i l)))
 
 -- a test that fails over the numbers below n fails at one of them
 pub not-every : (n : ℕ) (p : ℕ → Bool) → T (not (every n p)) → (i : ℕ) × (i < n) × T (not (p i))

@@ -2,26 +2,23 @@
 use borrow.Author.Needs.{needs}
 use native.Mathlib.Omega.{arith}
 use Rattle.radius.specs.Bounds.{hides, coveredBy}
-use Rattle.lists.specs.Tests.{T-true, true-T, every-more, every-fails}
+use Rattle.lists.specs.Scans.{every-none, every-more, every-done, every-fails, test-passes, test-fails}
 use Rattle.lists.specs.Lists.{at, every}
 use lib.ListN.{getD}
-use lib.Dec.{T}
-use borrow.Author.Tests.{not-false}
 use mathlib.Core.Bool.{true, not}
-use mathlib.Core.Path.{_≡_, sym, ap, _∙_, subst}
+use mathlib.Core.Path.{_≡_, sym, ap}
 use Prim.Native.Nat.{_≤_, _-_}
 use Rattle.radius.proofs.bound.near_marked.Statement.{statement}
 use Rattle.radius.proofs.bound.near_marked.Tie as tie
 
 abbrev Inv-loop : tie.InvT-loop
-Inv-loop distances n t g marks c₀ c = (c ≤ n) × T (every c (λ x. hides (getD marks x 0) (at distances t x) g))
+Inv-loop distances n t g marks c₀ c = (c ≤ n) × (every c (λ x. hides (getD marks x 0) (at distances t x) g) ≡ true)
 
 abbrev μ-loop : tie.MeasureT-loop
 μ-loop distances n t g marks c₀ c = n - c
 
 loop-holds : tie.Need-loop-holds Inv-loop μ-loop
-unfolding every
-loop-holds c = (omega arith, tt)
+loop-holds c = (omega arith, every-none _)
 
 element-copy-out-misses : tie.Need-element-copy-out-misses Inv-loop μ-loop
 element-copy-out-misses c = omega arith
@@ -43,7 +40,7 @@ misses-requires c κs = search needs
 
 returns : tie.Need-returns Inv-loop μ-loop
 unfolding coveredBy
-returns c = sym (ap not (every-fails (c .before .before .before .before .before .before .before .args .n) (λ x. hides (getD (c .before .before .before .before .before .before .before .args .marks .now) x 0) (at (c .before .before .before .before .before .before .before .args .distances .now) (c .before .before .before .before .before .before .before .args .t) x) (c .before .before .before .before .before .before .before .args .g)) (c .before .before .before .before .before .loop .c) (c .before .before .before .before .loop-test .taken) (true-T _ (subst (λ x. not x ≡ true) (c .before .misses .ensures) (c .if1 .taken)))))
+returns c = sym (ap not (every-fails _ _ _ (c .before .before .before .before .loop-test .taken) (test-fails (c .before .misses .ensures) (c .if1 .taken))))
 
 add-c : tie.Need-add-c Inv-loop μ-loop
 add-c c = omega arith
@@ -52,11 +49,11 @@ loop-less : tie.Need-loop-less Inv-loop μ-loop
 loop-less c = omega arith
 
 loop-again : tie.Need-loop-again Inv-loop μ-loop
-loop-again c = (omega arith, every-more (c .before .before .before .before .before .loop .c) (λ x. hides (getD (c .before .before .before .before .before .before .before .args .marks .now) x 0) (at (c .before .before .before .before .before .before .before .args .distances .now) (c .before .before .before .before .before .before .before .args .t) x) (c .before .before .before .before .before .before .before .args .g)) (c .before .before .before .before .before .loop .inv .1) (true-T _ (sym (c .before .misses .ensures) ∙ not-false _ (c .if1 .left))))
+loop-again c = (omega arith, every-more _ _ (c .before .before .before .before .before .loop .inv .1) (test-passes (c .before .misses .ensures) (c .if1 .left)))
 
 returns-2 : tie.Need-returns-2 Inv-loop μ-loop
 unfolding coveredBy
-returns-2 c = let e : c .before .loop .c ≡ c .before .before .before .args .n = omega arith in sym (ap not (T-true (every (c .before .before .before .args .n) (λ x. hides (getD (c .before .before .before .args .marks .now) x 0) (at (c .before .before .before .args .distances .now) (c .before .before .before .args .t) x) (c .before .before .before .args .g))) (subst (λ z. T (every z (λ x. hides (getD (c .before .before .before .args .marks .now) x 0) (at (c .before .before .before .args .distances .now) (c .before .before .before .args .t) x) (c .before .before .before .args .g)))) e (c .before .loop .inv .1))))
+returns-2 c = sym (ap not (every-done _ _ _ (omega arith) (omega arith) (c .before .loop .inv .1)))
 
 pub near-marked-spec : {M : Type 1} → statement M
 near-marked-spec =

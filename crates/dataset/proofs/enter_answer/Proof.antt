@@ -1,0 +1,72 @@
+-- `enter_answer` meets its contract: one law of Ways for each way out. Assumes nothing.
+use native.Mathlib.Omega.{arith}
+use borrow.Author.Needs.{needs}
+use Rattle.dataset.specs.Ways.{enter-22, enter-4, enter-5, enter-6, enter-7, enter-done}
+use Rattle.lists.specs.Scans.{between-in, between-low, between-high, test-passes, test-fails}
+use Rattle.dataset.proofs.enter_answer.Statement.{statement}
+use Rattle.dataset.proofs.enter_answer.Tie as tie
+
+returns : tie.Need-returns
+returns c = enter-22 _ _ _ (c .before .before .before .before .pre) (c .if1 .taken)
+
+returns-2 : tie.Need-returns-2
+returns-2 c = let e = c .before in enter-4 _ _ _ (e .before .before .before .before .pre) (e .if1 .left) (c .if2 .taken)
+
+returns-3 : tie.Need-returns-3
+returns-3 c =
+    let e = c .before .before in
+    enter-5 _ _ _ (e .before .before .before .before .pre) (e .if1 .left) (c .before .if2 .left) (between-low 1 _ _ (c .if3 .taken))
+
+returns-4 : tie.Need-returns-4
+returns-4 c =
+    let e = c .before .before .before in
+    enter-5 _ _ _ (e .before .before .before .before .pre) (e .if1 .left) (c .before .before .if2 .left) (between-high 1 _ _ (c .if4 .taken))
+
+near-requires : tie.Need-near-requires
+near-requires c κs = search needs
+
+returns-5 : tie.Need-returns-5
+returns-5 c =
+    let k = c .before .before in
+    let e = k .before .before .before in
+    enter-6 _ _ _ (e .before .before .before .before .pre) (e .if1 .left) (k .before .before .if2 .left) (between-in 1 _ _ (k .before .if3 .left) (k .if4 .left))
+    (test-fails (c .before .near .ensures) (c .if5 .taken))
+
+first-broken-requires : tie.Need-first-broken-requires
+first-broken-requires c κs = (c .before .before .before .before .before .before .before .before .before .pre .long .distances, omega arith)
+
+enum-known-found : tie.Need-enum-known-found
+enum-known-found c = search needs
+
+enum-told : tie.Need-enum-told
+enum-told c = search needs
+
+returns-6 : tie.Need-returns-6
+returns-6 c =
+    let k = c .before .before .before .before .before .before in
+    let e = k .before .before .before in
+    enter-7 _ _ _ (e .before .before .before .before .pre) (e .if1 .left) (k .before .before .if2 .left) (between-in 1 _ _ (k .before .if3 .left) (k .if4 .left))
+    (test-passes (c .before .before .before .before .before .near .ensures) (c .before .before .before .before .if5 .left)) (c .before .before .before .first-broken .ensures) _ _ (c .before .found .given .1)
+
+returns-7 : tie.Need-returns-7
+returns-7 c =
+    let k = c .before .before .before .before .before in
+    let e = k .before .before .before in
+    enter-done _ _ _ (e .before .before .before .before .pre) (e .if1 .left) (k .before .before .if2 .left) (between-in 1 _ _ (k .before .if3 .left) (k .if4 .left))
+    (test-passes (c .before .before .before .before .near .ensures) (c .before .before .before .if5 .left)) (c .before .before .first-broken .ensures) (c .enum-told .given .1)
+
+pub enter-answer-spec : {M : Type 1} → statement M
+enter-answer-spec =
+    tie.close
+    (tie.spec
+    returns
+    returns-2
+    returns-3
+    returns-4
+    near-requires
+    returns-5
+    first-broken-requires
+    enum-known-found
+    enum-told
+    returns-6
+    returns-7)

@@ -1,0 +1,50 @@
+-- `set_minima` meets its contract: one law of Ways for each way out. Assumes nothing.
+use mathlib.Core.Path.{ap, _∙_}
+use borrow.Author.Needs.{needs}
+use Rattle.study.specs.Refusals.{verdictOf}
+use Rattle.dataset.specs.Ways.{held-refused, passed, minima-stays, minima-3, minima-done}
+use Rattle.dataset.specs.Answers.{minimaAnswer}
+use Rattle.lists.specs.Scans.{test-passes, test-fails}
+use Rattle.dataset.proofs.set_minima.Statement.{statement}
+use Rattle.dataset.proofs.set_minima.Tie as tie
+
+check-requires : tie.Need-check-requires
+check-requires c κs = search needs
+
+enum-told : tie.Need-enum-told
+enum-told c = search needs
+
+enum-told-2 : tie.Need-enum-told-2
+enum-told-2 c = search needs
+
+returns : tie.Need-returns
+unfolding minimaAnswer
+returns c =
+    let f = held-refused _ _ (c .enum-told2 .given .1) (c .before .before .check .ensures) in
+    (f, minima-stays _ (c .enum-told2 .given .1) _ f)
+
+valid-minima-requires : tie.Need-valid-minima-requires
+valid-minima-requires c κs = search needs
+
+returns-2 : tie.Need-returns-2
+returns-2 c =
+    let e = c .before .before in
+    minima-3 _ _ (passed _ (e .enum-told .given .1) (e .before .before .check .ensures)) (test-fails (c .before .valid-minima .ensures) (c .if1 .taken))
+
+returns-3 : tie.Need-returns-3
+returns-3 c =
+    let e = c .before .before in
+    let w = minima-done _ _ (passed _ (e .enum-told .given .1) (e .before .before .check .ensures)) (test-passes (c .before .valid-minima .ensures) (c .if1 .left)) in
+    (ap verdictOf (e .enum-told .given .1) ∙ w .0, w .1)
+
+pub set-minima-spec : {M : Type 1} → statement M
+set-minima-spec =
+    tie.close
+    (tie.spec
+    check-requires
+    enum-told
+    enum-told-2
+    returns
+    valid-minima-requires
+    returns-2
+    returns-3)

@@ -1,0 +1,253 @@
+// Open, Minima, Enter, Withdraw: for any record and memory of any length, the answer and what stands afterwards.
+// A dataset (document 01: book) is a record and lent memory: 14,400 distances in rows of 120, and 120 setting bytes.
+use crate::three_tide::Found;
+use study::Answer;
+use study::Dataset;
+use study::Minima;
+use study::Outcome;
+use study::Refusal;
+
+mod memory;
+pub mod three_tide;
+pub mod validity;
+
+ghost use mathlib.Core.Path.{_≡_};
+ghost use mathlib.Core.List.{[]};
+ghost use Rattle.study.specs.Refusals.{verdictOf};
+ghost use Rattle.dataset.specs.Memory.{stateOf};
+ghost use Rattle.dataset.specs.Answers.{heldAnswer, openAnswer, openLeaves, minimaAnswer, minimaLeaves, enterAnswer, enterLeaves, withdrawAnswer, withdrawLeaves};
+ghost use Rattle.dataset.specs.Ways.{Passed, EnterTold, WithdrawTold};
+
+// The dataset becomes empty, whatever it was.
+pub fn open(dataset: Dataset, distances: &mut [u32], settings: &mut [u8], k: u8) -> Outcome
+    ensures answer { λ r. ⌜ verdictOf (r .answer) ≡ openAnswer (stateOf dataset (now (distances .entry)) (now (settings .entry))) k ⌝ }
+    ensures leaves { λ r. ⌜ stateOf (r .dataset) (now (distances .exit)) (now (settings .exit)) ≡ openLeaves (stateOf dataset (now (distances .entry)) (now (settings .entry))) k ⌝ }
+{
+    if distances.len() < 14400 {
+        return Outcome {
+            answer: Answer::Refused(Refusal::ShortMemory),
+            dataset,
+        };
+    }
+    if settings.len() < 120 {
+        return Outcome {
+            answer: Answer::Refused(Refusal::ShortMemory),
+            dataset,
+        };
+    }
+    if k < 1 {
+        return Outcome {
+            answer: Answer::Refused(Refusal::SettingCount),
+            dataset,
+        };
+    }
+    if 8 < k {
+        return Outcome {
+            answer: Answer::Refused(Refusal::SettingCount),
+            dataset,
+        };
+    }
+    memory::clear_distances(distances);
+    memory::clear_settings(settings);
+    let minima = Minima { b0: 1, b: [0; 8] };
+    let empty = Dataset {
+        k,
+        n: 0,
+        minima,
+        withdrawn: 0,
+    };
+    Outcome {
+        answer: Answer::Done,
+        dataset: empty,
+    }
+}
+
+// With what every call but Open and Read begins: short memory (1), then what is no dataset (21).
+pub fn check(dataset: Dataset, distances: &[u32], settings: &[u8]) -> Answer
+    ensures { λ r. ⌜ verdictOf r ≡ heldAnswer (stateOf dataset (now (distances .entry)) (now (settings .entry))) (λ _. []) ⌝ }
+{
+    if distances.len() < 14400 {
+        return Answer::Refused(Refusal::ShortMemory);
+    }
+    if settings.len() < 120 {
+        return Answer::Refused(Refusal::ShortMemory);
+    }
+    if validity::is_dataset(dataset, distances, settings) {
+        return Answer::Done;
+    }
+    Answer::Refused(Refusal::NotDataset)
+}
+
+// Replaces the minima. The memory is only read.
+pub fn set_minima(dataset: Dataset, distances: &[u32], settings: &[u8], minima: Minima) -> Outcome
+    ensures answer { λ r. ⌜ verdictOf (r .answer) ≡ minimaAnswer (stateOf dataset (now (distances .entry)) (now (settings .entry))) minima ⌝ }
+    ensures leaves { λ r. ⌜ stateOf (r .dataset) (now (distances .entry)) (now (settings .entry)) ≡ minimaLeaves (stateOf dataset (now (distances .entry)) (now (settings .entry))) minima ⌝ }
+{
+    let answer = check(dataset, distances, settings);
+    let Answer::Done = answer else {
+        return Outcome { answer, dataset };
+    };
+    if !validity::valid_minima(minima, dataset.k) {
+        return Outcome {
+            answer: Answer::Refused(Refusal::Minima),
+            dataset,
+        };
+    }
+    let next = Dataset {
+        k: dataset.k,
+        n: dataset.n,
+        minima,
+        withdrawn: dataset.withdrawn,
+    };
+    Outcome {
+        answer,
+        dataset: next,
+    }
+}
+
+// The reasons that Enter has of its own.
+fn enter_answer(
+    dataset: Dataset,
+    distances: &[u32],
+    settings: &[u8],
+    setting: u8,
+    row: &[u32],
+) -> Answer
+    requires { ⌜ Passed (stateOf dataset (now distances) (now settings)) ⌝ }
+    ensures { λ r. ⌜ verdictOf r ≡ enterAnswer (stateOf dataset (now (distances .entry)) (now (settings .entry))) setting (now (row .entry)) ⌝ }
+{
+    let k = dataset.k;
+    let n = dataset.n;
+    if 120 <= n {
+        return Answer::Refused(Refusal::Full);
+    }
+    if row.len() != n {
+        return Answer::Refused(Refusal::RowLength);
+    }
+    if setting < 1 {
+        return Answer::Refused(Refusal::Setting);
+    }
+    if k < setting {
+        return Answer::Refused(Refusal::Setting);
+    }
+    if !validity::near(row) {
+        return Answer::Refused(Refusal::Distance);
+    }
+    let found = three_tide::first_broken(distances, row);
+    match found {
+        Found::Pair(i, j) => Answer::Refused(Refusal::ThreeTideRule(i, j)),
+        Found::Nothing => Answer::Done,
+    }
+}
+
+// What an accepted Enter makes of record and memory.
+fn add_tide(
+    dataset: Dataset,
+    distances: &mut [u32],
+    settings: &mut [u8],
+    setting: u8,
+    row: &[u32],
+) -> Dataset
+    requires { ⌜ EnterTold (stateOf dataset (now distances) (now settings)) setting (now row) ⌝ }
+    ensures { λ r. ⌜ stateOf r (now (distances .exit)) (now (settings .exit)) ≡ enterLeaves (stateOf dataset (now (distances .entry)) (now (settings .entry))) setting (now (row .entry)) ⌝ }
+{
+    let n = dataset.n;
+    memory::put_row(distances, row);
+    settings[n] = setting;
+    let minima = dataset.minima;
+    Dataset {
+        k: dataset.k,
+        n: n + 1,
+        minima,
+        withdrawn: dataset.withdrawn,
+    }
+}
+
+// One more tide, with the next number, at the row's distances from the tides held.
+pub fn enter(
+    dataset: Dataset,
+    distances: &mut [u32],
+    settings: &mut [u8],
+    setting: u8,
+    row: &[u32],
+) -> Outcome
+    ensures answer { λ r. ⌜ verdictOf (r .answer) ≡ enterAnswer (stateOf dataset (now (distances .entry)) (now (settings .entry))) setting (now (row .entry)) ⌝ }
+    ensures leaves { λ r. ⌜ stateOf (r .dataset) (now (distances .exit)) (now (settings .exit)) ≡ enterLeaves (stateOf dataset (now (distances .entry)) (now (settings .entry))) setting (now (row .entry)) ⌝ }
+{
+    let first = check(dataset, distances, settings);
+    let Answer::Done = first else {
+        return Outcome {
+            answer: first,
+            dataset,
+        };
+    };
+    let answer = enter_answer(dataset, distances, settings, setting, row);
+    let Answer::Done = answer else {
+        return Outcome { answer, dataset };
+    };
+    let next = add_tide(dataset, distances, settings, setting, row);
+    Outcome {
+        answer,
+        dataset: next,
+    }
+}
+
+// The reasons that Withdraw has of its own. Tides are numbered from 1.
+fn withdraw_answer(dataset: Dataset, distances: &[u32], settings: &[u8], tide: u8) -> Answer
+    requires { ⌜ Passed (stateOf dataset (now distances) (now settings)) ⌝ }
+    ensures { λ r. ⌜ verdictOf r ≡ withdrawAnswer (stateOf dataset (now (distances .entry)) (now (settings .entry))) tide ⌝ }
+{
+    let n = dataset.n;
+    let count = dataset.withdrawn;
+    let number = tide as usize;
+    if number < 1 {
+        return Answer::Refused(Refusal::NoSuchTide);
+    }
+    if n < number {
+        return Answer::Refused(Refusal::NoSuchTide);
+    }
+    if 65535 <= count {
+        return Answer::Refused(Refusal::WithdrawalLimit);
+    }
+    Answer::Done
+}
+
+// What an accepted Withdraw makes of record and memory.
+fn remove_tide(dataset: Dataset, distances: &mut [u32], settings: &mut [u8], tide: u8) -> Dataset
+    requires { ⌜ WithdrawTold (stateOf dataset (now distances) (now settings)) tide ⌝ }
+    ensures { λ r. ⌜ stateOf r (now (distances .exit)) (now (settings .exit)) ≡ withdrawLeaves (stateOf dataset (now (distances .entry)) (now (settings .entry))) tide ⌝ }
+{
+    let m = tide as usize - 1;
+    memory::remove_row(distances, m);
+    memory::remove_setting(settings, m);
+    let minima = dataset.minima;
+    Dataset {
+        k: dataset.k,
+        n: dataset.n - 1,
+        minima,
+        withdrawn: dataset.withdrawn + 1,
+    }
+}
+
+// The named tide goes, and later tides move down by one.
+pub fn withdraw(dataset: Dataset, distances: &mut [u32], settings: &mut [u8], tide: u8) -> Outcome
+    ensures answer { λ r. ⌜ verdictOf (r .answer) ≡ withdrawAnswer (stateOf dataset (now (distances .entry)) (now (settings .entry))) tide ⌝ }
+    ensures leaves { λ r. ⌜ stateOf (r .dataset) (now (distances .exit)) (now (settings .exit)) ≡ withdrawLeaves (stateOf dataset (now (distances .entry)) (now (settings .entry))) tide ⌝ }
+{
+    let first = check(dataset, distances, settings);
+    let Answer::Done = first else {
+        return Outcome {
+            answer: first,
+            dataset,
+        };
+    };
+    let answer = withdraw_answer(dataset, distances, settings, tide);
+    let Answer::Done = answer else {
+        return Outcome { answer, dataset };
+    };
+    let next = remove_tide(dataset, distances, settings, tide);
+    Outcome {
+        answer,
+        dataset: next,
+    }
+}

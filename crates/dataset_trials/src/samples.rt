@@ -1,0 +1,68 @@
+// Records and datasets to try the calls on.
+use study::Dataset;
+use study::Minima;
+
+// A record that is no dataset's.
+pub fn nonsense() -> Dataset {
+    let minima = Minima { b0: 0, b: [9; 8] };
+    Dataset {
+        k: 0,
+        n: 300,
+        minima,
+        withdrawn: 7,
+    }
+}
+
+pub fn minima(b0: u8, first: u8, third: u8) -> Minima {
+    Minima {
+        b0,
+        b: [first, 0, third, 0, 0, 0, 0, 0],
+    }
+}
+
+pub fn counted(dataset: Dataset, withdrawn: u16) -> Dataset {
+    let minima = dataset.minima;
+    Dataset {
+        k: dataset.k,
+        n: dataset.n,
+        minima,
+        withdrawn,
+    }
+}
+
+// k = 2, and two tides at 3, of settings 1 and 2.
+pub fn two_tides(distances: &mut [u32], settings: &mut [u8]) -> Dataset {
+    let opened = dataset::open(nonsense(), distances, settings, 2);
+    let empty = opened.dataset;
+    let first = dataset::enter(empty, distances, settings, 1, &[]);
+    let one = first.dataset;
+    let second = dataset::enter(one, distances, settings, 2, &[3]);
+    second.dataset
+}
+
+// A third at 1 and 4, of setting 2.
+pub fn three_tides(distances: &mut [u32], settings: &mut [u8]) -> Dataset {
+    let two = two_tides(distances, settings);
+    let third = dataset::enter(two, distances, settings, 2, &[1, 4]);
+    third.dataset
+}
+
+// As many tides as the row is long, each at the row's distances from those before it.
+fn enter_all(empty: Dataset, distances: &mut [u32], settings: &mut [u8], row: &[u32]) -> Dataset {
+    let mut next = empty;
+    let mut n: usize = 0;
+    while n < row.len() {
+        let entered = dataset::enter(next, distances, settings, 1, &row[..n]);
+        next = entered.dataset;
+        n += 1;
+    }
+    next
+}
+
+// 120 tides, each at 1 from every other.
+pub fn full(distances: &mut [u32], settings: &mut [u8]) -> Dataset {
+    let opened = dataset::open(nonsense(), distances, settings, 1);
+    let empty = opened.dataset;
+    let row = [1u32; 120];
+    enter_all(empty, distances, settings, &row)
+}
