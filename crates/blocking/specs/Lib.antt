@@ -1,4 +1,3 @@
-pub mod Narrowed
-pub mod First
-pub mod Measured
-pub mod Core
+pub mod Answers
+pub mod Linked
+pub mod CentresLaws

@@ -1,4 +1,2 @@
-// Centres, Block and Judge.
-mod core;
-mod first;
-mod measure;
+// Centres, Block and Judge: for any record and memory of any length, the answer and what stands afterwards.
+pub mod centres;

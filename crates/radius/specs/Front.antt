@@ -83,8 +83,11 @@ module _ (dist : ℕ → ℕ → ℕ) (g : ℕ) where
 pub record CentresAt (d : List ℕ) (n g count : ℕ) (cs : List ℕ) : Type 0 where
   pub front : Front cs count (centresAmong (within d n) g n)
 
+pub front-fits : {d : List ℕ} {n g count : ℕ} {cs : List ℕ} → CentresAt d n g count cs → count ≤ n
+front-fits {d} {n} {g} C = omega (arith, C .front .long, centres-few (within d n) g n)
+
 pub front-few : {d : List ℕ} {n g count : ℕ} {cs : List ℕ} → n ≤ 120 → CentresAt d n g count cs → count ≤ 120
-front-few {d} {n} {g} l C = omega (arith, C .front .long, centres-few (within d n) g n)
+front-few l C = omega (arith, front-fits C)
 
 pub front-below : {d : List ℕ} {n g count : ℕ} {cs : List ℕ} → CentresAt d n g count cs → (m : ℕ) → m < count → getD cs m 0 < n
 front-below {d} {n} {g} C = centres-below (within d n) g n (C .front)

@@ -1,7 +1,7 @@
 // The least radius with an assignment, through the promise of the matching search alone. Radii are tried upwards; each is tried, or
 // lies between two others where nothing changes.
 mod bound;
-mod centres;
+pub mod centres;
 mod limits;
 mod next;
 mod table;

@@ -1,5 +1,5 @@
--- What Open, Minima, Enter, Withdraw and Block say of a study: their own reasons for a refusal, in document 01's order, and what an
--- accepted call makes of the study and the count of withdrawals. A tide's number in a call is from 1, in a study from 0. Assumes nothing.
+-- What each call says of a study: its own reasons for a refusal, in document 01's order, and what an accepted call makes of the study
+-- and the count of withdrawals, or finds in it. A tide's number in a call is from 1, in a study from 0. Assumes nothing.
 use Prim.Native.Nat.{ℕ, zero, suc, _+_, _-_}
 use mathlib.Core.Bool.{Bool, true, not, _&&_}
 use mathlib.Core.List.{List, [], _∷_, _++_, map, flatMap}
@@ -7,7 +7,8 @@ use lib.Dec.{leb, eqb}
 use lib.ListN.{length, getD, replicate}
 use Rattle.lists.specs.Lists.{between, each, range, every, filter, isEmpty}
 use Rattle.study.specs.declared.Minima.{Minima}
-use Rattle.study.specs.Study.{Tide, Study, Contents, size, distance, sufficient, validMinima}
+use Rattle.study.specs.Problem.{centres}
+use Rattle.study.specs.Study.{Tide, Study, Contents, size, distance, sufficient, problem, validMinima}
 use Rattle.study.specs.Refusals.{Numbered, number, seven, Reason, _⇒_}
 
 -- ---- Open
@@ -94,6 +95,18 @@ withdrawn i S = record { k = S .k; minima = S .minima; tides = map (shortened i)
 
 unfoldable pub withdrawing : ℕ → Contents → Contents
 withdrawing t H = record { study = withdrawn (t - 1) (H .study); withdrawals = H .withdrawals + 1 }
+
+-- ---- Centres, lent a list of this length
+
+unfoldable pub centresReasons : Study → ℕ → List Reason
+centresReasons S list =
+    (eqb (size S) 0 ⇒ number 24)
+    ∷ (not (leb (size S) list) ⇒ number 1)
+    ∷ []
+
+-- the centres' tide numbers
+unfoldable pub centreNumbers : Study → ℕ → List ℕ
+centreNumbers S g = map suc (centres (problem S) g)
 
 -- ---- Block, lent a list and records of these lengths
 

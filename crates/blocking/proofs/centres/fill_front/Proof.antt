@@ -1,0 +1,23 @@
+-- The centres of the problem in memory are those of the study. Assumes nothing.
+use native.Mathlib.Omega.{arith}
+use Rattle.blocking.specs.CentresLaws.{centres-filled}
+use Rattle.radius.specs.Front.{front-fits, front-few, front-below}
+use borrow.Author.Needs.{needs}
+use Rattle.blocking.proofs.centres.fill_front.Statement.{statement}
+use Rattle.blocking.proofs.centres.fill_front.Tie as tie
+
+find-centres-requires : tie.Need-find-centres-requires
+find-centres-requires c κs = let p = c .before .before .before .before .pre .passed in (p .dataset .few, omega (arith, p .dataset .few, p .long .distances), omega arith)
+
+put-centres-requires : tie.Need-put-centres-requires
+put-centres-requires c κs = let p = c .before .before .before .before .before .before .before .pre in let C = c .before .before .find-centres .ensures in ((C .front .size, front-few (p .passed .dataset .few) C, omega (arith, p .room, front-fits C)), λ i l. omega (arith, p .passed .dataset .few, front-below C i l))
+
+same-length : tie.Need-same-length
+same-length c = search needs
+
+returns : tie.Need-returns
+returns c = centres-filled _ _ _ (c .before .before .before .before .before .before .before .before .before .before .pre) (c .before .before .before .before .before .find-centres .ensures) (c .before .before .put-centres .ensures)
+
+pub fill-front-spec : {M : Type 1} → statement M
+fill-front-spec =
+    tie.close (tie.spec find-centres-requires put-centres-requires same-length returns)

@@ -1,0 +1,66 @@
+-- The centres found, as tide numbers. Assumes nothing.
+use native.Mathlib.Omega.{arith}
+use Rattle.lists.specs.Tables.{length-overwrite, overwrite-none, overwrite-step, overwrite-done}
+use Rattle.lists.specs.Lists.{overwrite}
+use lib.ListN.{length, getD}
+use mathlib.Core.Path.{_≡_, refl, ap, _∙_}
+use Prim.Native.Nat.{_+_, _≤_, _-_}
+use Rattle.blocking.proofs.centres.put_centres.Statement.{statement}
+use Rattle.blocking.proofs.centres.put_centres.Tie as tie
+
+abbrev Inv-loop : tie.InvT-loop
+Inv-loop centres count list₀ i₀ list i = (i ≤ count) × (list ≡ overwrite i (λ x. getD centres x 0 + 1) list₀)
+
+abbrev μ-loop : tie.MeasureT-loop
+μ-loop centres count list₀ i₀ list i = count - i
+
+loop-holds : tie.Need-loop-holds Inv-loop μ-loop
+loop-holds c = (omega arith, overwrite-none _ _)
+
+mul-list : tie.Need-mul-list Inv-loop μ-loop
+mul-list c = omega arith
+
+element-copy-out-list : tie.Need-element-copy-out-list Inv-loop μ-loop
+element-copy-out-list c = omega arith
+
+add-list : tie.Need-add-list Inv-loop μ-loop
+add-list c = omega (arith, c .before .before .before .pre .1 (c .before .before .loop .i) (omega arith))
+
+cast-list : tie.Need-cast-list Inv-loop μ-loop
+cast-list c = omega (arith, c .before .before .before .pre .1 (c .before .before .loop .i) (omega arith))
+
+slice-write-list : tie.Need-slice-write-list Inv-loop μ-loop
+slice-write-list c = let q = ap length (c .before .before .loop .inv .1) ∙ length-overwrite (λ x. getD (c .before .before .before .args .centres .now) x 0 + 1) _ (c .before .before .loop .i) (omega arith) in omega arith
+
+add-i : tie.Need-add-i Inv-loop μ-loop
+add-i c = omega arith
+
+loop-less : tie.Need-loop-less Inv-loop μ-loop
+loop-less c = omega arith
+
+loop-again : tie.Need-loop-again Inv-loop μ-loop
+loop-again c = (omega arith, overwrite-step (λ x. getD (c .before .before .before .args .centres .now) x 0 + 1) _ _ (c .before .before .loop .inv .1) refl (omega arith))
+
+same-length : tie.Need-same-length Inv-loop μ-loop
+same-length c = ap length (c .before .loop .inv .1) ∙ length-overwrite (λ x. getD (c .before .before .args .centres .now) x 0 + 1) _ (c .before .loop .i) (omega arith)
+
+returns : tie.Need-returns Inv-loop μ-loop
+returns c = overwrite-done (λ x. getD (c .before .before .args .centres .now) x 0 + 1) _ (omega arith) (c .before .loop .inv .1)
+
+pub put-centres-spec : {M : Type 1} → statement M
+put-centres-spec =
+    tie.close
+    (tie.spec
+    Inv-loop
+    μ-loop
+    loop-holds
+    mul-list
+    element-copy-out-list
+    add-list
+    cast-list
+    slice-write-list
+    add-i
+    loop-less
+    loop-again
+    same-length
+    returns)

@@ -1,0 +1,23 @@
+-- The whole core. Assumes nothing.
+use native.Mathlib.Omega.{arith}
+use Rattle.blocks.specs.Core.{core-blocks}
+use Rattle.blocks.specs.Measured.{measured-none}
+use mathlib.Core.Path.{refl}
+use borrow.Author.Needs.{needs}
+use Rattle.blocks.proofs.core.block_rows.Statement.{statement}
+use Rattle.blocks.proofs.core.block_rows.Tie as tie
+
+assign-requires : tie.Need-assign-requires
+assign-requires c κs = (c .before .before .before .before .before .pre .0, (c .before .before .before .before .before .pre .1 .0, (c .before .before .before .before .before .pre .1 .1 .0, refl, c .before .before .before .before .before .pre .1 .1 .1)))
+
+measure-requires : tie.Need-measure-requires
+measure-requires c κs = ((c .before .before .before .before .before .before .before .before .before .before .before .pre .0 .few, c .before .before .before .before .before .before .before .before .before .before .before .pre .0 .distances-long, omega (arith, c .before .before .before .before .before .assign .ensures .same-length, c .before .before .before .before .before .before .before .before .before .before .before .pre .1 .1 .1)), (c .before .before .before .before .before .assign .ensures .low, (c .before .before .before .before .before .assign .ensures .high, measured-none _ _ _)))
+
+same-length : tie.Need-same-length
+same-length c = search needs
+
+returns : tie.Need-returns
+returns c = (core-blocks (c .before .before .before .before .before .before .before .before .before .before .before .before .pre .0 .few) (c .before .before .before .before .before .before .assign .ensures) (c .measure .ensures), c .before .before .before .before .before .before .assign .ensures .list-of)
+
+pub block-rows-spec : {M : Type 1} → statement M
+block-rows-spec = tie.close (tie.spec assign-requires measure-requires same-length returns)

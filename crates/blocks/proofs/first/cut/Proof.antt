@@ -1,0 +1,55 @@
+-- Blocks taken away from a tide. Assumes nothing.
+use native.Mathlib.Omega.{arith}
+use Rattle.blocks.specs.Narrowed.{Narrowed, Outside, cut-none, cut-more, cut-end}
+use Prim.Native.Nat.{_≤_, _-_}
+use Rattle.blocks.proofs.first.cut.Statement.{statement}
+use Rattle.blocks.proofs.first.cut.Tie as tie
+
+abbrev Inv-loop : tie.InvT-loop
+Inv-loop allowed₀ t v i₀ allowed i = (v ≤ i) × (i ≤ 120) × Narrowed t (Outside v i) allowed₀ allowed
+
+abbrev μ-loop : tie.MeasureT-loop
+μ-loop allowed₀ t v i₀ allowed i = 120 - i
+
+loop-holds : tie.Need-loop-holds Inv-loop μ-loop
+loop-holds c = (omega arith, omega arith, cut-none _ _ _)
+
+mul-allowed : tie.Need-mul-allowed Inv-loop μ-loop
+mul-allowed c = omega arith
+
+add-allowed : tie.Need-add-allowed Inv-loop μ-loop
+add-allowed c = omega arith
+
+slice-write-allowed : tie.Need-slice-write-allowed Inv-loop μ-loop
+slice-write-allowed c = let q = c .before .loop .inv .2 .same-length in omega arith
+
+add-i : tie.Need-add-i Inv-loop μ-loop
+add-i c = omega arith
+
+loop-less : tie.Need-loop-less Inv-loop μ-loop
+loop-less c = omega arith
+
+loop-again : tie.Need-loop-again Inv-loop μ-loop
+loop-again c = (omega arith, omega arith, cut-more (c .before .loop .inv .0) (c .loop-test .taken) (c .before .before .pre .2) (c .before .loop .inv .2))
+
+same-length : tie.Need-same-length Inv-loop μ-loop
+same-length c = c .before .loop .inv .2 .same-length
+
+returns : tie.Need-returns Inv-loop μ-loop
+returns c = cut-end (omega arith) (c .before .loop .inv .2)
+
+pub cut-spec : {M : Type 1} → statement M
+cut-spec =
+    tie.close
+    (tie.spec
+    Inv-loop
+    μ-loop
+    loop-holds
+    mul-allowed
+    add-allowed
+    slice-write-allowed
+    add-i
+    loop-less
+    loop-again
+    same-length
+    returns)

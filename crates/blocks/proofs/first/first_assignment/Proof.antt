@@ -1,0 +1,52 @@
+-- Tide after tide. Assumes nothing.
+use native.Mathlib.Omega.{arith}
+use Rattle.blocks.specs.First.{Fixed, fixed-start, fixed-more, fixed-end, asked-on}
+use Rattle.radius.specs.Attempts.{Kept, kept-same, kept-on}
+use Prim.Native.Nat.{_≤_, _-_}
+use Rattle.blocks.proofs.first.first_assignment.Statement.{statement}
+use Rattle.blocks.proofs.first.first_assignment.Tie as tie
+
+abbrev Inv-loop : tie.InvT-loop
+Inv-loop n blocks minima settings allowed₀ list₀ t₀ allowed list t = (t ≤ n) × Kept n list₀ list × Fixed n blocks minima settings t allowed₀ allowed list
+
+abbrev μ-loop : tie.MeasureT-loop
+μ-loop n blocks minima settings allowed₀ list₀ t₀ allowed list t = n - t
+
+loop-holds : tie.Need-loop-holds Inv-loop μ-loop
+loop-holds c = (omega arith, kept-same _ _, fixed-start (c .before .before .before .pre .1))
+
+settle-requires : tie.Need-settle-requires Inv-loop μ-loop
+settle-requires c κs = (asked-on (c .before .before .before .before .before .before .before .pre .0) (c .before .before .before .loop .inv .2 .same-length) (c .before .before .before .loop .inv .1 .same-length), (c .before .before .before .loop .inv .2 .assigned, c .before .before .loop-test .taken))
+
+add-t : tie.Need-add-t Inv-loop μ-loop
+add-t c = let f = c .before .before .before .before .before .before .before .before .before .before .before .before .pre .0 .few-tides in omega arith
+
+loop-less : tie.Need-loop-less Inv-loop μ-loop
+loop-less c = omega arith
+
+loop-again : tie.Need-loop-again Inv-loop μ-loop
+loop-again c = (omega arith, kept-on (c .before .before .before .before .before .before .before .before .loop .inv .1) (c .before .before .before .before .settle .ensures .1), fixed-more (c .before .before .before .before .before .before .before .before .loop .inv .2) (c .before .before .before .before .settle .ensures .0))
+
+same-length : tie.Need-same-length Inv-loop μ-loop
+same-length c = c .before .loop .inv .2 .same-length
+
+same-length-2 : tie.Need-same-length-2 Inv-loop μ-loop
+same-length-2 c = c .before .loop .inv .1 .same-length
+
+returns : tie.Need-returns Inv-loop μ-loop
+returns c = (fixed-end (c .before .loop .inv .2) (omega arith), c .before .loop .inv .1)
+
+pub first-assignment-spec : {M : Type 1} → statement M
+first-assignment-spec =
+    tie.close
+    (tie.spec
+    Inv-loop
+    μ-loop
+    loop-holds
+    settle-requires
+    add-t
+    loop-less
+    loop-again
+    same-length
+    same-length-2
+    returns)

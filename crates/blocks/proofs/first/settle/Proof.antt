@@ -1,0 +1,85 @@
+-- A tide's least block, from above. Assumes nothing.
+use borrow.Author.Needs.{needs}
+use native.Mathlib.Omega.{arith}
+use Rattle.blocks.specs.First.{Settling, settling-start, settling-lt, settling-pin, settling-less, settling-more, settling-end, settling-kept, asked-on}
+use Rattle.study.specs.Problem.{labels}
+use lib.ListN.{length-set}
+use mathlib.Core.Path.{_∙_}
+use Rattle.blocks.proofs.first.settle.Statement.{statement}
+use Rattle.blocks.proofs.first.settle.Tie as tie
+
+abbrev Inv-loop : tie.InvT-loop
+Inv-loop n blocks minima settings allowed₀ list₀ t v₀ allowed list v = Settling n blocks minima settings t v allowed₀ allowed list₀ list
+
+abbrev μ-loop : tie.MeasureT-loop
+μ-loop n blocks minima settings allowed₀ list₀ t v₀ allowed list v = v
+
+slice-read-wide : tie.Need-slice-read-wide Inv-loop μ-loop
+slice-read-wide c = let l = c .before .before .before .before .pre .0 .list-long in omega arith
+
+wide-requires : tie.Need-wide-requires Inv-loop μ-loop
+wide-requires c κs = search needs
+
+loop-holds : tie.Need-loop-holds Inv-loop μ-loop
+unfolding labels
+loop-holds c = settling-start _ _ (c .before .before .before .before .before .pre .1 .0) (c .wide .ensures)
+
+lower-requires : tie.Need-lower-requires Inv-loop μ-loop
+lower-requires c κs = (asked-on (c .before .before .before .before .before .before .before .before .pre .0) (c .before .before .loop .inv .same-length) (c .before .before .loop .inv .kept .same-length), (c .before .before .before .before .before .before .before .before .pre .1 .1, settling-lt (c .before .before .before .before .before .before .before .before .pre .0 .few-blocks) (c .before .before .before .before .before .before .before .before .pre .1 .1) (c .before .before .loop .inv)))
+
+slice-read-wide-2 : tie.Need-slice-read-wide-2 Inv-loop μ-loop
+slice-read-wide-2 c = let l = c .before .before .before .before .before .before .before .before .before .before .before .before .before .before .before .pre .0 .list-long in let i = c .before .before .before .before .before .before .before .before .before .loop .inv .kept .same-length in let k = c .before .before .before .before .before .before .lower .ensures .1 .kept .same-length in omega arith
+
+wide-requires-2 : tie.Need-wide-requires-2 Inv-loop μ-loop
+wide-requires-2 c κs = search needs
+
+loop-less : tie.Need-loop-less Inv-loop μ-loop
+unfolding labels
+loop-less c = let l = settling-less (c .before .before .before .before .before .before .before .before .before .before .before .before .before .before .before .before .pre .0 .few-blocks) (c .before .before .before .before .before .before .before .before .before .before .before .before .before .before .before .before .pre .1 .1) (c .before .before .before .before .before .before .before .before .before .before .loop .inv) (c .before .before .before .before .before .before .before .lower .ensures .0) (c .before .before .before .before .before .before .before .lower .ensures .1) (c .before .before .if1 .taken) in let w = c .wide2 .ensures in omega arith
+
+loop-again : tie.Need-loop-again Inv-loop μ-loop
+unfolding labels
+loop-again c = settling-more (c .before .before .before .before .before .before .before .before .before .before .before .before .before .before .before .before .pre .0 .few-blocks) (c .before .before .before .before .before .before .before .before .before .before .before .before .before .before .before .before .pre .1 .1) (c .before .before .before .before .before .before .before .before .before .before .loop .inv) (c .before .before .before .before .before .before .before .lower .ensures .0) (c .before .before .before .before .before .before .before .lower .ensures .1) (c .before .before .if1 .taken) _ (c .wide2 .ensures)
+
+cut-requires : tie.Need-cut-requires Inv-loop μ-loop
+cut-requires c κs = let a = c .before .before .before .before .before .before .before .before .before .before .before .before .before .before .before .pre .0 .allowed-long in let f = c .before .before .before .before .before .before .before .before .before .before .before .before .before .before .before .pre .0 .few-tides in let q = c .before .before .before .before .before .before .before .before .before .loop .inv .same-length in let w = c .before .before .before .before .before .before .lower .ensures .0 .same-length in (omega arith, omega arith, omega arith)
+
+mul-allowed : tie.Need-mul-allowed Inv-loop μ-loop
+mul-allowed c = let a = c .before .before .before .before .before .before .before .before .before .before .before .before .before .before .before .before .before .before .pre .0 .allowed-long in let f = c .before .before .before .before .before .before .before .before .before .before .before .before .before .before .before .before .before .before .pre .0 .few-tides in let q = c .before .before .before .before .before .before .before .before .before .before .before .before .loop .inv .same-length in let w = c .before .before .before .before .before .before .before .before .before .lower .ensures .0 .same-length in let v = settling-lt (c .before .before .before .before .before .before .before .before .before .before .before .before .before .before .before .before .before .before .pre .0 .few-blocks) (c .before .before .before .before .before .before .before .before .before .before .before .before .before .before .before .before .before .before .pre .1 .1) (c .before .before .before .before .before .before .before .before .before .before .before .before .loop .inv) in let tl = c .before .before .before .before .before .before .before .before .before .before .before .before .before .before .before .before .before .before .pre .1 .1 in omega arith
+
+add-allowed : tie.Need-add-allowed Inv-loop μ-loop
+add-allowed c = let a = c .before .before .before .before .before .before .before .before .before .before .before .before .before .before .before .before .before .before .pre .0 .allowed-long in let f = c .before .before .before .before .before .before .before .before .before .before .before .before .before .before .before .before .before .before .pre .0 .few-tides in let q = c .before .before .before .before .before .before .before .before .before .before .before .before .loop .inv .same-length in let w = c .before .before .before .before .before .before .before .before .before .lower .ensures .0 .same-length in let v = settling-lt (c .before .before .before .before .before .before .before .before .before .before .before .before .before .before .before .before .before .before .pre .0 .few-blocks) (c .before .before .before .before .before .before .before .before .before .before .before .before .before .before .before .before .before .before .pre .1 .1) (c .before .before .before .before .before .before .before .before .before .before .before .before .loop .inv) in let tl = c .before .before .before .before .before .before .before .before .before .before .before .before .before .before .before .before .before .before .pre .1 .1 in omega arith
+
+slice-write-allowed : tie.Need-slice-write-allowed Inv-loop μ-loop
+slice-write-allowed c = let z = c .before .before .cut .ensures .same-length in let a = c .before .before .before .before .before .before .before .before .before .before .before .before .before .before .before .before .before .before .pre .0 .allowed-long in let f = c .before .before .before .before .before .before .before .before .before .before .before .before .before .before .before .before .before .before .pre .0 .few-tides in let q = c .before .before .before .before .before .before .before .before .before .before .before .before .loop .inv .same-length in let w = c .before .before .before .before .before .before .before .before .before .lower .ensures .0 .same-length in let v = settling-lt (c .before .before .before .before .before .before .before .before .before .before .before .before .before .before .before .before .before .before .pre .0 .few-blocks) (c .before .before .before .before .before .before .before .before .before .before .before .before .before .before .before .before .before .before .pre .1 .1) (c .before .before .before .before .before .before .before .before .before .before .before .before .loop .inv) in let tl = c .before .before .before .before .before .before .before .before .before .before .before .before .before .before .before .before .before .before .pre .1 .1 in omega arith
+
+same-length : tie.Need-same-length Inv-loop μ-loop
+same-length c = let z = c .before .before .cut .ensures .same-length ∙ c .before .before .before .before .before .before .before .before .before .lower .ensures .0 .same-length ∙ c .before .before .before .before .before .before .before .before .before .before .before .before .loop .inv .same-length in simp length-set z
+
+same-length-2 : tie.Need-same-length-2 Inv-loop μ-loop
+same-length-2 c = c .before .before .before .before .before .before .before .before .before .lower .ensures .1 .kept .same-length ∙ c .before .before .before .before .before .before .before .before .before .before .before .before .loop .inv .kept .same-length
+
+returns : tie.Need-returns Inv-loop μ-loop
+returns c = let N = settling-pin (c .before .before .before .before .before .before .before .before .before .before .before .before .before .before .before .before .before .before .pre .0 .few-blocks) (c .before .before .before .before .before .before .before .before .before .before .before .before .before .before .before .before .before .before .pre .1 .1) (c .before .before .before .before .before .before .before .before .before .before .before .before .loop .inv) (c .before .before .before .before .before .before .before .before .before .lower .ensures .0) (let a = c .before .before .before .before .before .before .before .before .before .before .before .before .before .before .before .before .before .before .pre .0 .allowed-long in omega arith) (c .before .before .cut .ensures) in (settling-end (c .before .before .before .before .before .before .before .before .before .before .before .before .before .before .before .before .before .before .pre .0 .few-blocks) (c .before .before .before .before .before .before .before .before .before .before .before .before .before .before .before .before .before .before .pre .1 .1) (c .before .before .before .before .before .before .before .before .before .before .before .before .loop .inv) (c .before .before .before .before .before .before .before .before .before .lower .ensures .0) (c .before .before .before .before .before .before .before .before .before .lower .ensures .1) (c .before .before .before .before .if1 .left) N, settling-kept (c .before .before .before .before .before .before .before .before .before .before .before .before .before .before .before .before .before .before .pre .0 .few-blocks) (c .before .before .before .before .before .before .before .before .before .before .before .before .before .before .before .before .before .before .pre .1 .1) (c .before .before .before .before .before .before .before .before .before .before .before .before .loop .inv) (c .before .before .before .before .before .before .before .before .before .lower .ensures .0) (c .before .before .before .before .before .before .before .before .before .lower .ensures .1))
+
+pub settle-spec : {M : Type 1} → statement M
+settle-spec =
+    tie.close
+    (tie.spec
+    Inv-loop
+    μ-loop
+    slice-read-wide
+    wide-requires
+    loop-holds
+    lower-requires
+    slice-read-wide-2
+    wide-requires-2
+    loop-less
+    loop-again
+    cut-requires
+    mul-allowed
+    add-allowed
+    slice-write-allowed
+    same-length
+    same-length-2
+    returns)

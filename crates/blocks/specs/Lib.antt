@@ -1,0 +1,4 @@
+pub mod Narrowed
+pub mod First
+pub mod Measured
+pub mod Core

@@ -1,0 +1,90 @@
+// The blocking of a valid study that has enough tides.
+use crate::first::first_assignment;
+use crate::measure::measure;
+use radius::Found;
+use radius::least_radius;
+use study::Minima;
+ghost use mathlib.Core.Path.{_≡_};
+ghost use mathlib.Core.List.{_++_};
+ghost use Prim.Native.Nat.{ℕ, _+_, _<_, _≤_};
+ghost use lib.ListN.{length, drop};
+ghost use Rattle.lists.specs.Lists.{overwrite};
+ghost use Rattle.study.specs.Problem.{labels, blocking};
+ghost use Rattle.radii.specs.Posed.{posed, Proper, Sized};
+ghost use Rattle.blocks.specs.Core.{Assigns, Blocks};
+
+// The rows of all blocks: centres as tides from 0, numbers of tides, diameters.
+pub struct Rows {
+    pub count: usize,
+    pub radius: u32,
+    pub widest: u32,
+    pub centres: [usize; 120],
+    pub sizes: [u8; 120],
+    pub diameters: [u32; 120],
+}
+
+// Blocks are numbered from 1 in the list.
+fn number(list: &mut [u8], n: usize)
+    requires { ⌜ n ≤ length (now list) ⌝ }
+    requires { ⌜ ((t : ℕ) → t < n → labels (now list) t < 120) ⌝ }
+    ensures { λ _. ⌜ now (list .exit) ≡ overwrite n (λ (t : ℕ). labels (now (list .entry)) t + 1) (now (list .entry)) ⌝ }
+{
+    let mut t = 0;
+    while t < n {
+        list[t] = list[t] + 1;
+        t += 1;
+    }
+}
+
+// The least radius with an assignment, its centres, and the first assignment there.
+fn assign(
+    distances: &[u32],
+    settings: &[u8],
+    n: usize,
+    minima: Minima,
+    centres: &mut [usize; 120],
+    list: &mut [u8],
+) -> Found
+    requires { ⌜ Sized (now distances) (now settings) n minima ⌝ }
+    requires { ⌜ Proper (now distances) (now settings) n minima ⌝ }
+    requires { ⌜ (0 < n) × (length (now centres) ≡ 120) × (n ≤ length (now list)) ⌝ }
+    ensures { λ r. ⌜ Assigns (now (distances .entry)) (now (settings .entry)) n minima (r .radius) (r .count) (now (centres .exit)) (now (list .entry)) (now (list .exit)) ⌝ }
+{
+    let mut allowed: [u8; 14400] = [0; 14400];
+    let found = least_radius(distances, settings, n, minima, centres, &mut allowed, list);
+    let count = found.count;
+    first_assignment(n, count, minima, settings, &mut allowed, list);
+    number(list, n);
+    found
+}
+
+// The blocking: radius, centres and list, and the blocks' sizes and diameters.
+pub fn block_rows(
+    distances: &[u32],
+    settings: &[u8],
+    n: usize,
+    minima: Minima,
+    list: &mut [u8],
+) -> Rows
+    requires { ⌜ Sized (now distances) (now settings) n minima ⌝ }
+    requires { ⌜ Proper (now distances) (now settings) n minima ⌝ }
+    requires { ⌜ (0 < n) × (n ≤ length (now list)) ⌝ }
+    ensures { λ r. ⌜ Blocks (now (distances .entry)) (now (settings .entry)) n minima (r .count) (r .radius) (r .widest) (r .centres) (r .sizes) (r .diameters) ⌝ }
+    ensures { λ _. ⌜ now (list .exit) ≡ blocking (posed (now (distances .entry)) (now (settings .entry)) n minima) ++ drop n (now (list .entry)) ⌝ }
+{
+    let mut centres: [usize; 120] = [0; 120];
+    let found = assign(distances, settings, n, minima, &mut centres, list);
+    let mut sizes: [u8; 120] = [0; 120];
+    let mut diameters: [u32; 120] = [0; 120];
+    let widest = measure(distances, list, n, &mut sizes, &mut diameters);
+    let count = found.count;
+    let radius = found.radius;
+    Rows {
+        count: count,
+        radius: radius,
+        widest: widest,
+        centres: centres,
+        sizes: sizes,
+        diameters: diameters,
+    }
+}
