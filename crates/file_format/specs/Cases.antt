@@ -1,19 +1,23 @@
--- Case 8 of document 01 and the file of the printed sheet's example, by computation; and the order of Read's reasons. Assumes nothing.
+-- Document 01's cases marked P, 1 to 8, as one list under one theorem, by computation; and the order of Read's reasons. Assumes nothing.
 use Prim.Native.Nat.{ℕ}
 use mathlib.Core.Path.{_≡_, refl}
-use mathlib.Core.List.{List, [], _∷_, map, flatMap}
-use Rattle.lists.specs.Lists.{every, sum, tabulate}
-use Rattle.study.specs.Study.{Contents, noTide, tide, distance, validMinima}
+use mathlib.Core.List.{List, [], _∷_, _++_, map, flatMap, headD}
+use Rattle.lists.specs.Lists.{every, sum, count, greatest, tabulate}
+use Rattle.study.specs.Problem.{centresAmong, centres, centreOf, choices, block, labels, allSufficient, assignments, assignable, candidates, radius, blocking, diameter, greatestDiameter, feasible}
+use Rattle.study.specs.Study.{Contents, noTide, tide, distance, meets, sufficient, problem, validMinima}
 use Rattle.study.specs.Refusals.{number, seven, Verdict, accepted, refused, firstOf}
-use Rattle.study.specs.Calls.{triangle, breaking, opened, opening, entered, entering}
+use Rattle.study.specs.Calls.{triangle, breaking, opened, opening, entered, entering, enterReasons, blockReasons}
+use Rattle.study.specs.Cases as Line
 use Rattle.file_format.specs.Bits.{binary, allBits, pack, packed}
 use Rattle.file_format.specs.File.{tideFields, fields, fileOf, bitLength, byteLength, tideAt, minimaAt, decoded, headReasons, tideReasons, readReasons}
 
 pub data Question : Type 0 where
+  of-study : Line.Question → Question
   write : Contents → Question
   read : List ℕ → Question
 
 pub data Reply : Type 0 where
+  from-study : Line.Reply → Reply
   file : List ℕ → Reply
   holds : Contents → Reply
   verdict : Verdict → Reply
@@ -23,6 +27,7 @@ readReply s accepted = holds (decoded s)
 readReply s (refused r) = verdict (refused r)
 
 unfoldable pub reply : Question → Reply
+reply (of-study q) = from-study (Line.reply q)
 reply (write H) = file (fileOf H)
 reply (read s) = readReply s (firstOf (readReasons s))
 
@@ -40,15 +45,19 @@ one-tide = entering 1 [] (opening 1)
 
 unfoldable pub cases : List Case
 cases =
-    (write (opening 1) gives file (0x54 ∷ 0x00 ∷ 0x20 ∷ 0x40 ∷ 0x00 ∷ 0x00 ∷ 0x00 ∷ []))
+    -- 1 to 7
+    map (λ (c : Line.Case). of-study (c .asked) gives from-study (c .given)) Line.cases
+    -- 8
+    ++ (write (opening 1) gives file (0x54 ∷ 0x00 ∷ 0x20 ∷ 0x40 ∷ 0x00 ∷ 0x00 ∷ 0x00 ∷ []))
     ∷ (read (0x54 ∷ 0x00 ∷ 0x20 ∷ 0x40 ∷ 0x00 ∷ 0x00 ∷ 0x00 ∷ []) gives holds (opening 1))
     ∷ (read (0x54 ∷ 0x00 ∷ 0x20 ∷ 0x40 ∷ 0x00 ∷ 0x00 ∷ 0x01 ∷ []) gives verdict (refused (number 11)))
     ∷ (read (0x54 ∷ 0x00 ∷ 0x20 ∷ 0x40 ∷ 0x00 ∷ 0x00 ∷ []) gives verdict (refused (number 8)))
+    -- the file of the printed sheet
     ∷ (write one-tide gives file (0x54 ∷ 0x02 ∷ 0x20 ∷ 0x40 ∷ 0x00 ∷ 0x00 ∷ 0x00 ∷ []))
     ∷ []
 
 pub worked-cases : map (λ (c : Case). reply (c .asked)) cases ≡ map (λ (c : Case). c .given) cases
-unfolding cases reply readReply one-tide opening opened entering entered firstOf readReasons headReasons tideReasons decoded minimaAt tideAt byteLength bitLength fileOf fields tideFields packed pack allBits binary triangle breaking distance tide noTide validMinima every sum tabulate flatMap
+unfolding cases Line.cases Line.case1 Line.case3 Line.case7 Line.reply Line.blockReply Line.line Line.onLine blockReasons enterReasons centresAmong centres centreOf choices block labels allSufficient assignments assignable candidates radius blocking diameter greatestDiameter feasible meets sufficient problem count greatest headD reply readReply one-tide opening opened entering entered firstOf readReasons headReasons tideReasons decoded minimaAt tideAt byteLength bitLength fileOf fields tideFields packed pack allBits binary triangle breaking distance tide noTide validMinima every sum tabulate flatMap
 worked-cases = refl
 
 -- two reasons at once: the earlier one counts

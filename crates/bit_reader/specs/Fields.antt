@@ -1,0 +1,26 @@
+-- The field at a bit position, where the bytes go that far, and the two fields with which a file begins. Assumes nothing.
+use Prim.Native.Nat.{ℕ, _+_, _*_, _^_, _≤_, _<_}
+use mathlib.Core.Bool.{cond}
+use mathlib.Core.List.{List}
+use lib.Dec.{leb}
+use lib.ListN.{length}
+use Rattle.file_format.specs.Bits.{bitsAt}
+use Rattle.bit_reader.specs.declared.Field.{Field}
+use Rattle.bit_reader.specs.declared.Field.the-variants as Read
+use Rattle.bit_reader.specs.declared.Start.{Start}
+use Rattle.bit_reader.specs.declared.Start.the-variants as Begin
+
+abbrev pub fieldAt : List ℕ → ℕ → ℕ → Field
+fieldAt s at w = cond (leb (at + w) (8 * length s)) (Read.Value (bitsAt s at w)) Read.End
+
+-- a field that can be asked for: its width is that of a field of the file, and its position fits a word
+pub record Askable (at w : ℕ) : Type 0 where
+  pub wide : 1 ≤ w
+  pub narrow : w ≤ 20
+  pub low : at < 2 ^ 63
+
+-- the mark and the number of tides
+abbrev pub startOf : Field → Field → Start
+startOf (Read.Value m) (Read.Value n) = Begin.Fields m n
+startOf (Read.Value m) Read.End = Begin.End
+startOf Read.End f = Begin.End

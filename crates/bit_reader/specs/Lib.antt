@@ -1,0 +1,3 @@
+-- What the reader answers: Fields. Laws of it: FieldLaws.
+pub mod Fields
+pub mod FieldLaws

@@ -1,0 +1,69 @@
+-- `head_answer` meets its contract: one law for each way out. Assumes nothing.
+use native.Mathlib.Omega.{arith}
+use Rattle.study_file.specs.HeadLaws.{head-short, head-mark, head-count, head-kinds, begun}
+use Rattle.lists.specs.Scans.{between-low, between-high}
+use Rattle.bit_reader.specs.FieldLaws.{got-start, no-end-start}
+use borrow.Author.Needs.{needs}
+use Rattle.study_file.proofs.head.head_answer.Statement.{statement}
+use Rattle.study_file.proofs.head.head_answer.Tie as tie
+
+returns : tie.Need-returns
+returns c = head-short (c .before .before .args .file .now) (c .if1 .taken)
+
+read-start-requires : tie.Need-read-start-requires
+read-start-requires c κs = search needs
+
+enum-known-mark : tie.Need-enum-known-mark
+enum-known-mark c = search needs
+
+enum-told : tie.Need-enum-told
+enum-told c = search needs
+
+returns-2 : tie.Need-returns-2
+returns-2 c = absurd (no-end-start (c .before .before .before .before .before .args .file .now) (c .before .before .read-start .ensures) (c .enum-told .given .1) (omega arith))
+
+returns-3 : tie.Need-returns-3
+returns-3 c = head-mark (c .before .before .before .before .before .before .before .args .file .now) (c .before .before .before .before .before .if1 .left) (c .before .before .mark .given .0 .0) (c .before .before .mark .given .0 .1 .0) (got-start (c .before .before .before .before .before .before .before .args .file .now) (c .before .before .before .before .read-start .ensures) (c .before .before .mark .given .1)) (c .if2 .taken)
+
+cast-n : tie.Need-cast-n
+cast-n c = search needs
+
+returns-4 : tie.Need-returns-4
+returns-4 c = head-count (c .before .before .before .before .before .before .before .before .args .file .now) (c .before .before .before .before .before .before .if1 .left) (c .before .before .before .mark .given .0 .0) (c .before .before .before .mark .given .0 .1 .0) (got-start (c .before .before .before .before .before .before .before .before .args .file .now) (c .before .before .before .before .before .read-start .ensures) (c .before .before .before .mark .given .1)) (c .before .if2 .left) (c .if3 .taken)
+
+number-requires : tie.Need-number-requires
+number-requires c κs = search needs
+
+cast-k : tie.Need-cast-k
+cast-k c = search needs
+
+returns-5 : tie.Need-returns-5
+returns-5 c = head-kinds (c .before .before .before .before .before .before .before .before .before .before .args .file .now) (c .before .before .before .before .before .before .before .before .if1 .left) (c .before .before .before .before .before .mark .given .0 .0) (c .before .before .before .before .before .mark .given .0 .1 .0) (got-start (c .before .before .before .before .before .before .before .before .before .before .args .file .now) (c .before .before .before .before .before .before .before .read-start .ensures) (c .before .before .before .before .before .mark .given .1)) (c .before .before .before .if2 .left) (c .before .before .if3 .left) (c .before .number .result) (c .before .number .ensures .0) (between-low 1 8 _ (c .if4 .taken))
+
+returns-6 : tie.Need-returns-6
+returns-6 c = head-kinds (c .before .before .before .before .before .before .before .before .before .before .before .args .file .now) (c .before .before .before .before .before .before .before .before .before .if1 .left) (c .before .before .before .before .before .before .mark .given .0 .0) (c .before .before .before .before .before .before .mark .given .0 .1 .0) (got-start (c .before .before .before .before .before .before .before .before .before .before .before .args .file .now) (c .before .before .before .before .before .before .before .before .read-start .ensures) (c .before .before .before .before .before .before .mark .given .1)) (c .before .before .before .before .if2 .left) (c .before .before .before .if3 .left) (c .before .before .number .result) (c .before .before .number .ensures .0) (between-high 1 8 _ (c .if5 .taken))
+
+body-answer-requires : tie.Need-body-answer-requires
+body-answer-requires c κs = begun (c .before .before .before .before .before .before .before .before .before .before .before .args .file .now) (c .before .before .before .before .before .before .before .before .before .if1 .left) (c .before .before .before .before .before .before .mark .given .0 .0) (c .before .before .before .before .before .before .mark .given .0 .1 .0) (got-start (c .before .before .before .before .before .before .before .before .before .before .before .args .file .now) (c .before .before .before .before .before .before .before .before .read-start .ensures) (c .before .before .before .before .before .before .mark .given .1)) (c .before .before .before .before .if2 .left) (c .before .before .before .if3 .left) (c .before .before .number .result) (c .before .before .number .ensures .0) (c .before .if4 .left) (c .if5 .left)
+
+returns-7 : tie.Need-returns-7
+returns-7 c = c .body-answer .ensures
+
+pub head-answer-spec : {M : Type 1} → statement M
+head-answer-spec =
+    tie.close
+    (tie.spec
+    returns
+    read-start-requires
+    enum-known-mark
+    enum-told
+    returns-2
+    returns-3
+    cast-n
+    returns-4
+    number-requires
+    cast-k
+    returns-5
+    returns-6
+    body-answer-requires
+    returns-7)

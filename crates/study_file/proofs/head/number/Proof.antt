@@ -1,0 +1,23 @@
+-- `number` meets its contract: inside the file there is no end. Assumes nothing.
+use Rattle.bit_reader.specs.FieldLaws.{got, no-end}
+use borrow.Author.Needs.{needs}
+use Rattle.study_file.proofs.head.number.Statement.{statement}
+use Rattle.study_file.proofs.head.number.Tie as tie
+
+read-field-requires : tie.Need-read-field-requires
+read-field-requires c κs = search needs
+
+enum-known-v : tie.Need-enum-known-v
+enum-known-v c = search needs
+
+enum-told : tie.Need-enum-told
+enum-told c = search needs
+
+returns : tie.Need-returns
+returns c = absurd (no-end (c .before .before .before .before .args .file .now) (c .before .before .before .before .args .at) (c .before .before .before .before .args .width) (c .before .before .read-field .ensures) (c .enum-told .given .1) (c .before .before .before .before .pre .1))
+
+returns-2 : tie.Need-returns-2
+returns-2 c = let g = got (c .before .before .before .before .before .args .file .now) (c .before .before .before .before .before .args .at) (c .before .before .before .before .before .args .width) (c .before .before .before .read-field .ensures) (c .before .v .given .1) in (g .is, g .small)
+
+pub number-spec : {M : Type 1} → statement M
+number-spec = tie.close (tie.spec read-field-requires enum-known-v enum-told returns returns-2)

@@ -1,0 +1,62 @@
+-- `copy_distances` meets its contract: the loop's invariant: the first p places are copied. Assumes nothing.
+use native.Mathlib.Omega.{arith}
+use Rattle.lists.specs.Tables.{overwrite-step, overwrite-done, overwrite-none}
+use Rattle.lists.specs.Lists.{overwrite}
+use Prim.Native.Nat.{ℕ, _≤_, _-_}
+use mathlib.Core.Path.{_≡_, refl}
+use lib.ListN.{length, length-set, getD}
+use Rattle.study_file.proofs.memory.copy_distances.Statement.{statement}
+use Rattle.study_file.proofs.memory.copy_distances.Tie as tie
+
+abbrev Inv-loop : tie.InvT-loop
+Inv-loop distances₀ near p₀ distances p = (p ≤ 14400) × (distances ≡ overwrite p (λ (z : ℕ). getD near z 0) distances₀) × (length distances ≡ length distances₀)
+
+abbrev μ-loop : tie.MeasureT-loop
+μ-loop distances₀ near p₀ distances p = 14400 - p
+
+loop-holds : tie.Need-loop-holds Inv-loop μ-loop
+loop-holds c = (omega arith, overwrite-none _ _, refl)
+
+mul-distances : tie.Need-mul-distances Inv-loop μ-loop
+mul-distances c = omega arith
+
+shared-slice-read-distances : tie.Need-shared-slice-read-distances Inv-loop μ-loop
+shared-slice-read-distances c = omega arith
+
+mul-distances-2 : tie.Need-mul-distances-2 Inv-loop μ-loop
+mul-distances-2 c = omega arith
+
+slice-write-distances : tie.Need-slice-write-distances Inv-loop μ-loop
+slice-write-distances c = omega arith
+
+add-p : tie.Need-add-p Inv-loop μ-loop
+add-p c = omega arith
+
+loop-less : tie.Need-loop-less Inv-loop μ-loop
+loop-less c = omega arith
+
+loop-again : tie.Need-loop-again Inv-loop μ-loop
+loop-again c = (omega arith, overwrite-step _ _ _ (c .before .before .loop .inv .1) refl (omega arith), simp length-set (c .before .before .loop .inv .2))
+
+same-length : tie.Need-same-length Inv-loop μ-loop
+same-length c = c .before .loop .inv .2
+
+returns : tie.Need-returns Inv-loop μ-loop
+returns c = overwrite-done _ _ (omega arith) (c .before .loop .inv .1)
+
+pub copy-distances-spec : {M : Type 1} → statement M
+copy-distances-spec =
+    tie.close
+    (tie.spec
+    Inv-loop
+    μ-loop
+    loop-holds
+    mul-distances
+    shared-slice-read-distances
+    mul-distances-2
+    slice-write-distances
+    add-p
+    loop-less
+    loop-again
+    same-length
+    returns)

@@ -1,0 +1,88 @@
+-- `read_tide` meets its contract: one law for each way out. Assumes nothing.
+use native.Mathlib.Omega.{arith}
+use Rattle.study_file.specs.RowLaws.{inside, tide-five, tide-stops, tide-goes}
+use Rattle.bit_reader.specs.FieldLaws.{got, no-end}
+use borrow.Author.Needs.{needs}
+use Rattle.study_file.proofs.tides.read_tide.Statement.{statement}
+use Rattle.study_file.proofs.tides.read_tide.Tie as tie
+
+bit-length-requires : tie.Need-bit-length-requires
+bit-length-requires c κs = search needs
+
+read-field-requires : tie.Need-read-field-requires
+read-field-requires c κs = search needs
+
+enum-known-less : tie.Need-enum-known-less
+enum-known-less c = search needs
+
+enum-told : tie.Need-enum-told
+enum-told c = search needs
+
+returns : tie.Need-returns
+returns c = let i = inside (c .before .before .before .before .before .before .before .args .file .now) (c .before .before .before .before .before .before .before .args .k) (c .before .before .before .before .before .before .before .args .t) (c .before .before .before .before .before .before .before .args .near .now) (c .before .before .before .before .before .before .before .args .kinds .now) (c .before .before .before .before .before .before .before .pre) (c .before .before .before .bit-length .result) (c .before .before .before .bit-length .ensures .0) in absurd (no-end (c .before .before .before .before .before .before .before .args .file .now) (c .before .before .before .bit-length .result) 3 (c .before .before .read-field .ensures) (c .enum-told .given .1) (i .setting))
+
+cast-if1 : tie.Need-cast-if1
+cast-if1 c = search needs
+
+returns-2 : tie.Need-returns-2
+returns-2 c = tide-five (c .before .before .before .before .before .before .before .before .before .args .file .now) (c .before .before .before .before .before .before .before .before .before .args .k) (c .before .before .before .before .before .before .before .before .before .args .t) (c .before .before .before .before .before .before .before .before .before .args .near .now) (c .before .before .before .before .before .before .before .before .before .args .kinds .now) (c .before .before .before .before .before .before .before .before .before .pre) (c .before .before .before .before .before .bit-length .result) (c .before .before .before .before .before .bit-length .ensures .0) (got (c .before .before .before .before .before .before .before .before .before .args .file .now) (c .before .before .before .before .before .bit-length .result) 3 (c .before .before .before .before .read-field .ensures) (c .before .before .less .given .1)) (c .if1 .taken)
+
+add-read-row : tie.Need-add-read-row
+add-read-row c = search needs
+
+read-row-requires : tie.Need-read-row-requires
+read-row-requires c κs = let i = inside (c .before .before .before .before .before .before .before .before .before .before .args .file .now) (c .before .before .before .before .before .before .before .before .before .before .args .k) (c .before .before .before .before .before .before .before .before .before .before .args .t) (c .before .before .before .before .before .before .before .before .before .before .args .near .now) (c .before .before .before .before .before .before .before .before .before .before .args .kinds .now) (c .before .before .before .before .before .before .before .before .before .before .pre) (c .before .before .before .before .before .before .bit-length .result) (c .before .before .before .before .before .before .bit-length .ensures .0) in ((i .few, omega arith), (i .row, omega (arith, i .low)))
+
+enum-told-2 : tie.Need-enum-told-2
+enum-told-2 c = search needs
+
+enum-told-3 : tie.Need-enum-told-3
+enum-told-3 c = search needs
+
+same-length : tie.Need-same-length
+same-length c = search needs
+
+returns-3 : tie.Need-returns-3
+returns-3 c = tide-stops (c .before .before .before .before .before .before .before .before .before .before .before .before .before .before .before .args .file .now) (c .before .before .before .before .before .before .before .before .before .before .before .before .before .before .before .args .k) (c .before .before .before .before .before .before .before .before .before .before .before .before .before .before .before .args .t) (c .before .before .before .before .before .before .before .before .before .before .before .before .before .before .before .args .near .now) (c .before .before .before .before .before .before .before .before .before .before .before .before .before .before .before .args .kinds .now) (c .before .before .before .before .before .before .before .before .before .before .before .before .before .before .before .pre) (c .before .before .before .before .before .before .before .before .before .before .before .bit-length .result) (c .before .before .before .before .before .before .before .before .before .before .before .bit-length .ensures .0) (got (c .before .before .before .before .before .before .before .before .before .before .before .before .before .before .before .args .file .now) (c .before .before .before .before .before .before .before .before .before .before .before .bit-length .result) 3 (c .before .before .before .before .before .before .before .before .before .before .read-field .ensures) (c .before .before .before .before .before .before .before .before .less .given .1)) (c .before .before .before .before .before .before .if1 .left) (c .before .before .before .before .read-row .ensures) (c .enum-told3 .given .1)
+
+add-kinds : tie.Need-add-kinds
+add-kinds c = search needs
+
+cast-kinds : tie.Need-cast-kinds
+cast-kinds c = search needs
+
+slice-write-kinds : tie.Need-slice-write-kinds
+slice-write-kinds c = search needs
+
+same-length-2 : tie.Need-same-length-2
+same-length-2 c = search needs
+
+same-length-3 : tie.Need-same-length-3
+same-length-3 c = search needs
+
+returns-4 : tie.Need-returns-4
+returns-4 c = tide-goes (c .before .before .before .before .before .before .before .before .before .before .before .before .before .before .before .args .file .now) (c .before .before .before .before .before .before .before .before .before .before .before .before .before .before .before .args .k) (c .before .before .before .before .before .before .before .before .before .before .before .before .before .before .before .args .t) (c .before .before .before .before .before .before .before .before .before .before .before .before .before .before .before .args .near .now) (c .before .before .before .before .before .before .before .before .before .before .before .before .before .before .before .args .kinds .now) (c .before .before .before .before .before .before .before .before .before .before .before .before .before .before .before .pre) (c .before .before .before .before .before .before .before .before .before .before .before .bit-length .result) (c .before .before .before .before .before .before .before .before .before .before .before .bit-length .ensures .0) (got (c .before .before .before .before .before .before .before .before .before .before .before .before .before .before .before .args .file .now) (c .before .before .before .before .before .before .before .before .before .before .before .bit-length .result) 3 (c .before .before .before .before .before .before .before .before .before .before .read-field .ensures) (c .before .before .before .before .before .before .before .before .less .given .1)) (c .before .before .before .before .before .before .if1 .left) (c .before .before .before .before .read-row .ensures) (c .enum-told2 .given .1)
+
+pub read-tide-spec : {M : Type 1} → statement M
+read-tide-spec =
+    tie.close
+    (tie.spec
+    bit-length-requires
+    read-field-requires
+    enum-known-less
+    enum-told
+    returns
+    cast-if1
+    returns-2
+    add-read-row
+    read-row-requires
+    enum-told-2
+    enum-told-3
+    same-length
+    returns-3
+    add-kinds
+    cast-kinds
+    slice-write-kinds
+    same-length-2
+    same-length-3
+    returns-4)

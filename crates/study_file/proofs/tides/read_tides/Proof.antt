@@ -1,0 +1,75 @@
+-- `read_tides` meets its contract: the loop's invariant: the first t tides are loaded, and memory keeps its length. Assumes nothing.
+use borrow.Author.Needs.{needs}
+use native.Mathlib.Omega.{arith}
+use Rattle.study_file.specs.RowLaws.{reached-stops, reached-all}
+use Rattle.study_file.specs.Loading.{Loaded}
+use lib.ListN.{length}
+use Prim.Native.Nat.{_-_, _≤_}
+use mathlib.Core.Path.{_≡_, refl}
+use Rattle.study_file.proofs.tides.read_tides.Statement.{statement}
+use Rattle.study_file.proofs.tides.read_tides.Tie as tie
+
+abbrev Inv-loop : tie.InvT-loop
+Inv-loop file k n near₀ kinds₀ t₀ near kinds t = (t ≤ n) × Loaded file t near kinds × (length near ≡ length near₀) × (length kinds ≡ length kinds₀)
+
+abbrev μ-loop : tie.MeasureT-loop
+μ-loop file k n near₀ kinds₀ t₀ near kinds t = n - t
+
+loop-holds : tie.Need-loop-holds Inv-loop μ-loop
+loop-holds c = (omega arith, c .before .before .before .pre .2, refl, refl)
+
+read-tide-requires : tie.Need-read-tide-requires Inv-loop μ-loop
+read-tide-requires c κs = (c .before .before .before .before .before .before .before .pre .0, omega (arith, c .before .before .before .before .before .before .before .pre .1), c .before .before .before .loop .inv .1)
+
+enum-told : tie.Need-enum-told Inv-loop μ-loop
+enum-told c = search needs
+
+enum-told-2 : tie.Need-enum-told-2 Inv-loop μ-loop
+enum-told-2 c = search needs
+
+same-length : tie.Need-same-length Inv-loop μ-loop
+same-length c = omega arith
+
+same-length-2 : tie.Need-same-length-2 Inv-loop μ-loop
+same-length-2 c = omega arith
+
+returns : tie.Need-returns Inv-loop μ-loop
+returns c = reached-stops (c .before .before .before .before .before .before .before .before .before .before .before .before .before .before .args .file .now) _ (c .before .before .before .before .before .before .before .before .before .before .before .before .before .before .args .n) (c .before .before .before .before .before .before .read-tide .ensures) (c .enum-told2 .given .1)
+
+add-t : tie.Need-add-t Inv-loop μ-loop
+add-t c = omega arith
+
+loop-less : tie.Need-loop-less Inv-loop μ-loop
+loop-less c = omega arith
+
+loop-again : tie.Need-loop-again Inv-loop μ-loop
+loop-again c = (omega arith, c .before .before .before .before .before .before .read-tide .ensures .goes (c .enum-told .given .1), omega arith, omega arith)
+
+same-length-3 : tie.Need-same-length-3 Inv-loop μ-loop
+same-length-3 c = c .before .loop .inv .2
+
+same-length-4 : tie.Need-same-length-4 Inv-loop μ-loop
+same-length-4 c = c .before .loop .inv .3
+
+returns-2 : tie.Need-returns-2 Inv-loop μ-loop
+returns-2 c = reached-all (c .before .before .before .before .before .args .file .now) (c .before .loop .t) (c .before .before .before .before .before .args .n) (omega arith) (omega arith) (c .before .loop .inv .1)
+
+pub read-tides-spec : {M : Type 1} → statement M
+read-tides-spec =
+    tie.close
+    (tie.spec
+    Inv-loop
+    μ-loop
+    loop-holds
+    read-tide-requires
+    enum-told
+    enum-told-2
+    same-length
+    same-length-2
+    returns
+    add-t
+    loop-less
+    loop-again
+    same-length-3
+    same-length-4
+    returns-2)

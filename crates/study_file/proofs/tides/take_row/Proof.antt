@@ -1,0 +1,108 @@
+-- `take_row` meets its contract: the loop's invariant: the first i distances stand in row and column. Assumes nothing.
+use borrow.Author.Needs.{needs}
+use native.Mathlib.Omega.{arith}
+use Rattle.study_file.specs.RowLaws.{rowAt, row-taken}
+use Rattle.dataset.specs.Places.{withRow, row-none, row-done}
+use Rattle.bit_reader.specs.FieldLaws.{got, no-end}
+use lib.ListN.{length, length-set}
+use Prim.Native.Nat.{_+_, _-_, _*_, _≤_}
+use mathlib.Core.Path.{_≡_, refl}
+use Rattle.study_file.proofs.tides.take_row.Statement.{statement}
+use Rattle.study_file.proofs.tides.take_row.Tie as tie
+
+abbrev Inv-loop : tie.InvT-loop
+Inv-loop file start near₀ t i₀ near i = (i ≤ t) × (near ≡ withRow (rowAt file start t) i near₀) × (length near ≡ length near₀)
+
+abbrev μ-loop : tie.MeasureT-loop
+μ-loop file start near₀ t i₀ near i = t - i
+
+loop-holds : tie.Need-loop-holds Inv-loop μ-loop
+loop-holds c = (omega arith, row-none _ _, refl)
+
+mul-read-field : tie.Need-mul-read-field Inv-loop μ-loop
+mul-read-field c = omega arith
+
+add-read-field : tie.Need-add-read-field Inv-loop μ-loop
+add-read-field c = omega arith
+
+read-field-requires : tie.Need-read-field-requires Inv-loop μ-loop
+read-field-requires c κs = record { wide = omega arith; narrow = omega arith; low = omega arith }
+
+enum-known-x : tie.Need-enum-known-x Inv-loop μ-loop
+enum-known-x c = search needs
+
+enum-told : tie.Need-enum-told Inv-loop μ-loop
+enum-told c = search needs
+
+same-length : tie.Need-same-length Inv-loop μ-loop
+same-length c = c .before .before .before .before .loop .inv .2
+
+returns : tie.Need-returns Inv-loop μ-loop
+returns c = absurd (no-end (c .before .before .before .before .before .before .before .args .file .now) (c .before .before .before .before .before .before .before .args .start + 20 * c .before .before .before .before .loop .i) 20 (c .before .before .read-field .ensures) (c .enum-told .given .1) (omega arith))
+
+mul-near : tie.Need-mul-near Inv-loop μ-loop
+mul-near c = omega arith
+
+add-near : tie.Need-add-near Inv-loop μ-loop
+add-near c = omega arith
+
+mul-near-2 : tie.Need-mul-near-2 Inv-loop μ-loop
+mul-near-2 c = omega arith
+
+slice-write-near : tie.Need-slice-write-near Inv-loop μ-loop
+slice-write-near c = omega arith
+
+mul-near-3 : tie.Need-mul-near-3 Inv-loop μ-loop
+mul-near-3 c = omega arith
+
+add-near-2 : tie.Need-add-near-2 Inv-loop μ-loop
+add-near-2 c = omega arith
+
+mul-near-4 : tie.Need-mul-near-4 Inv-loop μ-loop
+mul-near-4 c = omega arith
+
+slice-write-near-2 : tie.Need-slice-write-near-2 Inv-loop μ-loop
+slice-write-near-2 c = simp length-set (omega arith)
+
+add-i : tie.Need-add-i Inv-loop μ-loop
+add-i c = omega arith
+
+loop-less : tie.Need-loop-less Inv-loop μ-loop
+loop-less c = omega arith
+
+loop-again : tie.Need-loop-again Inv-loop μ-loop
+loop-again c = (omega arith, row-taken (c .before .before .before .before .before .before .before .before .args .file .now) (c .before .before .before .before .before .before .before .before .args .start) (c .before .before .before .before .before .before .before .before .args .t) (c .before .before .before .before .before .loop .i) (c .before .x .given .0 .0) _ (omega arith) (got (c .before .before .before .before .before .before .before .before .args .file .now) (c .before .before .before .before .before .before .before .before .args .start + 20 * c .before .before .before .before .before .loop .i) 20 (c .before .before .before .read-field .ensures) (c .before .x .given .1)) (c .before .before .before .before .before .loop .inv .1), simp length-set (c .before .before .before .before .before .loop .inv .2))
+
+same-length-2 : tie.Need-same-length-2 Inv-loop μ-loop
+same-length-2 c = c .before .loop .inv .2
+
+returns-2 : tie.Need-returns-2 Inv-loop μ-loop
+returns-2 c = (refl, row-done _ _ _ (c .before .loop .i) (c .before .before .before .before .args .t) (omega arith) (omega arith) (c .before .loop .inv .1))
+
+pub take-row-spec : {M : Type 1} → statement M
+take-row-spec =
+    tie.close
+    (tie.spec
+    Inv-loop
+    μ-loop
+    loop-holds
+    mul-read-field
+    add-read-field
+    read-field-requires
+    enum-known-x
+    enum-told
+    same-length
+    returns
+    mul-near
+    add-near
+    mul-near-2
+    slice-write-near
+    mul-near-3
+    add-near-2
+    mul-near-4
+    slice-write-near-2
+    add-i
+    loop-less
+    loop-again
+    same-length-2
+    returns-2)

@@ -1,0 +1,35 @@
+-- `write_file` meets its contract: there is no room, or all fields are written. Assumes nothing.
+use Rattle.study_file.specs.WriteWays.{write-short, writable, write-done}
+use Rattle.dataset.specs.Memory.{stateOf}
+use borrow.Author.Needs.{needs}
+use Rattle.study_file.proofs.write_file.Statement.{statement}
+use Rattle.study_file.proofs.write_file.Tie as tie
+
+cast-byte-length : tie.Need-cast-byte-length
+cast-byte-length c = search needs
+
+byte-length-requires : tie.Need-byte-length-requires
+byte-length-requires c κs = (c .before .before .before .before .pre .dataset .k-high, c .before .before .before .before .pre .dataset .few)
+
+returns : tie.Need-returns
+returns c = write-short (stateOf (c .before .before .before .before .before .before .args .dataset) (c .before .before .before .before .before .before .args .distances .now) (c .before .before .before .before .before .before .args .settings .now)) (c .before .before .before .before .before .before .args .file .now) (c .before .before .before .before .before .before .pre) (c .before .byte-length .result) (c .before .byte-length .ensures .0) (c .if1 .taken)
+
+put-fields-requires : tie.Need-put-fields-requires
+put-fields-requires c κs = writable (stateOf (c .before .before .before .before .before .before .before .args .dataset) (c .before .before .before .before .before .before .before .args .distances .now) (c .before .before .before .before .before .before .before .args .settings .now)) (c .before .before .before .before .before .before .before .args .file .now) (c .before .before .before .before .before .before .before .pre) (c .before .before .byte-length .result) (c .before .before .byte-length .ensures .0) (c .before .if1 .left)
+
+same-length : tie.Need-same-length
+same-length c = search needs
+
+returns-2 : tie.Need-returns-2
+returns-2 c = write-done (stateOf (c .before .before .before .before .before .before .before .before .before .before .args .dataset) (c .before .before .before .before .before .before .before .before .before .before .args .distances .now) (c .before .before .before .before .before .before .before .before .before .before .args .settings .now)) (c .before .before .before .before .before .before .before .before .before .before .args .file .now) (c .before .before .before .before .before .before .before .before .before .before .pre) (c .before .before .before .before .before .byte-length .result) (c .before .before .before .before .before .byte-length .ensures .0) (c .before .before .before .before .if1 .left) (c .before .before .put-fields .ensures)
+
+pub write-file-spec : {M : Type 1} → statement M
+write-file-spec =
+    tie.close
+    (tie.spec
+    cast-byte-length
+    byte-length-requires
+    returns
+    put-fields-requires
+    same-length
+    returns-2)

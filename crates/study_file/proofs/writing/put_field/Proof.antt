@@ -1,0 +1,95 @@
+-- `put_field` meets its contract: the loop's invariant: the first bits of the value are written. Assumes nothing.
+use native.Mathlib.Omega.{arith}
+use Rattle.study_file.specs.Putting.{puts-one}
+use Rattle.study_file.specs.Writing.{Adds, adds-none, bits-small, field-more, field-end}
+use lib.Pow.{pow-pos}
+use Rattle.bit_reader.specs.FieldLaws.{one-moved}
+use Rattle.file_format.specs.Bits.{bitsOf}
+use Prim.Native.Nat.{_-_, _/_, _^_, _≤_}
+use Rattle.study_file.proofs.writing.put_field.Statement.{statement}
+use Rattle.study_file.proofs.writing.put_field.Tie as tie
+
+abbrev Inv-loop : tie.InvT-loop
+Inv-loop file₀ at width value done₀ file done = (done ≤ width) × Adds file₀ at (bitsOf done (value / 2 ^ (width - done))) file
+
+abbrev μ-loop : tie.MeasureT-loop
+μ-loop file₀ at width value done₀ file done = width - done
+
+loop-holds : tie.Need-loop-holds Inv-loop μ-loop
+loop-holds c = (omega arith, adds-none _ _)
+
+add-taken : tie.Need-add-taken Inv-loop μ-loop
+add-taken c = omega arith
+
+sub-taken : tie.Need-sub-taken Inv-loop μ-loop
+sub-taken c = omega arith
+
+taken-requires : tie.Need-taken-requires Inv-loop μ-loop
+taken-requires c κs = omega arith
+
+sub-rest : tie.Need-sub-rest Inv-loop μ-loop
+sub-rest c = omega arith
+
+sub-rest-2 : tie.Need-sub-rest-2 Inv-loop μ-loop
+sub-rest-2 c = omega arith
+
+cast-rest : tie.Need-cast-rest Inv-loop μ-loop
+cast-rest c = omega arith
+
+cast-bits : tie.Need-cast-bits Inv-loop μ-loop
+cast-bits c = omega arith
+
+add-put-part : tie.Need-add-put-part Inv-loop μ-loop
+add-put-part c = omega arith
+
+shr-put-part : tie.Need-shr-put-part Inv-loop μ-loop
+shr-put-part c = omega arith
+
+shl-put-part : tie.Need-shl-put-part Inv-loop μ-loop
+shl-put-part c = omega arith
+
+rem-put-part : tie.Need-rem-put-part Inv-loop μ-loop
+rem-put-part c = rw (one-moved (c .before .taken .result) (omega arith)) (pow-pos (c .before .taken .result))
+
+put-part-requires : tie.Need-put-part-requires Inv-loop μ-loop
+put-part-requires c κs = ((c .before .taken .ensures .0, c .before .taken .ensures .2), (bits-small _ (c .before .taken .result) (omega arith), omega (arith, c .before .before .before .loop .inv .1 .same)))
+
+add-done : tie.Need-add-done Inv-loop μ-loop
+add-done c = omega arith
+
+loop-less : tie.Need-loop-less Inv-loop μ-loop
+loop-less c = omega arith
+
+loop-again : tie.Need-loop-again Inv-loop μ-loop
+loop-again c = (omega arith, field-more _ _ (c .before .before .before .before .before .before .before .before .args .width) (c .before .before .before .before .before .before .before .before .args .value) (c .before .before .before .before .before .before .loop .done) (c .before .before .before .before .taken .result) (omega arith) (omega arith) (c .before .before .before .before .before .before .loop .inv .1) (c .before .before .put-part .ensures))
+
+same-length : tie.Need-same-length Inv-loop μ-loop
+same-length c = c .before .loop .inv .1 .same
+
+returns : tie.Need-returns Inv-loop μ-loop
+returns c = puts-one _ _ _ _ (field-end _ _ (c .before .before .before .args .width) (c .before .before .before .args .value) (c .before .loop .done) (omega arith) (omega arith) (c .before .loop .inv .1))
+
+pub put-field-spec : {M : Type 1} → statement M
+put-field-spec =
+    tie.close
+    (tie.spec
+    Inv-loop
+    μ-loop
+    loop-holds
+    add-taken
+    sub-taken
+    taken-requires
+    sub-rest
+    sub-rest-2
+    cast-rest
+    cast-bits
+    add-put-part
+    shr-put-part
+    shl-put-part
+    rem-put-part
+    put-part-requires
+    add-done
+    loop-less
+    loop-again
+    same-length
+    returns)

@@ -1,0 +1,30 @@
+-- `put_fields` meets its contract: head, minima and tides, one after the other. Assumes nothing.
+use native.Mathlib.Omega.{arith}
+use Rattle.study_file.specs.Putting.{head-room, minima-room, eight, parts-put}
+use Rattle.dataset.specs.Memory.{stateOf}
+use borrow.Author.Needs.{needs}
+use Rattle.study_file.proofs.writing.put_fields.Statement.{statement}
+use Rattle.study_file.proofs.writing.put_fields.Tie as tie
+
+cast-k : tie.Need-cast-k
+cast-k c = search needs
+
+put-head-requires : tie.Need-put-head-requires
+put-head-requires c κs = head-room (stateOf (c .before .before .before .before .before .before .before .args .dataset) (c .before .before .before .before .before .before .before .args .distances .now) (c .before .before .before .before .before .before .before .args .settings .now)) _ (c .before .before .before .before .before .before .before .pre)
+
+put-minima-requires : tie.Need-put-minima-requires
+put-minima-requires c κs = (c .before .before .before .before .before .before .before .before .before .before .before .pre .dataset .k-high, omega (arith, c .before .before .before .put-head .ensures .same, minima-room (stateOf (c .before .before .before .before .before .before .before .before .before .before .before .args .dataset) (c .before .before .before .before .before .before .before .before .before .before .before .args .distances .now) (c .before .before .before .before .before .before .before .before .before .before .before .args .settings .now)) _ (c .before .before .before .before .before .before .before .before .before .before .before .pre)))
+
+put-tides-requires : tie.Need-put-tides-requires
+put-tides-requires c κs = search needs
+
+same-length : tie.Need-same-length
+same-length c = search needs
+
+returns : tie.Need-returns
+returns c = parts-put (stateOf (c .before .before .before .before .before .before .before .before .before .before .before .before .before .before .before .before .before .before .args .dataset) (c .before .before .before .before .before .before .before .before .before .before .before .before .before .before .before .before .before .before .args .distances .now) (c .before .before .before .before .before .before .before .before .before .before .before .before .before .before .before .before .before .before .args .settings .now)) _ (eight (stateOf (c .before .before .before .before .before .before .before .before .before .before .before .before .before .before .before .before .before .before .args .dataset) (c .before .before .before .before .before .before .before .before .before .before .before .before .before .before .before .before .before .before .args .distances .now) (c .before .before .before .before .before .before .before .before .before .before .before .before .before .before .before .before .before .before .args .settings .now)) _ (c .before .before .before .before .before .before .before .before .before .before .before .before .before .before .before .before .before .before .pre)) (c .before .before .before .before .before .before .before .before .before .before .put-head .ensures) (c .before .before .before .before .before .before .put-minima .ensures) (c .before .before .put-tides .ensures)
+
+pub put-fields-spec : {M : Type 1} → statement M
+put-fields-spec =
+    tie.close
+    (tie.spec cast-k put-head-requires put-minima-requires put-tides-requires same-length returns)

@@ -1,0 +1,67 @@
+-- `put_minima` meets its contract: the loop's invariant: the first j minima are written. Assumes nothing.
+use native.Mathlib.Omega.{arith}
+use Rattle.study_file.specs.Putting.{Puts, run-none, run-more, run-done}
+use Rattle.file_format.specs.Bits.{field}
+use Rattle.lists.specs.Lists.{tabulate}
+use lib.ListN.{getD}
+use Prim.Native.Nat.{ℕ, _-_, _≤_}
+use mathlib.Core.List.{map}
+use Rattle.study_file.proofs.writing.put_minima.Statement.{statement}
+use Rattle.study_file.proofs.writing.put_minima.Tie as tie
+
+abbrev Inv-loop : tie.InvT-loop
+Inv-loop file₀ k b j₀ file j = (j ≤ k) × Puts file₀ 42 (map (field 7) (tabulate j (λ (i : ℕ). getD b i 0))) file
+
+abbrev μ-loop : tie.MeasureT-loop
+μ-loop file₀ k b j₀ file j = k - j
+
+loop-holds : tie.Need-loop-holds Inv-loop μ-loop
+loop-holds c = (omega arith, run-none _ 42 7 _)
+
+mul-put-field : tie.Need-mul-put-field Inv-loop μ-loop
+mul-put-field c = omega arith
+
+add-put-field : tie.Need-add-put-field Inv-loop μ-loop
+add-put-field c = omega arith
+
+array-read-wide : tie.Need-array-read-wide Inv-loop μ-loop
+array-read-wide c = omega arith
+
+wide-requires : tie.Need-wide-requires Inv-loop μ-loop
+wide-requires c κs = omega arith
+
+put-field-requires : tie.Need-put-field-requires Inv-loop μ-loop
+put-field-requires c κs = ((omega arith, omega (arith, c .before .before .before .loop .inv .1 .same)), omega arith)
+
+add-j : tie.Need-add-j Inv-loop μ-loop
+add-j c = omega arith
+
+loop-less : tie.Need-loop-less Inv-loop μ-loop
+loop-less c = omega arith
+
+loop-again : tie.Need-loop-again Inv-loop μ-loop
+loop-again c = (omega arith, run-more _ 42 7 _ (c .before .before .before .before .before .before .loop .j) (c .before .before .before .wide .result) (c .before .before .before .before .before .before .loop .inv .1) (c .before .before .before .wide .ensures .0) (c .before .before .put-field .ensures))
+
+same-length : tie.Need-same-length Inv-loop μ-loop
+same-length c = c .before .loop .inv .1 .same
+
+returns : tie.Need-returns Inv-loop μ-loop
+returns c = run-done _ 42 7 _ (c .before .loop .j) (c .before .before .before .args .k) (omega arith) (omega arith) (c .before .loop .inv .1)
+
+pub put-minima-spec : {M : Type 1} → statement M
+put-minima-spec =
+    tie.close
+    (tie.spec
+    Inv-loop
+    μ-loop
+    loop-holds
+    mul-put-field
+    add-put-field
+    array-read-wide
+    wide-requires
+    put-field-requires
+    add-j
+    loop-less
+    loop-again
+    same-length
+    returns)

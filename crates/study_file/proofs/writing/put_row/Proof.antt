@@ -1,0 +1,75 @@
+-- `put_row` meets its contract: the loop's invariant: the first i distances are written. Assumes nothing.
+use native.Mathlib.Omega.{arith}
+use Rattle.lists.specs.Lists.{at, tabulate}
+use Rattle.study_file.specs.Putting.{Puts, run-none, run-more, run-done}
+use Rattle.file_format.specs.Bits.{field}
+use mathlib.Core.Path.{refl}
+use Prim.Native.Nat.{_-_, _≤_}
+use mathlib.Core.List.{map}
+use Rattle.study_file.proofs.writing.put_row.Statement.{statement}
+use Rattle.study_file.proofs.writing.put_row.Tie as tie
+
+abbrev Inv-loop : tie.InvT-loop
+Inv-loop file₀ start distances t i₀ file i = (i ≤ t) × Puts file₀ start (map (field 20) (tabulate i (at distances t))) file
+
+abbrev μ-loop : tie.MeasureT-loop
+μ-loop file₀ start distances t i₀ file i = t - i
+
+loop-holds : tie.Need-loop-holds Inv-loop μ-loop
+loop-holds c = (omega arith, run-none _ _ 20 _)
+
+mul-put-field : tie.Need-mul-put-field Inv-loop μ-loop
+mul-put-field c = omega arith
+
+add-put-field : tie.Need-add-put-field Inv-loop μ-loop
+add-put-field c = omega arith
+
+mul-put-field-2 : tie.Need-mul-put-field-2 Inv-loop μ-loop
+mul-put-field-2 c = omega arith
+
+add-put-field-2 : tie.Need-add-put-field-2 Inv-loop μ-loop
+add-put-field-2 c = omega arith
+
+mul-put-field-3 : tie.Need-mul-put-field-3 Inv-loop μ-loop
+mul-put-field-3 c = omega arith
+
+shared-slice-read-put-field : tie.Need-shared-slice-read-put-field Inv-loop μ-loop
+shared-slice-read-put-field c = omega arith
+
+put-field-requires : tie.Need-put-field-requires Inv-loop μ-loop
+put-field-requires c κs = ((omega arith, omega (arith, c .before .before .before .loop .inv .1 .same)), omega arith)
+
+add-i : tie.Need-add-i Inv-loop μ-loop
+add-i c = omega arith
+
+loop-less : tie.Need-loop-less Inv-loop μ-loop
+loop-less c = omega arith
+
+loop-again : tie.Need-loop-again Inv-loop μ-loop
+loop-again c = (omega arith, run-more _ _ 20 _ (c .before .before .before .before .before .before .loop .i) _ (c .before .before .before .before .before .before .loop .inv .1) refl (c .before .before .put-field .ensures))
+
+same-length : tie.Need-same-length Inv-loop μ-loop
+same-length c = c .before .loop .inv .1 .same
+
+returns : tie.Need-returns Inv-loop μ-loop
+returns c = run-done _ _ 20 _ (c .before .loop .i) (c .before .before .before .before .args .t) (omega arith) (omega arith) (c .before .loop .inv .1)
+
+pub put-row-spec : {M : Type 1} → statement M
+put-row-spec =
+    tie.close
+    (tie.spec
+    Inv-loop
+    μ-loop
+    loop-holds
+    mul-put-field
+    add-put-field
+    mul-put-field-2
+    add-put-field-2
+    mul-put-field-3
+    shared-slice-read-put-field
+    put-field-requires
+    add-i
+    loop-less
+    loop-again
+    same-length
+    returns)

@@ -1,0 +1,59 @@
+-- `put_tides` meets its contract: the loop's invariant: the first t tides are written. Assumes nothing.
+use native.Mathlib.Omega.{arith}
+use Rattle.study_file.specs.Putting.{Puts, tide-room, tides-none, tides-more, tides-done}
+use Rattle.dataset.specs.Memory.{stateOf, tideOf}
+use Rattle.file_format.specs.File.{tideFields, bitLength}
+use Rattle.lists.specs.Lists.{tabulate}
+use Prim.Native.Nat.{_-_, _≤_}
+use mathlib.Core.List.{flatMap}
+use Rattle.study_file.proofs.writing.put_tides.Statement.{statement}
+use Rattle.study_file.proofs.writing.put_tides.Tie as tie
+
+abbrev Inv-loop : tie.InvT-loop
+Inv-loop file₀ dataset distances settings k n t₀ file t = (t ≤ n) × Puts file₀ (bitLength k 0) (flatMap tideFields (tabulate t (tideOf (stateOf dataset distances settings)))) file
+
+abbrev μ-loop : tie.MeasureT-loop
+μ-loop file₀ dataset distances settings k n t₀ file t = n - t
+
+cast-k : tie.Need-cast-k Inv-loop μ-loop
+cast-k c = omega arith
+
+loop-holds : tie.Need-loop-holds Inv-loop μ-loop
+loop-holds c = (omega arith, tides-none (stateOf (c .before .before .before .before .args .dataset) (c .before .before .before .before .args .distances .now) (c .before .before .before .before .args .settings .now)) _ _)
+
+bit-length-requires : tie.Need-bit-length-requires Inv-loop μ-loop
+bit-length-requires c κs = (c .before .before .before .before .before .before .pre .dataset .k-high, omega (arith, c .before .before .before .before .before .before .pre .dataset .few))
+
+put-tide-requires : tie.Need-put-tide-requires Inv-loop μ-loop
+put-tide-requires c κs = tide-room (stateOf (c .before .before .before .before .before .before .before .before .args .dataset) (c .before .before .before .before .before .before .before .before .args .distances .now) (c .before .before .before .before .before .before .before .before .args .settings .now)) _ (c .before .before .before .before .before .before .before .before .pre) (c .before .before .before .loop .file) (c .before .before .before .loop .inv .1 .same) (c .before .before .before .loop .t) (c .before .bit-length .result) (c .before .before .loop-test .taken) (c .before .bit-length .ensures .0)
+
+add-t : tie.Need-add-t Inv-loop μ-loop
+add-t c = omega arith
+
+loop-less : tie.Need-loop-less Inv-loop μ-loop
+loop-less c = omega arith
+
+loop-again : tie.Need-loop-again Inv-loop μ-loop
+loop-again c = (omega arith, tides-more (stateOf (c .before .before .before .before .before .before .before .before .before .before .before .args .dataset) (c .before .before .before .before .before .before .before .before .before .before .before .args .distances .now) (c .before .before .before .before .before .before .before .before .before .before .before .args .settings .now)) _ _ (c .before .before .before .before .before .before .loop .t) (c .before .before .before .before .before .before .loop .inv .1) (c .before .before .before .before .bit-length .ensures .0) (c .before .before .put-tide .ensures))
+
+same-length : tie.Need-same-length Inv-loop μ-loop
+same-length c = c .before .loop .inv .1 .same
+
+returns : tie.Need-returns Inv-loop μ-loop
+returns c = tides-done (stateOf (c .before .before .before .before .before .before .args .dataset) (c .before .before .before .before .before .before .args .distances .now) (c .before .before .before .before .before .before .args .settings .now)) _ _ (c .before .loop .t) (c .before .before .before .before .before .before .args .dataset .n) (omega arith) (omega arith) (c .before .loop .inv .1)
+
+pub put-tides-spec : {M : Type 1} → statement M
+put-tides-spec =
+    tie.close
+    (tie.spec
+    Inv-loop
+    μ-loop
+    cast-k
+    loop-holds
+    bit-length-requires
+    put-tide-requires
+    add-t
+    loop-less
+    loop-again
+    same-length
+    returns)

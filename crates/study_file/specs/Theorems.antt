@@ -1,0 +1,22 @@
+-- Files and datasets correspond one to one, of the definitions that the contracts of Read and Write cite. There are no proofs here;
+-- `for-files` of Proofs.antt proves the record. Assumes nothing.
+use Prim.Native.Nat.{ℕ}
+use mathlib.Core.Path.{_≡_}
+use mathlib.Core.Bool.{false}
+use mathlib.Core.List.{List}
+use lib.Dec.{T}
+use Rattle.study.specs.Refusals.{accepted}
+use Rattle.file_format.specs.File.{fileOf}
+use Rattle.file_format.specs.Theorems.{Bytes}
+use Rattle.dataset.specs.Memory.{State, short, isDataset, contentsOf, stored}
+use Rattle.study_file.specs.Answers.{readAnswer, readLeaves}
+
+pub record ForFiles : Type 0 where
+  -- Read accepts the file of a dataset, whatever it is read over, and gives that dataset
+  pub accepts : (s over : State) → T (isDataset s) → short over ≡ false → readAnswer over (fileOf (contentsOf s)) ≡ accepted
+  pub gives : (s over : State) → T (isDataset s) → short over ≡ false → readLeaves over (fileOf (contentsOf s)) ≡ stored (contentsOf s) over
+  -- over its own memory, nothing changes
+  pub again : (s : State) → T (isDataset s) → short s ≡ false → readLeaves s (fileOf (contentsOf s)) ≡ s
+  -- bytes that Read accepts give a dataset, whose file is exactly those bytes
+  pub dataset : (over : State) (bytes : List ℕ) → Bytes bytes → readAnswer over bytes ≡ accepted → T (isDataset (readLeaves over bytes))
+  pub only : (over : State) (bytes : List ℕ) → Bytes bytes → readAnswer over bytes ≡ accepted → fileOf (contentsOf (readLeaves over bytes)) ≡ bytes

@@ -1,0 +1,97 @@
+// Read and Write: for any record, memory and bytes of any length, the answer and what stands afterwards.
+use crate::head::head_answer;
+use crate::head::record_of;
+use crate::length::byte_length;
+use crate::memory::copy_distances;
+use crate::memory::copy_settings;
+use crate::tides::read_tides;
+use crate::writing::put_fields;
+use dataset::check;
+use study::Answer;
+use study::Dataset;
+use study::Outcome;
+use study::Refusal;
+
+mod head;
+mod length;
+mod memory;
+mod tides;
+mod writing;
+
+ghost use mathlib.Core.Path.{_≡_};
+ghost use lib.ListN.{length};
+ghost use Rattle.dataset.specs.Memory.{stateOf};
+ghost use Rattle.dataset.specs.Ways.{Passed};
+ghost use Rattle.study.specs.Refusals.{verdictOf};
+ghost use Rattle.study_file.specs.Answers.{readAnswer, readLeaves, writtenOf, writeReply, writeLeaves};
+
+// The byte length of the file that was written, or why none was.
+pub enum Written {
+    Done(usize),
+    Refused(Refusal),
+}
+
+// The dataset that a file holds. It is read into memory of its own, and copied into the lent memory once nothing can refuse it any more.
+pub fn read(dataset: Dataset, distances: &mut [u32], settings: &mut [u8], file: &[u8]) -> Outcome
+    ensures answer { λ r. ⌜ verdictOf (r .answer) ≡ readAnswer (stateOf dataset (now (distances .entry)) (now (settings .entry))) (now (file .entry)) ⌝ }
+    ensures leaves { λ r. ⌜ stateOf (r .dataset) (now (distances .exit)) (now (settings .exit)) ≡ readLeaves (stateOf dataset (now (distances .entry)) (now (settings .entry))) (now (file .entry)) ⌝ }
+{
+    if distances.len() < 14400 {
+        return Outcome {
+            answer: Answer::Refused(Refusal::ShortMemory),
+            dataset,
+        };
+    }
+    if settings.len() < 120 {
+        return Outcome {
+            answer: Answer::Refused(Refusal::ShortMemory),
+            dataset,
+        };
+    }
+    let first = head_answer(file);
+    let Answer::Done = first else {
+        return Outcome {
+            answer: first,
+            dataset,
+        };
+    };
+    let next = record_of(file);
+    let mut near = [0u32; 14400];
+    let mut kinds = [0u8; 120];
+    let answer = read_tides(file, next.k as usize, next.n, &mut near, &mut kinds);
+    let Answer::Done = answer else {
+        return Outcome { answer, dataset };
+    };
+    copy_distances(distances, &near);
+    copy_settings(settings, &kinds);
+    Outcome {
+        answer,
+        dataset: next,
+    }
+}
+
+// The file of a dataset, where there is room for it.
+fn write_file(dataset: Dataset, distances: &[u32], settings: &[u8], file: &mut [u8]) -> Written
+    requires { ⌜ Passed (stateOf dataset (now distances) (now settings)) ⌝ }
+    ensures reply { λ r. ⌜ writtenOf r ≡ writeReply (stateOf dataset (now (distances .entry)) (now (settings .entry))) (length (now (file .entry))) ⌝ }
+    ensures leaves { λ r. ⌜ now (file .exit) ≡ writeLeaves (stateOf dataset (now (distances .entry)) (now (settings .entry))) (now (file .entry)) ⌝ }
+{
+    let size = byte_length(dataset.k as usize, dataset.n);
+    if file.len() < size {
+        return Written::Refused(Refusal::ShortMemory);
+    }
+    put_fields(file, dataset, distances, settings);
+    Written::Done(size)
+}
+
+// The file over the front of the lent bytes; those past it stay.
+pub fn write(dataset: Dataset, distances: &[u32], settings: &[u8], file: &mut [u8]) -> Written
+    ensures reply { λ r. ⌜ writtenOf r ≡ writeReply (stateOf dataset (now (distances .entry)) (now (settings .entry))) (length (now (file .entry))) ⌝ }
+    ensures leaves { λ r. ⌜ now (file .exit) ≡ writeLeaves (stateOf dataset (now (distances .entry)) (now (settings .entry))) (now (file .entry)) ⌝ }
+{
+    let answer = check(dataset, distances, settings);
+    match answer {
+        Answer::Refused(why) => Written::Refused(why),
+        Answer::Done => write_file(dataset, distances, settings, file),
+    }
+}

@@ -1,0 +1,153 @@
+// A file is written over the front of the lent bytes, field after field. A byte's first bits clear it, so that zero bits fill the last one.
+use crate::length::bit_length;
+use study::Dataset;
+ghost use mathlib.Core.Path.{_≡_};
+ghost use mathlib.Core.Bool.{cond};
+ghost use mathlib.Core.List.{[], _∷_, map, flatMap};
+ghost use Prim.Native.Nat.{ℕ, _+_, _*_, _%_, _^_, _≤_, _<_};
+ghost use lib.Dec.{eqb};
+ghost use lib.ListN.{length, getD};
+ghost use Rattle.lists.specs.Lists.{tabulate, at};
+ghost use Rattle.file_format.specs.Bits.{field, bitsOf};
+ghost use Rattle.file_format.specs.File.{tideFields, fields, bitLength};
+ghost use Rattle.dataset.specs.Memory.{stateOf, tideOf, contentsOf};
+ghost use Rattle.study_file.specs.Writing.{Adds};
+ghost use Rattle.study_file.specs.Putting.{Puts, Writable, headFields};
+
+fn wide(x: u8) -> u32
+    ensures { λ r. ⌜ (r ≡ x) × (r < 256) ⌝ }
+{
+    x as u32
+}
+
+// What a byte keeps when its bits from j on are written.
+fn kept(x: u8, j: usize) -> u32
+    ensures { λ r. ⌜ (r ≡ cond (eqb j 0) 0 x) × (r < 256) ⌝ }
+{
+    if j == 0 {
+        return 0;
+    }
+    wide(x)
+}
+
+// The bits of v, `count` of them, inside one byte.
+fn put_part(file: &mut [u8], at: usize, count: usize, v: u32)
+    requires { ⌜ (1 ≤ count) × (at % 8 + count ≤ 8) ⌝ }
+    requires { ⌜ (v < 2 ^ count) × (at + count ≤ 8 * length (now file)) ⌝ }
+    ensures { λ _. ⌜ Adds (now (file .entry)) at (bitsOf count v) (now (file .exit)) ⌝ }
+{
+    let i = at / 8;
+    let j = at % 8;
+    let rest = (8 - j - count) as u32;
+    let old = kept(file[i], j);
+    let new = (old + (v << rest)) % 256;
+    file[i] = new as u8;
+}
+
+// How many of the bits that are left the byte at a position takes.
+fn taken(at: usize, left: usize) -> usize
+    requires { ⌜ 1 ≤ left ⌝ }
+    ensures { λ r. ⌜ (1 ≤ r) × (r ≤ left) × (at % 8 + r ≤ 8) ⌝ }
+{
+    let free = 8 - at % 8;
+    if free < left {
+        return free;
+    }
+    left
+}
+
+// A field, most significant bit first, byte by byte.
+fn put_field(file: &mut [u8], at: usize, width: usize, value: u32)
+    requires { ⌜ (width ≤ 20) × (at + width ≤ 8 * length (now file)) ⌝ }
+    requires { ⌜ at < 2 ^ 63 ⌝ }
+    ensures { λ _. ⌜ Puts (now (file .entry)) at (field width value ∷ []) (now (file .exit)) ⌝ }
+{
+    let mut done: usize = 0;
+    while done < width {
+        let count = taken(at + done, width - done);
+        let rest = (width - done - count) as u32;
+        let bits = count as u32;
+        put_part(file, at + done, count, (value >> rest) % (1 << bits));
+        done += count;
+    }
+}
+
+fn put_head(file: &mut [u8], dataset: Dataset)
+    requires { ⌜ (6 ≤ length (now file)) × (dataset .n ≤ 120) ⌝ }
+    ensures { λ _. ⌜ Puts (now (file .entry)) 0 (headFields dataset) (now (file .exit)) ⌝ }
+{
+    let minima = dataset.minima;
+    put_field(file, 0, 8, 0x54);
+    put_field(file, 8, 7, dataset.n as u32);
+    put_field(file, 15, 4, dataset.k as u32);
+    put_field(file, 19, 7, minima.b0 as u32);
+    put_field(file, 26, 16, dataset.withdrawn as u32);
+}
+
+// The b's of the settings 1 to k.
+fn put_minima(file: &mut [u8], k: usize, b: [u8; 8])
+    requires { ⌜ (k ≤ 8) × (42 + 7 * k ≤ 8 * length (now file)) ⌝ }
+    ensures { λ _. ⌜ Puts (now (file .entry)) 42 (map (field 7) (tabulate k (λ (j : ℕ). getD b j 0))) (now (file .exit)) ⌝ }
+{
+    let mut j: usize = 0;
+    while j < k {
+        put_field(file, 42 + 7 * j, 7, wide(b[j]));
+        j += 1;
+    }
+}
+
+// The distances of tide t to the tides before it.
+fn put_row(file: &mut [u8], start: usize, distances: &[u32], t: usize)
+    requires { ⌜ (t < 120) × (14400 ≤ length (now distances)) ⌝ }
+    requires { ⌜ (start + 20 * t ≤ 8 * length (now file)) × (start < 2 ^ 62) ⌝ }
+    ensures { λ _. ⌜ Puts (now (file .entry)) start (map (field 20) (tabulate t (at (now (distances .entry)) t))) (now (file .exit)) ⌝ }
+{
+    let mut i: usize = 0;
+    while i < t {
+        put_field(file, start + 20 * i, 20, distances[t * 120 + i]);
+        i += 1;
+    }
+}
+
+fn put_tide(
+    file: &mut [u8],
+    start: usize,
+    dataset: Dataset,
+    distances: &[u32],
+    settings: &[u8],
+    t: usize,
+)
+    requires { ⌜ (t < 120) × (14400 ≤ length (now distances)) × (t < length (now settings)) × (1 ≤ getD (now settings) t 0) ⌝ }
+    requires { ⌜ (start + (3 + 20 * t) ≤ 8 * length (now file)) × (start < 2 ^ 61) ⌝ }
+    ensures { λ _. ⌜ Puts (now (file .entry)) start (tideFields (tideOf (stateOf dataset (now (distances .entry)) (now (settings .entry))) t)) (now (file .exit)) ⌝ }
+{
+    put_field(file, start, 3, wide(settings[t]) - 1);
+    put_row(file, start + 3, distances, t);
+}
+
+fn put_tides(file: &mut [u8], dataset: Dataset, distances: &[u32], settings: &[u8])
+    requires { ⌜ Writable (stateOf dataset (now distances) (now settings)) (now file) ⌝ }
+    ensures { λ _. ⌜ Puts (now (file .entry)) (bitLength (dataset .k) 0) (flatMap tideFields (tabulate (dataset .n) (tideOf (stateOf dataset (now (distances .entry)) (now (settings .entry)))))) (now (file .exit)) ⌝ }
+{
+    let k = dataset.k as usize;
+    let n = dataset.n;
+    let mut t: usize = 0;
+    while t < n {
+        let start = bit_length(k, t);
+        put_tide(file, start, dataset, distances, settings, t);
+        t += 1;
+    }
+}
+
+// All fields of the file.
+pub fn put_fields(file: &mut [u8], dataset: Dataset, distances: &[u32], settings: &[u8])
+    requires { ⌜ Writable (stateOf dataset (now distances) (now settings)) (now file) ⌝ }
+    ensures { λ _. ⌜ Puts (now (file .entry)) 0 (fields (contentsOf (stateOf dataset (now (distances .entry)) (now (settings .entry))))) (now (file .exit)) ⌝ }
+{
+    let k = dataset.k as usize;
+    let minima = dataset.minima;
+    let b = minima.b;
+    put_head(file, dataset);
+    put_minima(file, k, b);
+    put_tides(file, dataset, distances, settings);
+}

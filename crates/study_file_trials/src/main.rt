@@ -1,0 +1,257 @@
+// Trials of Read and Write. Refusals are tried where a later reason holds too, so that the order shows.
+// Each group prints how many of its answers came out as expected.
+use crate::reading::comes_back;
+use crate::reading::gives_pair;
+use crate::reading::number;
+use crate::reading::same_front;
+use crate::samples::flip;
+use crate::samples::four_tides;
+use crate::samples::front;
+use crate::samples::nonsense;
+use crate::samples::small_file;
+use crate::samples::spoiled;
+use crate::tally::Tally;
+use study::Answer;
+use study::Dataset;
+use study_file::Written;
+
+mod reading;
+mod samples;
+mod tally;
+
+fn answer_number(answer: Answer) -> u32 {
+    match answer {
+        Answer::Done => 0,
+        Answer::Refused(why) => tally::number_of(why),
+    }
+}
+
+// The number of a refused Write; 0 where it is done.
+fn written_number(written: Written) -> u32 {
+    match written {
+        Written::Done(_) => 0,
+        Written::Refused(why) => tally::number_of(why),
+    }
+}
+
+fn written_length(written: Written) -> usize {
+    match written {
+        Written::Done(n) => n,
+        Written::Refused(_) => 0,
+    }
+}
+
+// Short memory before everything else; the file is too short as well.
+fn short_memory(so_far: Tally) -> Tally {
+    let mut distances = [7u32; 14400];
+    let mut settings = [9u8; 120];
+    let mut short = [7u32; 14399];
+    let mut shorter = [9u8; 119];
+    let far = study_file::read(nonsense(), &mut short, &mut settings, &[]);
+    let kinds = study_file::read(nonsense(), &mut distances, &mut shorter, &[]);
+    let first = far.answer;
+    let second = kinds.answer;
+    let t = so_far.see(answer_number(first) == 1);
+    t.see(answer_number(second) == 1)
+}
+
+// The bits: mark 0, tides 8, k 15, b0 19, withdrawals 26, minima 42, tides at 56, 59, 82 and 125, filling 188. 999 is none.
+fn head_refusals(so_far: Tally) -> Tally {
+    let mut t = so_far;
+    // under 6 bytes, and a wrong mark; a wrong mark and 124 tides; 124 tides and k = 0; k = 0 and 10, which ask for another length
+    t = t.see(number(front(&spoiled(0, 999, 999, 999, 999), 5)) == 8);
+    t = t.see(number(front(&spoiled(0, 8, 9, 10, 11), 24)) == 9);
+    t = t.see(number(front(&spoiled(17, 8, 9, 10, 11), 24)) == 10);
+    t = t.see(number(front(&spoiled(17, 999, 999, 999, 999), 24)) == 2);
+    t = t.see(number(front(&spoiled(15, 999, 999, 999, 999), 24)) == 2);
+    // a byte too many and b0 = 0; b0 = 0, b0 = 122, b's of 4 with b0 = 2, each with a filling bit; a filling bit and a setting above k
+    t = t.see(number(front(&spoiled(24, 999, 999, 999, 999), 25)) == 8);
+    t = t.see(number(front(&spoiled(24, 191, 999, 999, 999), 24)) == 3);
+    t = t.see(number(front(&spoiled(19, 20, 21, 22, 191), 24)) == 3);
+    t = t.see(number(front(&spoiled(47, 191, 999, 999, 999), 24)) == 3);
+    t.see(number(front(&spoiled(191, 57, 999, 999, 999), 24)) == 11)
+}
+
+fn tide_refusals(so_far: Tally) -> Tally {
+    let mut t = so_far;
+    // tide 3: a setting above k and a row that breaks the rule; tide 2's setting and tide 3's row; tide 3's row and tide 4's setting
+    t = t.see(number(front(&spoiled(83, 85, 999, 999, 999), 24)) == 5);
+    t = t.see(number(front(&spoiled(60, 85, 999, 999, 999), 24)) == 5);
+    t = t.see(number(front(&spoiled(85, 126, 999, 999, 999), 24)) == 7);
+    t = t.see(gives_pair(front(&spoiled(85, 126, 999, 999, 999), 24), 1, 2));
+    // tide 4 breaks the rule with 1 and 2, 1 and 3; with 1 and 3, 2 and 3
+    t = t.see(gives_pair(front(&spoiled(128, 999, 999, 999, 999), 24), 1, 2));
+    t.see(gives_pair(front(&spoiled(168, 999, 999, 999, 999), 24), 1, 3))
+}
+
+// Each part of the file from its first byte on, and a byte more.
+fn truncated(so_far: Tally) -> Tally {
+    let file = small_file();
+    let mut t = so_far.see(number(front(&file, 24)) == 0);
+    t = t.see(number(front(&file, 25)) == 8);
+    let mut n: usize = 0;
+    while n < 24 {
+        t = t.see(number(front(&file, n)) == 8);
+        n += 1;
+    }
+    t
+}
+
+fn with_flip(p: usize) -> [u8; 64] {
+    let mut file = small_file();
+    flip(&mut file, p);
+    file
+}
+
+// With bit p the other one: refused with nothing written, or accepted and written back.
+fn flip_told(p: usize) -> bool {
+    let file = with_flip(p);
+    let told = number(front(&file, 24));
+    if told == 0 {
+        return comes_back(front(&file, 24));
+    }
+    told < 12
+}
+
+fn flip_accepted(p: usize) -> bool {
+    number(front(&with_flip(p), 24)) == 0
+}
+
+// Each bit of the file in turn.
+fn flipped(so_far: Tally) -> Tally {
+    let mut t = so_far;
+    let mut p: usize = 0;
+    while p < 192 {
+        t = t.see(flip_told(p));
+        p += 1;
+    }
+    t
+}
+
+fn flipped_accepted(so_far: Tally) -> Tally {
+    let mut t = so_far;
+    let mut p: usize = 0;
+    while p < 192 {
+        t = t.see(flip_accepted(p));
+        p += 1;
+    }
+    t
+}
+
+// The empty dataset with k = 1; with a filling bit; and with six bytes.
+fn smallest(so_far: Tally) -> Tally {
+    let mut t = so_far;
+    t = t.see(comes_back(&[0x54, 0, 0x20, 0x40, 0, 0, 0]));
+    t = t.see(number(&[0x54, 0, 0x20, 0x40, 0, 0, 1]) == 11);
+    t.see(number(&[0x54, 0, 0x20, 0x40, 0, 0]) == 8)
+}
+
+// The bytes from n on, or none.
+fn past(bytes: &[u8], n: usize) -> &[u8] {
+    if n <= bytes.len() {
+        return &bytes[n..];
+    }
+    front(bytes, 0)
+}
+
+// Write, lent `room` bytes of the file.
+fn write_within(
+    record: Dataset,
+    distances: &[u32],
+    settings: &[u8],
+    file: &mut [u8],
+    room: usize,
+) -> Written {
+    if room <= file.len() {
+        return study_file::write(record, distances, settings, &mut file[..room]);
+    }
+    study_file::write(record, distances, settings, file)
+}
+
+// Short memory before what is no dataset, and that before the room.
+fn write_refused(so_far: Tally) -> Tally {
+    let mut distances = [7u32; 14400];
+    let mut settings = [9u8; 120];
+    let mut file = [170u8; 64];
+    let mut t = so_far;
+    t = t.see(written_number(study_file::write(nonsense(), &[7, 7], &settings, &mut file)) == 1);
+    t = t.see(written_number(write_within(nonsense(), &distances, &settings, &mut file, 5)) == 21);
+    let four = four_tides(&mut distances, &mut settings);
+    t = t.see(written_number(write_within(four, &distances, &settings, &mut file, 23)) == 1);
+    t.see(check::same(&file, &[170u8; 64]))
+}
+
+// Room for the file alone, and more room; 40 bytes past it stay.
+fn write_done(so_far: Tally) -> Tally {
+    let mut distances = [7u32; 14400];
+    let mut settings = [9u8; 120];
+    let mut exact = [170u8; 64];
+    let mut file = [170u8; 64];
+    let four = four_tides(&mut distances, &mut settings);
+    let mut t = so_far;
+    t = t.see(written_length(write_within(four, &distances, &settings, &mut exact, 24)) == 24);
+    t = t.see(written_length(study_file::write(four, &distances, &settings, &mut file)) == 24);
+    t = t.see(check::same(&exact, &file));
+    t = t.see(check::same(front(&file, 24), front(&small_file(), 24)));
+    t.see(check::same(past(&file, 24), &[170u8; 40]))
+}
+
+fn same_record(a: Dataset, b: Dataset) -> bool {
+    let x = a.minima;
+    let y = b.minima;
+    if a.k != b.k || a.n != b.n {
+        return false;
+    }
+    if a.withdrawn != b.withdrawn || x.b0 != y.b0 {
+        return false;
+    }
+    check::same(&x.b, &y.b)
+}
+
+// Whether b begins with a, and has sevens after it.
+fn same_distances(a: &[u32], b: &[u32]) -> bool {
+    if b.len() != a.len() + 3 {
+        return false;
+    }
+    same_front(a, b) && b[a.len()] == 7 && b[a.len() + 2] == 7
+}
+
+// What Read makes of the greatest file, against what it was written from; and the file written again.
+fn full_read(so_far: Tally, distances: &[u32], settings: &[u8], file: &[u8]) -> Tally {
+    let mut far = [7u32; 14403];
+    let mut kinds = [9u8; 123];
+    let outcome = study_file::read(nonsense(), &mut far, &mut kinds, file);
+    let mut again = [170u8; 17908];
+    study_file::write(outcome.dataset, &far, &kinds, &mut again);
+    let mut t = so_far.see(same_record(outcome.dataset, samples::full_record()));
+    t = t.see(same_distances(distances, &far));
+    t = t.see(check::same(settings, front(&kinds, 120)));
+    t = t.see(check::same(past(&kinds, 120), &[9, 9, 9]));
+    t.see(check::same(&again, file))
+}
+
+// 120 tides: the greatest file, and back.
+fn full(so_far: Tally) -> Tally {
+    let distances = samples::full_distances();
+    let settings = samples::full_settings();
+    let mut file = [170u8; 17910];
+    let length = written_length(study_file::write(
+        samples::full_record(),
+        &distances,
+        &settings,
+        &mut file,
+    ));
+    let mut t = so_far.see(length == 17908);
+    t = t.see(check::same(past(&file, 17908), &[170, 170]));
+    full_read(t, &distances, &settings, front(&file, 17908))
+}
+
+fn main() {
+    full(tally::new()).print(b"120 tides");
+    smallest(tally::new()).print(b"no tides");
+    tide_refusals(head_refusals(short_memory(tally::new()))).print(b"read refused");
+    truncated(tally::new()).print(b"truncated");
+    flipped(tally::new()).print(b"one bit flipped");
+    flipped_accepted(tally::new()).print(b"one bit flipped and accepted");
+    write_done(write_refused(tally::new())).print(b"write");
+}

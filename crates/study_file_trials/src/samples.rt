@@ -1,0 +1,130 @@
+// Records, datasets and files to try the calls on.
+use study::Dataset;
+use study::Minima;
+
+// A record that is no dataset's.
+pub fn nonsense() -> Dataset {
+    let minima = Minima { b0: 0, b: [9; 8] };
+    Dataset {
+        k: 0,
+        n: 300,
+        minima,
+        withdrawn: 7,
+    }
+}
+
+// k = 2, and two tides at 3.
+fn two_tides(distances: &mut [u32], settings: &mut [u8]) -> Dataset {
+    let opened = dataset::open(nonsense(), distances, settings, 2);
+    let empty = opened.dataset;
+    let first = dataset::enter(empty, distances, settings, 1, &[]);
+    let one = first.dataset;
+    let second = dataset::enter(one, distances, settings, 2, &[3]);
+    second.dataset
+}
+
+// Four tides on a line at 0, 3, 7 and 12, with minima that they meet.
+pub fn four_tides(distances: &mut [u32], settings: &mut [u8]) -> Dataset {
+    let two = two_tides(distances, settings);
+    let third = dataset::enter(two, distances, settings, 2, &[7, 4]);
+    let three = third.dataset;
+    let fourth = dataset::enter(three, distances, settings, 1, &[12, 9, 5]);
+    let four = fourth.dataset;
+    let minima = Minima {
+        b0: 2,
+        b: [1, 1, 0, 0, 0, 0, 0, 0],
+    };
+    Dataset {
+        k: four.k,
+        n: four.n,
+        minima,
+        withdrawn: four.withdrawn,
+    }
+}
+
+// 120 tides, the greatest k and the greatest count.
+pub fn full_record() -> Dataset {
+    let minima = Minima {
+        b0: 120,
+        b: [15; 8],
+    };
+    Dataset {
+        k: 8,
+        n: 120,
+        minima,
+        withdrawn: 65535,
+    }
+}
+
+// Where tide i stands on a line.
+fn position(i: usize) -> u32 {
+    let at = (i % 120 * 400009) % 1048576;
+    at as u32
+}
+
+fn gap(a: u32, b: u32) -> u32 {
+    if a < b {
+        return b - a;
+    }
+    a - b
+}
+
+// The distances of 120 tides.
+pub fn full_distances() -> [u32; 14400] {
+    let mut distances = [0u32; 14400];
+    let mut p: usize = 0;
+    while p < 14400 {
+        distances[p] = gap(position(p / 120), position(p % 120));
+        p += 1;
+    }
+    distances
+}
+
+// Their settings, 1 to 8 in turn.
+pub fn full_settings() -> [u8; 120] {
+    let mut settings = [0u8; 120];
+    let mut i: usize = 0;
+    while i < 120 {
+        settings[i] = (i % 8) as u8 + 1;
+        i += 1;
+    }
+    settings
+}
+
+// The file of the four tides, 24 bytes, and zeros after it.
+pub fn small_file() -> [u8; 64] {
+    let mut distances = [7u32; 14400];
+    let mut settings = [9u8; 120];
+    let mut file = [0u8; 64];
+    let four = four_tides(&mut distances, &mut settings);
+    study_file::write(four, &distances, &settings, &mut file);
+    file
+}
+
+// Bit p is the other one; past the end nothing changes.
+pub fn flip(file: &mut [u8; 64], p: usize) {
+    let i = p / 8;
+    let j = (p % 8) as u32;
+    if i < 64 {
+        file[i] = file[i] ^ (128 >> j);
+    }
+}
+
+// The first n bytes, or all where there are fewer.
+pub fn front(bytes: &[u8], n: usize) -> &[u8] {
+    if n <= bytes.len() {
+        return &bytes[..n];
+    }
+    bytes
+}
+
+// The file with up to five other bits.
+pub fn spoiled(a: usize, b: usize, c: usize, d: usize, e: usize) -> [u8; 64] {
+    let mut file = small_file();
+    flip(&mut file, a);
+    flip(&mut file, b);
+    flip(&mut file, c);
+    flip(&mut file, d);
+    flip(&mut file, e);
+    file
+}
