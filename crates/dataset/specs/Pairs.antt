@@ -126,7 +126,7 @@ module _ (d : List ℕ) (t : ℕ) (fits : 14400 ≤ length d) (held : t < 120) w
       let k : i < t * 120 + t - t * 120 = omega arith in
       getD-take (t * 120 + t - t * 120) (drop (t * 120) d) i 0 k ∙ getD-drop (t * 120) d i 0
 
-  part-breaking : breaking (at d) (length part) (λ i. getD part i 0) ≡ breaking (at d) t (at d t)
+  pub part-breaking : breaking (at d) (length part) (λ i. getD part i 0) ≡ breaking (at d) t (at d t)
   part-breaking =
       ap (λ (k : ℕ). breaking (at d) k (λ i. getD part i 0)) part-length
       ∙ breaking-same (at d) (at d) t (λ i. getD part i 0) (at d t) (λ i j a b. refl) part-at

@@ -108,7 +108,7 @@ bit-of (suc w) v j l =
     last : 0 ≡ suc w - 1 - w
     last = omega arith
 
-append-bit : (xs ys : List ℕ) → Bits (λ p. getD xs p 0) → Bits (λ p. getD ys p 0) → Bits (λ p. getD (xs ++ ys) p 0)
+pub append-bit : (xs ys : List ℕ) → Bits (λ p. getD xs p 0) → Bits (λ p. getD ys p 0) → Bits (λ p. getD (xs ++ ys) p 0)
 append-bit [] ys a b p = b p
 append-bit (x ∷ xs) ys a b zero = a 0
 append-bit (x ∷ xs) ys a b (suc p) = append-bit xs ys (λ q. a (suc q)) b p

@@ -3,8 +3,7 @@ use Prim.Native.Nat.{ℕ, _+_, _-_, _*_, _^_, _≤_, _<_}
 use native.Mathlib.Omega.{arith}
 use mathlib.Core.Path.{_≡_, refl, sym, ap, ap₂, _∙_, subst}
 use mathlib.Core.List.{List, [], _∷_}
-use lib.ListN.{length, getD, set, take, drop, length-take, length-drop}
-use lib.Seq.{getD-take, getD-drop}
+use lib.ListN.{length, getD, set, take, drop}
 use Rattle.lists.specs.Lists.{tabulate, at}
 use Rattle.lists.specs.Tables.{length-tabulate, getD-tabulate}
 use Rattle.study.specs.declared.Refusal.{Refusal}
@@ -18,7 +17,7 @@ use Rattle.file_format.specs.File.{bitLength, byteLength, tideAt}
 use Rattle.bit_reader.specs.FieldLaws.{Got}
 use Rattle.dataset.specs.declared.three_tide.Found.{Found}
 use Rattle.dataset.specs.declared.three_tide.Found.the-variants as Search
-use Rattle.dataset.specs.Pairs.{foundOf, breaking-same}
+use Rattle.dataset.specs.Pairs.{foundOf, part-breaking}
 use Rattle.dataset.specs.Places.{withRow, row-more}
 use Rattle.study_file.specs.Lengths.{length-sum, bitLength-up}
 use Rattle.study_file.specs.Loading.{Loaded, Reading, pairVerdict, reached, stopped, turn-five, turn-seven, turn-next}
@@ -44,14 +43,6 @@ module _ (d : List ℕ) (t : ℕ) (fits : 14400 ≤ length d) (few : t < 120) wh
   abbrev line : List ℕ
   line = take (t * 120 + t - t * 120) (drop (t * 120) d)
 
-  line-breaking : breaking (at d) (length line) (λ i. getD line i 0) ≡ breaking (at d) t (at d t)
-  line-breaking =
-      let n : length line ≡ t = simp (length-take, length-drop) (omega arith) in
-      ap (λ (k : ℕ). breaking (at d) k (λ i. getD line i 0)) n
-      ∙ breaking-same (at d) (at d) t (λ i. getD line i 0) (at d t) (λ i j a b. refl)
-      (λ i a. let k : i < t * 120 + t - t * 120 = omega arith in
-      getD-take (t * 120 + t - t * 120) (drop (t * 120) d) i 0 k ∙ getD-drop (t * 120) d i 0)
-
   pair-told : (ps : List Pair) (i j : ℕ) → foundOf ps ≡ Search.Pair i j → refused (seven i j) ≡ pairVerdict ps
   pair-told [] i j e = absurd (let z : _≡_ {A = ℕ} 0 1 = cc in omega arith)
   pair-told (p ∷ ps) i j e = cc
@@ -62,10 +53,10 @@ module _ (d : List ℕ) (t : ℕ) (fits : 14400 ≤ length d) (few : t < 120) wh
 
   module _ {r : Found} (e : r ≡ foundOf (breaking (at d) (length line) (λ i. getD line i 0))) where
     pub row-breaks : {i j : ℕ} → r ≡ Search.Pair i j → refused (seven i j) ≡ pairVerdict (breaking (at d) t (at d t))
-    row-breaks {i} {j} q = pair-told (breaking (at d) t (at d t)) i j (ap foundOf (sym line-breaking) ∙ sym e ∙ q)
+    row-breaks {i} {j} q = pair-told (breaking (at d) t (at d t)) i j (ap foundOf (sym (part-breaking d t fits few)) ∙ sym e ∙ q)
 
     pub row-holds : r ≡ Search.Nothing → accepted ≡ pairVerdict (breaking (at d) t (at d t))
-    row-holds q = none-told (breaking (at d) t (at d t)) (ap foundOf (sym line-breaking) ∙ sym e ∙ q)
+    row-holds q = none-told (breaking (at d) t (at d t)) (ap foundOf (sym (part-breaking d t fits few)) ∙ sym e ∙ q)
 
 -- ---- both
 

@@ -14,7 +14,7 @@ use lib.Seq.{getD-append-add, getD-drop, getD-set-same, getD-set-other, ext-getD
 use Rattle.lists.specs.Tests.{test, split, cond-yes, cond-no}
 use Rattle.file_format.specs.Bits.{binary, bitsOf, packed}
 use Rattle.bit_reader.specs.FieldLaws.{one-moved}
-use Rattle.file_format.specs.BitLaws.{Bits, binary-ext, binary-small, binary-zero, binary-split, length-bitsOf, bitsOf-bit, bits-binary, length-pack, pack-at}
+use Rattle.file_format.specs.BitLaws.{append-bit, Bits, binary-ext, binary-small, binary-zero, binary-split, length-bitsOf, bitsOf-bit, bits-binary, length-pack, pack-at}
 
 -- the bytes that bs fill, over the front of old
 unfoldable pub over : List ℕ → List ℕ → List ℕ
@@ -60,11 +60,6 @@ adds-then s at bs t p ds u a e b =
     }
 
 -- ---- bytes over old ones
-
-append-bit : (xs ys : List ℕ) → Bits (λ p. getD xs p 0) → Bits (λ p. getD ys p 0) → Bits (λ p. getD (xs ++ ys) p 0)
-append-bit [] ys a b p = b p
-append-bit (x ∷ xs) ys a b zero = a 0
-append-bit (x ∷ xs) ys a b (suc p) = append-bit xs ys (λ q. a (suc q)) b p
 
 module _ (old bs : List ℕ) (room : (length bs + 7) / 8 ≤ length old) where
   packed-length : length (packed bs) ≡ (length bs + 7) / 8
