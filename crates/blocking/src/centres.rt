@@ -1,4 +1,4 @@
-// Centres at a radius (document 01: reach).
+// Centres at a radius.
 use radius::centres::find_centres;
 use study::Answer;
 use study::Dataset;

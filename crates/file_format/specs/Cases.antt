@@ -73,9 +73,9 @@ order =
     ∷ (read (0x54 ∷ 0x00 ∷ 0x00 ∷ 0x40 ∷ 0x00 ∷ 0x00 ∷ 0x00 ∷ []) gives verdict (refused (number 2)))
     -- 8, not 3: a byte too few, b0 = 0
     ∷ (read (0x54 ∷ 0x00 ∷ 0x20 ∷ 0x00 ∷ 0x00 ∷ 0x00 ∷ []) gives verdict (refused (number 8)))
-    -- 3, not 11: b0 = 0, a filling bit set
+    -- 3, not 11: b0 = 0, a fill bit set
     ∷ (read (0x54 ∷ 0x00 ∷ 0x20 ∷ 0x00 ∷ 0x00 ∷ 0x00 ∷ 0x01 ∷ []) gives verdict (refused (number 3)))
-    -- 11, not 5: a filling bit set, tide 1 has setting 2
+    -- 11, not 5: a fill bit set, tide 1 has setting 2
     ∷ (read (0x54 ∷ 0x02 ∷ 0x20 ∷ 0x40 ∷ 0x00 ∷ 0x00 ∷ 0x11 ∷ []) gives verdict (refused (number 11)))
     -- 5, not 7: tide 3 has setting 2, and is at 1 and 1 from two tides at 3
     ∷ (read (0x54 ∷ 0x06 ∷ 0x20 ∷ 0x40 ∷ 0x00 ∷ 0x00 ∷ 0x00 ∷ 0x00 ∷ 0x00 ∷ 0x64 ∷ 0x00 ∷ 0x00 ∷ 0x40 ∷ 0x00 ∷ 0x04 ∷ [])

@@ -37,7 +37,7 @@ fields H =
 unfoldable pub fileOf : Contents → List ℕ
 fileOf H = packed (allBits (fields H))
 
--- before filling
+-- without the fill bits
 unfoldable pub bitLength : ℕ → ℕ → ℕ
 bitLength k n = 42 + 7 * k + 3 * n + 10 * (n * (n - 1))
 

@@ -1,4 +1,4 @@
--- Document 01's remark in brackets: section 3's partial solution exists exactly when a filling does. There is no proof here;
+-- Document 01's remark in brackets: section 3's partial solution exists exactly when an assignment does. There is no proof here;
 -- `partial-solution-exactly` of PartialSolutionProof.antt proves it. Assumes nothing.
 use Prim.Native.Nat.{ℕ, suc, _≤_, _<_}
 use mathlib.Core.Path.{_≡_}

@@ -3,7 +3,7 @@ ghost use mathlib.Core.Path.{_≡_};
 ghost use Prim.Native.Nat.{_≤_};
 ghost use Rattle.file_format.specs.File.{bitLength, byteLength};
 
-// The bits before filling; those of t tides end where tide t begins.
+// The bits without the fill bits; those of t tides end where tide t begins.
 pub fn bit_length(k: usize, n: usize) -> usize
     requires { ⌜ (k ≤ 8) × (n ≤ 120) ⌝ }
     ensures { λ r. ⌜ (r ≡ bitLength k n) × (r ≤ 143258) ⌝ }

@@ -55,7 +55,7 @@ fn short_memory(so_far: Tally) -> Tally {
     t.see(answer_number(second) == 1)
 }
 
-// The bits: mark 0, tides 8, k 15, b0 19, withdrawals 26, minima 42, tides at 56, 59, 82 and 125, filling 188. 999 is none.
+// The bits: mark 0, tides 8, k 15, b0 19, withdrawals 26, minima 42, tides at 56, 59, 82 and 125, fill bits 188. 999 is none.
 fn head_refusals(so_far: Tally) -> Tally {
     let mut t = so_far;
     // under 6 bytes, and a wrong mark; a wrong mark and 124 tides; 124 tides and k = 0; k = 0 and 10, which ask for another length
@@ -64,7 +64,7 @@ fn head_refusals(so_far: Tally) -> Tally {
     t = t.see(number(front(&spoiled(17, 8, 9, 10, 11), 24)) == 10);
     t = t.see(number(front(&spoiled(17, 999, 999, 999, 999), 24)) == 2);
     t = t.see(number(front(&spoiled(15, 999, 999, 999, 999), 24)) == 2);
-    // a byte too many and b0 = 0; b0 = 0, b0 = 122, b's of 4 with b0 = 2, each with a filling bit; a filling bit and a setting above k
+    // a byte too many and b0 = 0; b0 = 0, b0 = 122, b's of 4 with b0 = 2, each with a fill bit; a fill bit and a setting above k
     t = t.see(number(front(&spoiled(24, 999, 999, 999, 999), 25)) == 8);
     t = t.see(number(front(&spoiled(24, 191, 999, 999, 999), 24)) == 3);
     t = t.see(number(front(&spoiled(19, 20, 21, 22, 191), 24)) == 3);
@@ -138,7 +138,7 @@ fn flipped_accepted(so_far: Tally) -> Tally {
     t
 }
 
-// The empty dataset with k = 1; with a filling bit; and with six bytes.
+// The empty dataset with k = 1; with a fill bit set; and with six bytes.
 fn smallest(so_far: Tally) -> Tally {
     let mut t = so_far;
     t = t.see(comes_back(&[0x54, 0, 0x20, 0x40, 0, 0, 0]));
