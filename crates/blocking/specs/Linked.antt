@@ -6,7 +6,7 @@ use mathlib.Core.Logic.{_⊎_, inl, inr}
 use mathlib.Core.Bool.{Bool, true, _&&_}
 use lib.Dec.{T, leb, eqb}
 use lib.ListN.{getD}
-use Rattle.lists.specs.Lists.{every, count}
+use Rattle.lists.specs.Lists.{every}
 use Rattle.lists.specs.Tests.{split}
 use Rattle.lists.specs.Counts.{count-same}
 use Rattle.study.specs.declared.Minima.{Minima}
@@ -19,12 +19,14 @@ use Rattle.dataset.specs.Memory.{State, studyOf, contentsOf}
 use Rattle.dataset.specs.Validity.{IsDataset, study-size, study-setting, study-distance, valid-contents}
 use Rattle.dataset.specs.Layout.{Long, distance-none}
 
--- settings count only of the tides there are
-meets-same : (M : Minima) (n : ℕ) (s r : ℕ → ℕ) (p : ℕ → Bool) → ((t : ℕ) → t < n → s t ≡ r t) → meets M n s p ≡ meets M n r p
+-- settings and the set count only of the tides there are
+pub meets-same : (M : Minima) (n : ℕ) {s r : ℕ → ℕ} {p q : ℕ → Bool} → ((t : ℕ) → t < n → s t ≡ r t) → ((t : ℕ) → t < n → p t ≡ q t)
+    → meets M n s p ≡ meets M n r q
 unfolding meets
-meets-same M n s r p h =
-    ap (λ (z : ℕ → ℕ). leb (M .b0) (count n p) && every 8 (λ j. leb (getD (M .b) j 0) (z j)))
-    (fun-ext (λ j. count-same n (λ t. p t && eqb (s t) (suc j)) (λ t. p t && eqb (r t) (suc j)) (λ t l. ap (λ z. p t && eqb z (suc j)) (h t l))))
+meets-same M n {s} {r} {p} {q} h k =
+    ap₂ (λ (c : ℕ) (z : ℕ → ℕ). leb (M .b0) c && every 8 (λ j. leb (getD (M .b) j 0) (z j)))
+    (count-same n p q k)
+    (fun-ext (λ j. count-same n (λ t. p t && eqb (s t) (suc j)) (λ t. q t && eqb (r t) (suc j)) (λ t l. ap₂ (λ a z. a && eqb z (suc j)) (k t l) (h t l))))
 
 abbrev of : ℕ → (ℕ → ℕ → ℕ) → ((ℕ → Bool) → Bool) → Problem
 of n d e = record { size = n; dist = d; enough = e }
@@ -50,7 +52,7 @@ module _ (s : State) (D : IsDataset s) where
       same-enough : (p : ℕ → Bool) → sufficient (studyOf s) p ≡ meets (s .dataset .minima) n (λ t. getD (s .settings) t 0) p
       same-enough p =
           ap (λ z. meets (studyOf s .minima) z (λ t. tide (studyOf s) t .setting) p) (study-size s)
-          ∙ meets-same (s .dataset .minima) n (λ t. tide (studyOf s) t .setting) (λ t. getD (s .settings) t 0) p (study-setting s)
+          ∙ meets-same (s .dataset .minima) n (study-setting s) (λ t l. refl)
 
   pub sized : Long s → Sized (s .distances) (s .settings) n (s .dataset .minima)
   sized L =

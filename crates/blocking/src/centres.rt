@@ -37,7 +37,7 @@ pub fn centres_answer(dataset: Dataset, distances: &[u32], settings: &[u8], list
 }
 
 // Writes the first count centres to the front of the list, as tide numbers from 1.
-fn put_centres(centres: &[usize; 120], count: usize, list: &mut [u8])
+pub fn put_centres(centres: &[usize; 120], count: usize, list: &mut [u8])
     requires { ⌜ (length (now centres) ≡ 120) × (count ≤ 120) × (count ≤ length (now list)) ⌝ }
     requires { ⌜ ((i : ℕ) → i < count → getD (now centres) i 0 < 120) ⌝ }
     ensures { λ _. ⌜ now (list .exit) ≡ overwrite count (λ (i : ℕ). getD (now (centres .entry)) i 0 + 1) (now (list .entry)) ⌝ }

@@ -16,7 +16,7 @@ use Rattle.study.specs.ProblemLaws.{mem-choices, blocks-same, diameter-same, gr
 use Rattle.study.specs.Dictionary.{choice-before, blocking-found}
 use Rattle.radii.specs.Posed.{within, posed, Proper}
 use Rattle.radii.specs.Radii.{lowest-radius}
-use Rattle.radius.specs.Front.{Front, CentresAt, front-at, front-few, centres-few}
+use Rattle.radius.specs.Front.{Front, CentresAt, front-at, front-few, front-below, centres-few}
 use Rattle.radius.specs.Assigning.{numbered, numbered-at, allowed-by, assigns}
 use Rattle.radius.specs.Attempts.{Least, Kept}
 use Rattle.blocks.specs.First.{First, Agree}
@@ -71,6 +71,8 @@ module _ {d s : List ℕ} {n : ℕ} {M : Minima} (Q : Proper d s n M) {g count�
 -- what the core hands back of the problem P: block count, radius, greatest diameter; and for each block its centre, tides and diameter
 pub record Blocks (d s : List ℕ) (n : ℕ) (M : Minima) (count₁ radius₁ widest : ℕ) (cs sizes diameters : List ℕ) : Type 0 where
   pub few : count₁ ≤ n
+  pub centres-long : length cs ≡ 120
+  pub centre-below : (i : ℕ) → i < count₁ → getD cs i 0 < n
   pub count-is : count₁ ≡ length (centres (posed d s n M) (radius (posed d s n M)))
   pub radius-of : radius₁ ≡ radius (posed d s n M)
   pub widest-of : widest ≡ greatestDiameter (posed d s n M) (labels (blocking (posed d s n M)))
@@ -121,6 +123,8 @@ unfolding centres posed
 core-blocks {d} {s} {n} {M} {g} {count₁} {cs = cs} {list = list} few A R =
     record {
       few = omega (arith, F .long, centres-few (within d n) g n);
+      centres-long = F .size;
+      centre-below = front-below (A .centres-of);
       count-is = sym (F .long) ∙ ap (λ z. length (centresAmong (within d n) z n)) (A .radius-of);
       radius-of = A .radius-of;
       widest-of = R .greatest-is ∙ widest-diameter d s n M (labels list) ∙ greatestDiameter-same P (labels list) (labels (blocking P)) (A .same);

@@ -1,5 +1,5 @@
 -- Sizes and diameters of the blocks, counted tide after tide. Assumes nothing.
-use Prim.Native.Nat.{ℕ, zero, suc, _+_, _-_, _≤_, _<_, max}
+use Prim.Native.Nat.{ℕ, zero, suc, _+_, _≤_, _<_, max}
 use native.Mathlib.Omega.{arith}
 use native.Mathlib.Numerals.{add-one}
 use native.Mathlib.Decide.{ℕ-discrete}
@@ -24,17 +24,20 @@ pub greatest-suc : (k : ℕ) (f : ℕ → ℕ) → greatest (k + 1) f ≡ max (f
 unfolding greatest
 greatest-suc k f = ap (λ z. greatest z f) (add-one k)
 
-pub farthest-none : (d : List ℕ) (n : ℕ) (D : ℕ → ℕ) (t : ℕ) → 0 ≡ farthestOf d n D t 0
-unfolding farthestOf greatest
-farthest-none d n D t = refl
+pub greatest-none : (f : ℕ → ℕ) → 0 ≡ greatest 0 f
+unfolding greatest
+greatest-none f = refl
 
-pub farthest-more : (d : List ℕ) (n : ℕ) (D : ℕ → ℕ) (t u x best r : ℕ) → best ≡ farthestOf d n D t u → x ≡ cond (eqb (D u) (D t)) (within d n u t) 0 → r ≡ max x best → r ≡ farthestOf d n D t (u + 1)
-unfolding farthestOf
-farthest-more d n D t u x best r e f h = h ∙ ap₂ (λ a b. max a b) f e ∙ sym (greatest-suc u (λ v. cond (eqb (D v) (D t)) (within d n v t) 0))
+pub greatest-more : (f : ℕ → ℕ) (u x best r : ℕ) → best ≡ greatest u f → x ≡ f u → r ≡ max x best → r ≡ greatest (u + 1) f
+greatest-more f u x best r e q h = h ∙ ap₂ (λ a b. max a b) q e ∙ sym (greatest-suc u f)
 
 -- the greatest of these over the tides below k of block m
 unfoldable pub acrossOf : List ℕ → ℕ → (ℕ → ℕ) → ℕ → ℕ → ℕ
 acrossOf d n D m k = greatest k (λ t. cond (eqb (D t) m) (farthestOf d n D t t) 0)
+
+-- the greatest of these over all tides below k
+unfoldable pub widestOf : List ℕ → ℕ → (ℕ → ℕ) → ℕ → ℕ
+widestOf d n D k = greatest k (λ t. farthestOf d n D t t)
 
 -- sizes, diameters and the greatest diameter, of the tides below t
 pub record Measured (d : List ℕ) (n : ℕ) (D : ℕ → ℕ) (t : ℕ) (sizes diameters : List ℕ) (widest : ℕ) : Type 0 where
@@ -42,10 +45,10 @@ pub record Measured (d : List ℕ) (n : ℕ) (D : ℕ → ℕ) (t : ℕ) (sizes 
   pub diameters-long : length diameters ≡ 120
   pub size : (i : ℕ) → i < 120 → getD sizes i 0 ≡ count t (block D (suc i))
   pub across : (i : ℕ) → i < 120 → getD diameters i 0 ≡ acrossOf d n D (suc i) t
-  pub greatest-is : widest ≡ greatest t (λ u. farthestOf d n D u u)
+  pub greatest-is : widest ≡ widestOf d n D t
 
 pub measured-none : (d : List ℕ) (n : ℕ) (D : ℕ → ℕ) → Measured d n D 0 (replicate 120 0) (replicate 120 0) 0
-unfolding acrossOf greatest
+unfolding acrossOf widestOf greatest
 measured-none d n D =
     record {
       sizes-long = length-replicate {A = ℕ} 120 0;
@@ -88,13 +91,14 @@ module _ {d : List ℕ} {n : ℕ} {D : ℕ → ℕ} {t : ℕ} {sizes diameters :
 
   pub measured-more : (x y w : ℕ) → x ≡ farthestOf d n D t t → y ≡ max x (getD diameters m 0) → w ≡ max x widest
       → Measured d n D (t + 1) (set sizes m (getD sizes m 0 + 1)) (set diameters m y) w
+  unfolding widestOf
   measured-more x y w e f h =
       record {
         sizes-long = simp length-set (R .sizes-long);
         diameters-long = simp length-set (R .diameters-long);
         size = λ i l. size i l (ℕ-discrete i m);
         across = λ i l. across i l (ℕ-discrete i m);
-        greatest-is = h ∙ ap₂ (λ a b. max a b) e (R .greatest-is) ∙ sym (greatest-suc t (λ u. farthestOf d n D u u));
+        greatest-is = greatest-more (λ u. farthestOf d n D u u) t x widest w (R .greatest-is) e h;
       }
     where
       size : (i : ℕ) → i < 120 → Dec (i ≡ m) → getD (set sizes m (getD sizes m 0 + 1)) i 0 ≡ count (t + 1) (block D (suc i))
@@ -142,6 +146,6 @@ module _ (d s : List ℕ) (n : ℕ) (M : Minima) (D : ℕ → ℕ) where
       row t true e = greatest-same t (λ u. cond (eqb (D u) (D t)) (within d n u t) 0) _ (λ u k. here t u (e tt))
       row t false e = sym (greatest-zero t) ∙ greatest-same t (λ u. 0) _ (λ u k. none (eqb (D u) m) (within d n u t))
 
-  pub widest-diameter : greatest n (λ u. farthestOf d n D u u) ≡ greatestDiameter (posed d s n M) D
-  unfolding farthestOf greatestDiameter posed
+  pub widest-diameter : widestOf d n D n ≡ greatestDiameter (posed d s n M) D
+  unfolding widestOf farthestOf greatestDiameter posed
   widest-diameter = refl

@@ -1,5 +1,6 @@
 // The first assignment in dictionary order, through the promise of the matching search alone.
 use matching::search;
+use radius::counts::wide;
 use study::Minima;
 ghost use mathlib.Core.Path.{_≡_};
 ghost use Prim.Native.Nat.{ℕ, _+_, _*_, _<_, _≤_};
@@ -54,12 +55,6 @@ fn try_search(
     }
     copy(&trial, list, n);
     true
-}
-
-fn wide(x: u8) -> usize
-    ensures { λ r. ⌜ r ≡ x ⌝ }
-{
-    x as usize
 }
 
 // Whether there is an assignment that gives tide t a block below v, which is then written to list. The blocks from v on are

@@ -1,4 +1,4 @@
 // The blocking of a valid study that has enough tides: the first assignment at the least radius, and the blocks' measures.
-mod core;
+pub mod core;
 mod first;
-mod measure;
+pub mod measure;

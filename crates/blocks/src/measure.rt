@@ -1,12 +1,12 @@
 // Sizes and diameters of the blocks.
-use study::Minima;
+use radius::counts::wide;
 ghost use mathlib.Core.Path.{_≡_};
 ghost use mathlib.Core.Bool.{cond};
 ghost use Prim.Native.Nat.{ℕ, _*_, _<_, _≤_, max};
 ghost use lib.Dec.{eqb};
 ghost use lib.ListN.{length};
 ghost use Rattle.study.specs.Problem.{labels};
-ghost use Rattle.blocks.specs.Measured.{farthestOf, Measured};
+ghost use Rattle.blocks.specs.Measured.{farthestOf, widestOf, Measured};
 
 fn greater(x: u32, y: u32) -> u32
     ensures { λ r. ⌜ r ≡ max x y ⌝ }
@@ -42,10 +42,19 @@ fn farthest(distances: &[u32], list: &[u8], n: usize, t: usize) -> u32
     best
 }
 
-fn wide(x: u8) -> usize
-    ensures { λ r. ⌜ r ≡ x ⌝ }
+// The greatest diameter.
+pub fn widest(distances: &[u32], list: &[u8], n: usize) -> u32
+    requires { ⌜ (n ≤ 120) × (n * 120 ≤ length (now distances)) × (n ≤ length (now list)) ⌝ }
+    ensures { λ r. ⌜ r ≡ widestOf (now (distances .entry)) n (labels (now (list .entry))) n ⌝ }
 {
-    x as usize
+    let mut best = 0;
+    let mut t = 0;
+    while t < n {
+        let x = farthest(distances, list, n, t);
+        best = greater(x, best);
+        t += 1;
+    }
+    best
 }
 
 // Sizes and diameters of the blocks, which are numbered from 1, and the greatest diameter.

@@ -1,18 +1,26 @@
 // Balls, and a bound below which no radius has an assignment: every tide must lie within the radius of some tide whose own
 // ball of that radius is sufficient.
+use crate::counts::counts_meet;
+use crate::counts::wide;
 use study::Minima;
 ghost use mathlib.Core.Path.{_≡_};
 ghost use Prim.Native.Nat.{ℕ, _*_, _<_, _≤_};
+ghost use lib.Dec.{leb};
 ghost use lib.ListN.{length, getD, replicate};
-ghost use Rattle.lists.specs.Lists.{bit, count, overwrite};
+ghost use Rattle.lists.specs.Lists.{bit, overwrite};
 ghost use Rattle.study.specs.Study.{meets};
 ghost use Rattle.radii.specs.Posed.{Sized, ball};
-ghost use Rattle.radius.specs.Bounds.{tally, hides, coveredBy, covers, Bounded};
+ghost use Rattle.radius.specs.Bounds.{hides, coveredBy, covers, Bounded};
+ghost use Rattle.radius.specs.Tally.{Tallied};
 
-fn wide(x: u8) -> usize
-    ensures { λ r. ⌜ r ≡ x ⌝ }
+// 1 for a tide x away that lies within g, else 0.
+fn near(x: u32, g: u32) -> usize
+    ensures { λ r. ⌜ (r ≡ bit (leb x g)) × (r ≤ 1) ⌝ }
 {
-    x as usize
+    if x <= g {
+        return 1;
+    }
+    0
 }
 
 // Counts the tides at most g from tide c, and by their settings.
@@ -28,22 +36,18 @@ fn count_near(
     requires { ⌜ Sized (now distances) (now settings) n minima ⌝ }
     requires { ⌜ c < n ⌝ }
     requires { ⌜ now counts ≡ replicate 9 0 ⌝ }
-    ensures { λ r. ⌜ r ≡ count n (ball (now (distances .entry)) c g) ⌝ }
-    ensures { λ _. ⌜ now (counts .exit) ≡ tally (now (settings .entry)) (ball (now (distances .entry)) c g) n ⌝ }
+    ensures { λ r. ⌜ Tallied (now (settings .entry)) (ball (now (distances .entry)) c g) n r (now (counts .exit)) ⌝ }
 {
-    let mut count = 0;
+    let mut found = 0;
     let mut t = 0;
     while t < n {
-        if distances[c * 120 + t] <= g {
-            let s = wide(settings[t]);
-            counts[s] = counts[s] + 1;
-            count += 1;
-            t += 1;
-        } else {
-            t += 1;
-        }
+        let one = near(distances[c * 120 + t], g);
+        let s = wide(settings[t]);
+        counts[s] = counts[s] + one;
+        found = found + one;
+        t += 1;
     }
-    count
+    found
 }
 
 // Whether the tides at most g from tide c are sufficient.
@@ -61,18 +65,7 @@ pub fn ball_meets(
 {
     let mut counts: [usize; 9] = [0; 9];
     let found = count_near(distances, settings, n, minima, c, g, &mut counts);
-    if found < wide(minima.b0) {
-        return false;
-    }
-    let b = minima.b;
-    let mut j: usize = 0;
-    while j < 8 {
-        if counts[j + 1] < wide(b[j]) {
-            return false;
-        }
-        j += 1;
-    }
-    true
+    counts_meet(minima, found, &counts)
 }
 
 fn ball_mark(distances: &[u32], settings: &[u8], n: usize, minima: Minima, c: usize, g: u32) -> u8

@@ -1,7 +1,8 @@
 // The least radius with an assignment, through the promise of the matching search alone. Radii are tried upwards; each is tried, or
 // lies between two others where nothing changes.
-mod bound;
+pub mod bound;
 pub mod centres;
+pub mod counts;
 mod limits;
 mod next;
 mod table;

@@ -1,15 +1,20 @@
 -- What each call says of a study: its own reasons for a refusal, in document 01's order, and what an accepted call makes of the study
 -- and the count of withdrawals, or finds in it. A tide's number in a call is from 1, in a study from 0. Assumes nothing.
 use Prim.Native.Nat.{ℕ, zero, suc, _+_, _-_}
-use mathlib.Core.Bool.{Bool, true, not, _&&_}
+use mathlib.Core.Bool.{Bool, true, cond, not, _&&_}
 use mathlib.Core.List.{List, [], _∷_, _++_, map, flatMap}
 use lib.Dec.{leb, eqb}
 use lib.ListN.{length, getD, replicate}
-use Rattle.lists.specs.Lists.{between, each, range, every, filter, isEmpty}
+use Rattle.lists.specs.Lists.{between, each, range, every, count, filter, isEmpty}
 use Rattle.study.specs.declared.Minima.{Minima}
-use Rattle.study.specs.Problem.{centres}
+use Rattle.study.specs.declared.BlockRecord.{BlockRecord}
+use Rattle.study.specs.declared.Blocked.{Blocked}
+use Rattle.study.specs.declared.Blocked.the-variants as Blocks
+use Rattle.study.specs.declared.Judged.{Judged}
+use Rattle.study.specs.declared.Judged.the-variants as Judges
+use Rattle.study.specs.Problem.{centres, block, labels, radius, blocking, diameter, greatestDiameter, feasible}
 use Rattle.study.specs.Study.{Tide, Study, Contents, size, distance, sufficient, problem, validMinima}
-use Rattle.study.specs.Refusals.{Numbered, number, seven, Reason, _⇒_}
+use Rattle.study.specs.Refusals.{Numbered, number, seven, numbered, Reply, value, refusal, Reason, _⇒_}
 
 -- ---- Open
 
@@ -116,3 +121,52 @@ blockReasons S list records =
     ∷ (not (sufficient S (λ t. true)) ⇒ number 25)
     ∷ (not (leb (size S) list && leb (size S) records) ⇒ number 1)
     ∷ []
+
+-- what Block answers: block count, radius (document 01: reach) and greatest diameter (widest)
+pub record Figures : Type 0 where
+  pub blocks : ℕ
+  pub radius : ℕ
+  pub widest : ℕ
+
+unfoldable pub figures : Study → Figures
+figures S =
+    let P = problem S in
+    record { blocks = length (centres P (radius P)); radius = radius P; widest = greatestDiameter P (labels (blocking P)) }
+
+-- the record of block i, from 0: centre, number of tides, diameter
+unfoldable pub blockRecord : Study → ℕ → BlockRecord
+blockRecord S i =
+    let P = problem S in
+    let D = labels (blocking P) in
+    record { centre = suc (getD (centres P (radius P)) i 0); tides = count (P .size) (block D (suc i)); diameter = diameter P D (suc i) }
+
+-- the code's answer, by document 01's number and values
+abbrev pub blockedOf : Blocked → Reply Figures
+blockedOf (Blocks.Done c r w) = value (record { blocks = c; radius = r; widest = w })
+blockedOf (Blocks.Refused r) = refusal (numbered r)
+
+-- ---- Judge, given a list
+
+unfoldable pub judgeReasons : Study → List ℕ → List Reason
+judgeReasons S list =
+    (eqb (size S) 0 ⇒ number 24)
+    ∷ (not (eqb (length list) (size S)) ⇒ number 12)
+    ∷ []
+
+-- every number is 1 to 255, and the tides under each number used meet the minima
+unfoldable pub approved : Study → List ℕ → Bool
+approved S list = every (size S) (λ t. between 1 255 (labels list t)) && feasible (problem S) (labels list)
+
+-- yes with the greatest diameter, or no
+pub data Judgement : Type 0 where
+  approval : ℕ → Judgement
+  disapproval : Judgement
+
+unfoldable pub judgement : Study → List ℕ → Judgement
+judgement S list = cond (approved S list) (approval (greatestDiameter (problem S) (labels list))) disapproval
+
+-- the code's answer, by document 01's number and values
+abbrev pub judgedOf : Judged → Reply Judgement
+judgedOf (Judges.Approved w) = value (approval w)
+judgedOf Judges.Declined = value disapproval
+judgedOf (Judges.Refused r) = refusal (numbered r)

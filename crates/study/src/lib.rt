@@ -47,3 +47,23 @@ pub struct Outcome {
     pub answer: Answer,
     pub dataset: Dataset,
 }
+
+// What Block says of one block: its centre's tide number, its number of tides, its diameter.
+pub struct BlockRecord {
+    pub centre: u8,
+    pub tides: u8,
+    pub diameter: u32,
+}
+
+pub enum Blocked {
+    // The number of blocks, the radius, the greatest diameter.
+    Done(usize, u32, u32),
+    Refused(Refusal),
+}
+
+pub enum Judged {
+    // The greatest diameter.
+    Approved(u32),
+    Declined,
+    Refused(Refusal),
+}

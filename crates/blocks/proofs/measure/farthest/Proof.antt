@@ -1,13 +1,10 @@
 -- The earlier tides of a block, one after the other. Assumes nothing.
 use borrow.Author.Needs.{needs}
 use native.Mathlib.Omega.{arith}
-use Rattle.blocks.specs.Measured.{farthestOf, farthest-none, farthest-more}
+use Rattle.blocks.specs.Measured.{farthestOf, greatest-none, greatest-more}
 use Rattle.radii.specs.Posed.{within-is}
 use Rattle.study.specs.Problem.{labels}
-use lib.ListN.{getD}
-use lib.Dec.{eqb}
-use mathlib.Core.Bool.{cond}
-use mathlib.Core.Path.{_≡_, sym, ap, _∙_}
+use mathlib.Core.Path.{_≡_, ap, _∙_}
 use Prim.Native.Nat.{_≤_, _-_}
 use Rattle.blocks.proofs.measure.farthest.Statement.{statement}
 use Rattle.blocks.proofs.measure.farthest.Tie as tie
@@ -19,7 +16,8 @@ abbrev μ-loop : tie.MeasureT-loop
 μ-loop distances list n t best₀ u₀ best u = t - u
 
 loop-holds : tie.Need-loop-holds Inv-loop μ-loop
-loop-holds c = (omega arith, farthest-none (c .before .before .args .distances .now) (c .before .before .args .n) (labels (c .before .before .args .list .now)) (c .before .before .args .t))
+unfolding farthestOf
+loop-holds c = (omega arith, greatest-none _)
 
 shared-slice-read-inside : tie.Need-shared-slice-read-inside Inv-loop μ-loop
 shared-slice-read-inside c = omega arith
@@ -52,8 +50,12 @@ loop-less : tie.Need-loop-less Inv-loop μ-loop
 loop-less c = omega arith
 
 loop-again : tie.Need-loop-again Inv-loop μ-loop
-unfolding labels
-loop-again c = (omega arith, farthest-more (c .before .before .before .before .before .before .before .before .before .args .distances .now) (c .before .before .before .before .before .before .before .before .before .args .n) (labels (c .before .before .before .before .before .before .before .before .before .args .list .now)) (c .before .before .before .before .before .before .before .before .before .args .t) (c .before .before .before .before .before .before .loop .u) (c .before .inside .result) (c .before .before .before .before .before .before .loop .best) (c .greater .result) (c .before .before .before .before .before .before .loop .inv .1) (c .before .inside .ensures ∙ ap (λ z. cond (eqb (getD (c .before .before .before .before .before .before .before .before .before .args .list .now) (c .before .before .before .before .before .before .loop .u) 0) (getD (c .before .before .before .before .before .before .before .before .before .args .list .now) (c .before .before .before .before .before .before .before .before .before .args .t) 0)) z 0) (sym (within-is (c .before .before .before .before .before .before .before .before .before .args .distances .now) (c .before .before .before .before .before .before .before .before .before .args .n) (c .before .before .before .before .before .before .loop .u) (c .before .before .before .before .before .before .before .before .before .args .t) (omega arith) (c .before .before .before .before .before .before .before .before .before .pre .1)))) (c .greater .ensures))
+unfolding labels farthestOf
+loop-again c =
+    let a = c .before .before .before .before .before .before .before .before .before .args in
+    let l = c .before .before .before .before .before .before .loop in
+    let w = within-is (a .distances .now) (a .n) (l .u) (a .t) (omega arith) (c .before .before .before .before .before .before .before .before .before .pre .1) in
+    (omega arith, greatest-more _ (l .u) (c .before .inside .result) (l .best) (c .greater .result) (l .inv .1) (rw w (c .before .inside .ensures)) (c .greater .ensures))
 
 returns : tie.Need-returns Inv-loop μ-loop
 returns c = let e : c .before .loop .u ≡ c .before .before .before .before .args .t = omega arith in c .before .loop .inv .1 ∙ ap (farthestOf (c .before .before .before .before .args .distances .now) (c .before .before .before .before .args .n) (labels (c .before .before .before .before .args .list .now)) (c .before .before .before .before .args .t)) e

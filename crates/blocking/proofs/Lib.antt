@@ -1,0 +1,3 @@
+pub mod Arguments
+pub mod ArrayLent
+pub mod Walks

@@ -1,0 +1,18 @@
+-- By its counts. Assumes nothing.
+use borrow.Author.Needs.{needs}
+use mathlib.Core.Path.{_∙_}
+use Rattle.radius.specs.Tally.{tallied-long, met-meets}
+use Rattle.blocking.proofs.judge.block_meets.Statement.{statement}
+use Rattle.blocking.proofs.judge.block_meets.Tie as tie
+
+count-block-requires : tie.Need-count-block-requires
+count-block-requires c κs = search needs
+
+counts-meet-requires : tie.Need-counts-meet-requires
+counts-meet-requires c κs = tallied-long (c .before .count-block .ensures)
+
+returns : tie.Need-returns
+returns c = c .counts-meet .ensures ∙ met-meets (c .before .before .before .before .before .before .args .minima) (c .before .before .count-block .ensures)
+
+pub block-meets-spec : {M : Type 1} → statement M
+block-meets-spec = tie.close (tie.spec count-block-requires counts-meet-requires returns)

@@ -1,0 +1,59 @@
+-- Tide after tide. Assumes nothing.
+use native.Mathlib.Omega.{arith}
+use Prim.Native.Nat.{_≤_, _-_}
+use mathlib.Core.Path.{_≡_, sym}
+use mathlib.Core.Bool.{true}
+use lib.ListN.{getD}
+use Rattle.lists.specs.Lists.{every}
+use Rattle.lists.specs.Scans.{every-none, every-more, every-fails, every-done, test-passes, test-fails}
+use Rattle.study.specs.Problem.{block, labels}
+use Rattle.study.specs.Study.{meets}
+use Rattle.blocking.proofs.judge.blocks_meet.Statement.{statement}
+use Rattle.blocking.proofs.judge.blocks_meet.Tie as tie
+
+abbrev Inv-loop : tie.InvT-loop
+Inv-loop settings n minima list t₀ t = (t ≤ n) × (every t (λ u. meets minima n (λ x. getD settings x 0) (block (labels list) (labels list u))) ≡ true)
+
+abbrev μ-loop : tie.MeasureT-loop
+μ-loop settings n minima list t₀ t = n - t
+
+loop-holds : tie.Need-loop-holds Inv-loop μ-loop
+loop-holds c = (omega arith, every-none _)
+
+shared-slice-read-block-meets : tie.Need-shared-slice-read-block-meets Inv-loop μ-loop
+shared-slice-read-block-meets c = let l = c .before .before .before .before .before .pre .list-long in omega arith
+
+block-meets-requires : tie.Need-block-meets-requires Inv-loop μ-loop
+block-meets-requires c κs = c .before .before .before .before .before .pre
+
+returns : tie.Need-returns Inv-loop μ-loop
+unfolding labels
+returns c = sym (every-fails _ (c .before .before .before .before .before .before .before .args .n) (c .before .before .before .before .loop .t) (c .before .before .before .loop-test .taken) (test-fails (c .before .block-meets .ensures) (c .if1 .taken)))
+
+add-t : tie.Need-add-t Inv-loop μ-loop
+add-t c = omega arith
+
+loop-less : tie.Need-loop-less Inv-loop μ-loop
+loop-less c = omega arith
+
+loop-again : tie.Need-loop-again Inv-loop μ-loop
+unfolding labels
+loop-again c = (omega arith, every-more _ _ (c .before .before .before .before .loop .inv .1) (test-passes (c .before .block-meets .ensures) (c .if1 .left)))
+
+returns-2 : tie.Need-returns-2 Inv-loop μ-loop
+returns-2 c = sym (every-done _ (c .before .loop .t) (c .before .before .before .before .args .n) (c .before .loop .inv .0) (c .loop-test .left) (c .before .loop .inv .1))
+
+pub blocks-meet-spec : {M : Type 1} → statement M
+blocks-meet-spec =
+    tie.close
+    (tie.spec
+    Inv-loop
+    μ-loop
+    loop-holds
+    shared-slice-read-block-meets
+    block-meets-requires
+    returns
+    add-t
+    loop-less
+    loop-again
+    returns-2)

@@ -1,0 +1,58 @@
+-- Number after number. Assumes nothing.
+use borrow.Author.Needs.{needs}
+use native.Mathlib.Omega.{arith}
+use Prim.Native.Nat.{_≤_, _-_}
+use mathlib.Core.Path.{_≡_, sym}
+use mathlib.Core.Bool.{true}
+use Rattle.lists.specs.Lists.{between, every}
+use Rattle.lists.specs.Scans.{every-none, every-more, every-fails, every-done, test-passes, test-fails}
+use Rattle.study.specs.Problem.{labels}
+use Rattle.blocking.proofs.judge.numbers_valid.Statement.{statement}
+use Rattle.blocking.proofs.judge.numbers_valid.Tie as tie
+
+abbrev Inv-loop : tie.InvT-loop
+Inv-loop list n t₀ t = (t ≤ n) × (every t (λ u. between 1 255 (labels list u)) ≡ true)
+
+abbrev μ-loop : tie.MeasureT-loop
+μ-loop list n t₀ t = n - t
+
+loop-holds : tie.Need-loop-holds Inv-loop μ-loop
+loop-holds c = (omega arith, every-none _)
+
+shared-slice-read-valid-number : tie.Need-shared-slice-read-valid-number Inv-loop μ-loop
+shared-slice-read-valid-number c = omega arith
+
+valid-number-requires : tie.Need-valid-number-requires Inv-loop μ-loop
+valid-number-requires c κs = search needs
+
+returns : tie.Need-returns Inv-loop μ-loop
+unfolding labels
+returns c = sym (every-fails (λ u. between 1 255 (labels (c .before .before .before .before .before .before .args .list .now) u)) (c .before .before .before .before .before .before .args .n) (c .before .before .before .before .loop .t) (c .before .before .before .loop-test .taken) (test-fails (c .before .valid-number .ensures) (c .if1 .taken)))
+
+add-t : tie.Need-add-t Inv-loop μ-loop
+add-t c = omega arith
+
+loop-less : tie.Need-loop-less Inv-loop μ-loop
+loop-less c = omega arith
+
+loop-again : tie.Need-loop-again Inv-loop μ-loop
+unfolding labels
+loop-again c = (omega arith, every-more _ _ (c .before .before .before .before .loop .inv .1) (test-passes (c .before .valid-number .ensures) (c .if1 .left)))
+
+returns-2 : tie.Need-returns-2 Inv-loop μ-loop
+returns-2 c = sym (every-done _ (c .before .loop .t) (c .before .before .before .args .n) (c .before .loop .inv .0) (c .loop-test .left) (c .before .loop .inv .1))
+
+pub numbers-valid-spec : {M : Type 1} → statement M
+numbers-valid-spec =
+    tie.close
+    (tie.spec
+    Inv-loop
+    μ-loop
+    loop-holds
+    shared-slice-read-valid-number
+    valid-number-requires
+    returns
+    add-t
+    loop-less
+    loop-again
+    returns-2)

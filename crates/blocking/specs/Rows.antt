@@ -1,0 +1,28 @@
+-- The rows of numbers that the core of Block hands back, and the records that they stand for. Assumes nothing.
+use Prim.Native.Nat.{ℕ, _≤_}
+use mathlib.Core.Path.{_≡_}
+use mathlib.Core.List.{List}
+use lib.ListN.{length, getD, replicate}
+use Rattle.lists.specs.Lists.{overwrite}
+use Rattle.study.specs.declared.BlockRecord.{BlockRecord}
+use Rattle.dataset.specs.Memory.{State}
+use Rattle.blocking.specs.declared.block.BlockRows.{BlockRows}
+use Rattle.blocking.specs.Answers.{blockRecords}
+
+-- the record of block i, from 0
+abbrev pub rowAt : BlockRows → ℕ → BlockRecord
+rowAt rows i = record { centre = getD (rows .centres) i 0; tides = getD (rows .tides) i 0; diameter = getD (rows .diameters) i 0 }
+
+-- 120 places with no block in them
+abbrev pub noRecord : BlockRecord
+noRecord = record { centre = 0; tides = 0; diameter = 0 }
+
+unfoldable pub noRecords : List BlockRecord
+noRecords = replicate 120 noRecord
+
+-- with a list and records of these lengths
+pub record RowsOf (s : State) (list room : ℕ) (rows : BlockRows) : Type 0 where
+  pub fits : rows .count ≤ room
+  pub few : rows .count ≤ 120
+  -- put into the records, they are what Block leaves
+  pub records : (l : List BlockRecord) → length l ≡ room → overwrite (rows .count) (rowAt rows) l ≡ blockRecords s list l

@@ -1,0 +1,120 @@
+// Block: the core, by plain rows of numbers.
+use crate::centres::put_centres;
+use blocks::core::block_rows;
+use radius::bound::ball_meets;
+use study::Answer;
+use study::Blocked;
+use study::Dataset;
+use study::Refusal;
+ghost use mathlib.Core.Path.{_≡_};
+ghost use lib.ListN.{length};
+ghost use Rattle.study.specs.Refusals.{verdictOf};
+ghost use Rattle.study.specs.Calls.{blockedOf};
+ghost use Rattle.dataset.specs.Memory.{stateOf};
+ghost use Rattle.blocking.specs.Answers.{blockAnswer, blockReply, blockList};
+ghost use Rattle.blocking.specs.BlockLaws.{BlockTold};
+ghost use Rattle.blocking.specs.Rows.{RowsOf};
+
+// The records of the blocks as rows of numbers: centres' tide numbers, numbers of tides, diameters.
+pub struct BlockRows {
+    pub count: usize,
+    pub centres: [u8; 120],
+    pub tides: [u8; 120],
+    pub diameters: [u32; 120],
+}
+
+// Block's answer, and the rows of its blocks; there are none on a refusal.
+pub struct Computed {
+    pub answer: Blocked,
+    pub rows: BlockRows,
+}
+
+// The answer alone, with a list and records of these lengths.
+fn block_answer(
+    dataset: Dataset,
+    distances: &[u32],
+    settings: &[u8],
+    list: usize,
+    records: usize,
+) -> Answer
+    ensures { λ r. ⌜ verdictOf r ≡ blockAnswer (stateOf dataset (now (distances .entry)) (now (settings .entry))) list records ⌝ }
+{
+    let first = dataset::check(dataset, distances, settings);
+    let Answer::Done = first else {
+        return first;
+    };
+    let n = dataset.n;
+    if n < 1 {
+        return Answer::Refused(Refusal::NoTides);
+    }
+    // every tide is at most 1,048,575 from the first
+    if !ball_meets(distances, settings, n, dataset.minima, 0, 1048575) {
+        return Answer::Refused(Refusal::TooFewTides);
+    }
+    if list < n {
+        return Answer::Refused(Refusal::ShortMemory);
+    }
+    if records < n {
+        return Answer::Refused(Refusal::ShortMemory);
+    }
+    Answer::Done
+}
+
+// What an accepted call writes and answers.
+fn compute(
+    dataset: Dataset,
+    distances: &[u32],
+    settings: &[u8],
+    list: &mut [u8],
+    room: usize,
+) -> Computed
+    requires { ⌜ BlockTold (stateOf dataset (now distances) (now settings)) (length (now list)) room ⌝ }
+    ensures { λ r. ⌜ blockedOf (r .answer) ≡ blockReply (stateOf dataset (now (distances .entry)) (now (settings .entry))) (length (now (list .entry))) room ⌝ }
+    ensures { λ r. ⌜ RowsOf (stateOf dataset (now (distances .entry)) (now (settings .entry))) (length (now (list .entry))) room (r .rows) ⌝ }
+    ensures { λ _. ⌜ now (list .exit) ≡ blockList (stateOf dataset (now (distances .entry)) (now (settings .entry))) (now (list .entry)) room ⌝ }
+{
+    let n = dataset.n;
+    let rows = block_rows(distances, settings, n, dataset.minima, list);
+    let count = rows.count;
+    let centres = rows.centres;
+    let mut numbers: [u8; 120] = [0; 120];
+    put_centres(&centres, count, &mut numbers);
+    let tides = rows.sizes;
+    let diameters = rows.diameters;
+    Computed {
+        answer: Blocked::Done(count, rows.radius, rows.widest),
+        rows: BlockRows {
+            count,
+            centres: numbers,
+            tides,
+            diameters,
+        },
+    }
+}
+
+// Block, with its records by value. `room` is the length of the records that the rows will be put into.
+pub fn block_core(
+    dataset: Dataset,
+    distances: &[u32],
+    settings: &[u8],
+    list: &mut [u8],
+    room: usize,
+) -> Computed
+    ensures answer { λ r. ⌜ blockedOf (r .answer) ≡ blockReply (stateOf dataset (now (distances .entry)) (now (settings .entry))) (length (now (list .entry))) room ⌝ }
+    ensures rows { λ r. ⌜ RowsOf (stateOf dataset (now (distances .entry)) (now (settings .entry))) (length (now (list .entry))) room (r .rows) ⌝ }
+    ensures list { λ _. ⌜ now (list .exit) ≡ blockList (stateOf dataset (now (distances .entry)) (now (settings .entry))) (now (list .entry)) room ⌝ }
+{
+    let answer = block_answer(dataset, distances, settings, list.len(), room);
+    if let Answer::Refused(why) = answer {
+        return Computed {
+            answer: Blocked::Refused(why),
+            rows: BlockRows {
+                count: 0,
+                centres: [0; 120],
+                tides: [0; 120],
+                diameters: [0; 120],
+            },
+        };
+    }
+    compute(dataset, distances, settings, list, room)
+}

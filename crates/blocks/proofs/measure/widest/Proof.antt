@@ -1,0 +1,52 @@
+-- Tide after tide. Assumes nothing.
+use borrow.Author.Needs.{needs}
+use native.Mathlib.Omega.{arith}
+use Prim.Native.Nat.{_≤_, _-_}
+use mathlib.Core.Path.{_≡_, ap, _∙_}
+use Rattle.study.specs.Problem.{labels}
+use Rattle.blocks.specs.Measured.{widestOf, greatest-none, greatest-more}
+use Rattle.blocks.proofs.measure.widest.Statement.{statement}
+use Rattle.blocks.proofs.measure.widest.Tie as tie
+
+abbrev Inv-loop : tie.InvT-loop
+Inv-loop distances list n best₀ t₀ best t = (t ≤ n) × (best ≡ widestOf distances n (labels list) t)
+
+abbrev μ-loop : tie.MeasureT-loop
+μ-loop distances list n best₀ t₀ best t = n - t
+
+loop-holds : tie.Need-loop-holds Inv-loop μ-loop
+unfolding widestOf
+loop-holds c = (omega arith, greatest-none _)
+
+farthest-requires : tie.Need-farthest-requires Inv-loop μ-loop
+farthest-requires c κs = (c .before .before .before .before .pre .0, c .loop-test .taken, c .before .before .before .before .pre .1, c .before .before .before .before .pre .2)
+
+greater-requires : tie.Need-greater-requires Inv-loop μ-loop
+greater-requires c κs = search needs
+
+add-t : tie.Need-add-t Inv-loop μ-loop
+add-t c = omega arith
+
+loop-less : tie.Need-loop-less Inv-loop μ-loop
+loop-less c = omega arith
+
+loop-again : tie.Need-loop-again Inv-loop μ-loop
+unfolding widestOf
+loop-again c = (omega arith, greatest-more _ (c .before .before .before .loop .t) (c .before .farthest .result) (c .before .before .before .loop .best) (c .greater .result) (c .before .before .before .loop .inv .1) (c .before .farthest .ensures) (c .greater .ensures))
+
+returns : tie.Need-returns Inv-loop μ-loop
+returns c = let e : c .before .loop .t ≡ c .before .before .before .before .args .n = omega arith in c .before .loop .inv .1 ∙ ap (widestOf (c .before .before .before .before .args .distances .now) (c .before .before .before .before .args .n) (labels (c .before .before .before .before .args .list .now))) e
+
+pub widest-spec : {M : Type 1} → statement M
+widest-spec =
+    tie.close
+    (tie.spec
+    Inv-loop
+    μ-loop
+    loop-holds
+    farthest-requires
+    greater-requires
+    add-t
+    loop-less
+    loop-again
+    returns)

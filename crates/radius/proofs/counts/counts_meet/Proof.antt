@@ -1,0 +1,81 @@
+-- Setting after setting. Assumes nothing.
+use borrow.Author.Needs.{needs}
+use native.Mathlib.Omega.{arith}
+use Prim.Native.Nat.{_+_, _≤_, _-_}
+use mathlib.Core.Path.{_≡_}
+use mathlib.Core.Bool.{true}
+use lib.ListN.{getD}
+use borrow.Author.Tests.{le-leb, lt-leb}
+use Rattle.lists.specs.Lists.{every}
+use Rattle.lists.specs.Scans.{every-none, every-more, every-fails, every-done}
+use Rattle.radius.specs.Tally.{enough, met}
+use Rattle.radius.proofs.counts.counts_meet.Statement.{statement}
+use Rattle.radius.proofs.counts.counts_meet.Tie as tie
+
+abbrev Inv-loop : tie.InvT-loop
+Inv-loop found counts b j₀ j = (j ≤ 8) × (every j (enough b counts) ≡ true)
+
+abbrev μ-loop : tie.MeasureT-loop
+μ-loop found counts b j₀ j = 8 - j
+
+wide-requires : tie.Need-wide-requires Inv-loop μ-loop
+wide-requires c κs = search needs
+
+returns : tie.Need-returns Inv-loop μ-loop
+unfolding met
+returns c = let e = c .before .wide .ensures in rw (lt-leb (c .before .before .args .minima .b0) (c .before .before .args .found) (omega arith))
+
+loop-holds : tie.Need-loop-holds Inv-loop μ-loop
+loop-holds c = (omega arith, every-none _)
+
+add-if2 : tie.Need-add-if2 Inv-loop μ-loop
+add-if2 c = omega arith
+
+mul-if2 : tie.Need-mul-if2 Inv-loop μ-loop
+mul-if2 c = omega arith
+
+element-copy-out-if2 : tie.Need-element-copy-out-if2 Inv-loop μ-loop
+element-copy-out-if2 c = omega arith
+
+array-read-wide : tie.Need-array-read-wide Inv-loop μ-loop
+array-read-wide c = omega arith
+
+wide-requires-2 : tie.Need-wide-requires-2 Inv-loop μ-loop
+wide-requires-2 c κs = search needs
+
+returns-2 : tie.Need-returns-2 Inv-loop μ-loop
+unfolding met
+returns-2 c = let e = c .before .wide2 .ensures in let h = c .before .before .before .before .before .before .before .wide .ensures in rw (le-leb (c .before .before .before .before .before .before .before .before .args .minima .b0) (c .before .before .before .before .before .before .before .before .args .found) (omega arith), every-fails (enough (c .before .before .before .before .before .before .before .before .args .minima .b) (c .before .before .before .before .before .before .before .before .args .counts .now)) 8 (c .before .before .before .before .loop .j) (c .before .before .before .loop-test .taken) (lt-leb (getD (c .before .before .before .before .before .before .before .before .args .minima .b) (c .before .before .before .before .loop .j) 0) (getD (c .before .before .before .before .before .before .before .before .args .counts .now) (c .before .before .before .before .loop .j + 1) 0) (omega arith)))
+
+add-j : tie.Need-add-j Inv-loop μ-loop
+add-j c = omega arith
+
+loop-less : tie.Need-loop-less Inv-loop μ-loop
+loop-less c = omega arith
+
+loop-again : tie.Need-loop-again Inv-loop μ-loop
+loop-again c = let e = c .before .wide2 .ensures in (omega arith, every-more _ _ (c .before .before .before .before .loop .inv .1) (le-leb (getD (c .before .before .before .before .before .before .before .before .args .minima .b) (c .before .before .before .before .loop .j) 0) (getD (c .before .before .before .before .before .before .before .before .args .counts .now) (c .before .before .before .before .loop .j + 1) 0) (omega arith)))
+
+returns-3 : tie.Need-returns-3 Inv-loop μ-loop
+unfolding met
+returns-3 c = let h = c .before .before .before .before .wide .ensures in rw (le-leb (c .before .before .before .before .before .args .minima .b0) (c .before .before .before .before .before .args .found) (omega arith), every-done (enough (c .before .before .before .before .before .args .minima .b) (c .before .before .before .before .before .args .counts .now)) (c .before .loop .j) 8 (c .before .loop .inv .0) (c .loop-test .left) (c .before .loop .inv .1))
+
+pub counts-meet-spec : {M : Type 1} → statement M
+counts-meet-spec =
+    tie.close
+    (tie.spec
+    Inv-loop
+    μ-loop
+    wide-requires
+    returns
+    loop-holds
+    add-if2
+    mul-if2
+    element-copy-out-if2
+    array-read-wide
+    wide-requires-2
+    returns-2
+    add-j
+    loop-less
+    loop-again
+    returns-3)
