@@ -14,6 +14,6 @@ files =
       greatest = refl;
       accepts = file-accepted;
       gives = decoded-file;
-      valid = λ s b e. accepted-valid s e;
+      valid = accepted-valid;
       only = λ s b e. accepted-file s e b;
     }

@@ -20,6 +20,6 @@ pub record Files : Type 0 where
   -- reading the file of valid contents gives them back
   pub accepts : (H : Contents) → ValidContents H → firstOf (readReasons (fileOf H)) ≡ accepted
   pub gives : (H : Contents) → ValidContents H → decoded (fileOf H) ≡ H
-  -- bytes that Read accepts hold valid contents, and are their file
-  pub valid : (s : List ℕ) → Bytes s → firstOf (readReasons s) ≡ accepted → ValidContents (decoded s)
+  -- what Read accepts holds valid contents, and bytes are then their file
+  pub valid : (s : List ℕ) → firstOf (readReasons s) ≡ accepted → ValidContents (decoded s)
   pub only : (s : List ℕ) → Bytes s → firstOf (readReasons s) ≡ accepted → fileOf (decoded s) ≡ s

@@ -41,15 +41,15 @@ module _ (s over : State) (t : T (isDataset s)) (e : short over ≡ false) where
   gives : readLeaves over (fileOf (contentsOf s)) ≡ stored (contentsOf s) over
   gives = leaves over (fileOf (contentsOf s)) accepts ∙ ap (λ H. stored H over) (files .gives (contentsOf s) valid)
 
-module _ (over : State) (bytes : List ℕ) (b : Bytes bytes) (e : readAnswer over bytes ≡ accepted) where
+module _ (over : State) (bytes : List ℕ) (e : readAnswer over bytes ≡ accepted) where
   abbrev held : ValidContents (decoded bytes)
-  held = files .valid bytes b (own over bytes e)
+  held = files .valid bytes (own over bytes e)
 
   dataset : T (isDataset (readLeaves over bytes))
   dataset = subst (λ z. T (isDataset z)) (sym (leaves over bytes e)) (for-datasets .laid-out (decoded bytes) over held)
 
-  only : fileOf (contentsOf (readLeaves over bytes)) ≡ bytes
-  only =
+  only : Bytes bytes → fileOf (contentsOf (readLeaves over bytes)) ≡ bytes
+  only b =
       ap (λ z. fileOf (contentsOf z)) (leaves over bytes e)
       ∙ ap fileOf (for-datasets .read-back (decoded bytes) over held)
       ∙ files .only bytes b (own over bytes e)
@@ -61,5 +61,5 @@ for-files =
       gives = gives;
       again = λ s t e. gives s s t e ∙ for-datasets .own-layout s e t;
       dataset = dataset;
-      only = only;
+      only = λ over bytes b e. only over bytes e b;
     }

@@ -17,6 +17,6 @@ pub record ForFiles : Type 0 where
   pub gives : (s over : State) → T (isDataset s) → short over ≡ false → readLeaves over (fileOf (contentsOf s)) ≡ stored (contentsOf s) over
   -- over its own memory, nothing changes
   pub again : (s : State) → T (isDataset s) → short s ≡ false → readLeaves s (fileOf (contentsOf s)) ≡ s
-  -- bytes that Read accepts give a dataset, whose file is exactly those bytes
-  pub dataset : (over : State) (bytes : List ℕ) → Bytes bytes → readAnswer over bytes ≡ accepted → T (isDataset (readLeaves over bytes))
+  -- what Read accepts gives a dataset, whose file is exactly those bytes
+  pub dataset : (over : State) (bytes : List ℕ) → readAnswer over bytes ≡ accepted → T (isDataset (readLeaves over bytes))
   pub only : (over : State) (bytes : List ℕ) → Bytes bytes → readAnswer over bytes ≡ accepted → fileOf (contentsOf (readLeaves over bytes)) ≡ bytes

@@ -1,0 +1,93 @@
+-- Document 01's book in the words of demand 2: the last file's tides, if any, and those entered since, without those withdrawn, in
+-- order. The ledger of what came in and what is gone follows from the start and the calls alone. A tide's name is its place, from 0, in
+-- the order of arrival; names never change. Assumes nothing.
+use Prim.Native.Nat.{ℕ, _-_, _<_}
+use mathlib.Core.Path.{_≡_}
+use mathlib.Core.Bool.{Bool, true, false, cond, not}
+use mathlib.Core.List.{List, [], _∷_, _++_, map}
+use mathlib.Core.Option.{Option, none, some}
+use lib.Dec.{eqb}
+use lib.ListN.{length, getD}
+use Rattle.lists.specs.Lists.{range, count, filter}
+use Rattle.study.specs.Study.{Tide, Study, Contents, size, tide, distance}
+use Rattle.study.specs.Refusals.{settled}
+use Rattle.file_format.specs.File.{decoded}
+use Rattle.dataset.specs.Memory.{State, short}
+use Rattle.guarantee.specs.Runs.{Call, call-open, call-read, call-minima, call-enter, call-withdraw, call-block}
+use Rattle.guarantee.specs.History.{held, verdict, step}
+
+-- a tide that came in, by a file or by Enter: its setting, and its distance to the tide of each earlier name
+pub record Arrival : Type 0 where
+  pub setting : ℕ
+  pub far : ℕ → ℕ
+
+-- all that came in, in order, and which names are gone
+pub record Ledger : Type 0 where
+  pub arrivals : List Arrival
+  pub gone : ℕ → Bool
+
+unfoldable pub nobody : Arrival
+nobody = record { setting = 0; far = λ m. 0 }
+
+-- the tide of a name
+unfoldable pub named : Ledger → ℕ → Arrival
+named L m = getD (L .arrivals) m nobody
+
+-- the names of those that came in, without those withdrawn, in order
+unfoldable pub remaining : Ledger → List ℕ
+remaining L = filter (λ m. not (L .gone m)) (range 0 (length (L .arrivals)))
+
+-- the name of tide t
+unfoldable pub nameOf : Ledger → ℕ → ℕ
+nameOf L t = getD (remaining L) t 0
+
+-- a file's tides; none is gone
+unfoldable pub fileLedger : Study → Ledger
+fileLedger S = record { arrivals = map (λ (x : Tide). record { setting = x .setting; far = λ m. getD (x .row) m 0 }) (S .tides); gone = λ m. false }
+
+unfoldable pub emptyLedger : Ledger
+emptyLedger = record { arrivals = []; gone = λ m. false }
+
+-- one more, at the row's distances from those that remain, in order: name m has as many of them before it as its place in the row
+unfoldable pub withArrival : ℕ → List ℕ → Ledger → Ledger
+withArrival setting row L =
+    record {
+      arrivals = L .arrivals ++ (record { setting = setting; far = λ m. getD row (count m (λ j. not (L .gone j))) 0 } ∷ []);
+      gone = L .gone;
+    }
+
+-- tide number t, from 1, is gone
+unfoldable pub withGone : ℕ → Ledger → Ledger
+withGone t L = record { arrivals = L .arrivals; gone = λ m. cond (eqb m (nameOf L (t - 1))) true (L .gone m) }
+
+abbrev pub noting : Option Ledger → (Ledger → Ledger) → Option Ledger
+noting none f = none
+noting (some L) f = some (f L)
+
+-- what an accepted call makes of the ledger: Open and Read begin anew
+unfoldable pub noted : Option Ledger → Call → Option Ledger
+noted l (call-open k) = some emptyLedger
+noted l (call-read file) = some (fileLedger (decoded file .study))
+noted l (call-minima M) = l
+noted l (call-enter setting row) = noting l (withArrival setting row)
+noted l (call-withdraw t) = noting l (withGone t)
+noted l (call-block list records) = l
+
+-- along the calls; a refused call changes nothing
+unfoldable pub noteAll : Bool → Option Contents → Option Ledger → List Call → Option Ledger
+noteAll scant h l [] = l
+noteAll scant h l (c ∷ cs) = noteAll scant (step scant h c) (settled (verdict scant h c) (noted l c) l) cs
+
+-- a dataset at the start counts as a file's
+abbrev pub begun : Option Contents → Option Ledger
+begun none = none
+begun (some H) = some (fileLedger (H .study))
+
+unfoldable pub ledgerAfter : State → List Call → Option Ledger
+ledgerAfter start calls = noteAll (short start) (held start) (begun (held start)) calls
+
+-- a study's tides are exactly those that remain, in order
+pub record Exactly (S : Study) (L : Ledger) : Type 0 where
+  pub as-many : size S ≡ length (remaining L)
+  pub setting : (t : ℕ) → t < size S → tide S t .setting ≡ named L (nameOf L t) .setting
+  pub distances : (u t : ℕ) → u < t → t < size S → distance S u t ≡ named L (nameOf L t) .far (nameOf L u)

@@ -1,0 +1,11 @@
+-- Definitions and statements, to be read beside document 01: Runs, History, Ledger, Theorems. Proofs: the rest.
+pub mod Runs
+pub mod History
+pub mod Ledger
+pub mod Cases
+pub mod Theorems
+pub mod Follows
+pub mod Names
+pub mod LedgerLaws
+pub mod BlockLaws
+pub mod Proofs
