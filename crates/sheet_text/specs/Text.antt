@@ -1,0 +1,67 @@
+-- The printed sheet (document 01), byte by byte. Assumes nothing.
+use Prim.Native.Nat.{ℕ, zero, suc, _+_, _/_, _%_}
+use Prim.Native.Char.{code}
+use Prim.Native.String.{String, [] as end, _∷_ as _before_}
+use mathlib.Core.Bool.{cond}
+use mathlib.Core.List.{List, [], _∷_, _++_}
+use lib.Dec.{ltb}
+use lib.ListN.{take}
+use Rattle.study.specs.declared.BlockRecord.{BlockRecord}
+use Rattle.study.specs.Refusals.{Numbered, number, seven, Reply, value, refusal}
+use Rattle.study.specs.Calls.{Figures}
+
+-- the bytes of a text
+abbrev pub ascii : String → List ℕ
+ascii end = []
+ascii (c before s) = code c ∷ ascii s
+
+-- ---- numbers
+
+-- the byte of a digit, 0 to 9
+abbrev pub digit : ℕ → ℕ
+digit x = 48 + x
+
+-- a number below 10 ^ n, the most significant digit first
+unfoldable pub digits : ℕ → ℕ → List ℕ
+digits zero x = []
+digits (suc n) x = cond (ltb x 10) (digit x ∷ []) (digits n (x / 10) ++ (digit (x % 10) ∷ []))
+
+-- every number of the sheet is below 4,294,967,296 and so below 10 ^ 10
+unfoldable pub decimal : ℕ → List ℕ
+decimal x = digits 10 x
+
+-- ---- lines
+
+-- the first line
+unfoldable pub heading : List ℕ
+heading = ascii "block centre tides widest\n"
+
+-- of a block: its number, centre, tides and diameter
+unfoldable pub line : ℕ → BlockRecord → List ℕ
+line n r =
+    decimal n ++ ascii " " ++ decimal (r .centre) ++ ascii " " ++ decimal (r .tides) ++ ascii " " ++ decimal (r .diameter) ++ ascii "\n"
+
+-- of the blocks n, n + 1, ..
+unfoldable pub lines : ℕ → List BlockRecord → List ℕ
+lines n [] = []
+lines n (r ∷ rs) = line n r ++ lines (suc n) rs
+
+-- the last line: radius (document 01: reach), widest and withdrawals
+unfoldable pub closing : ℕ → ℕ → ℕ → List ℕ
+closing radius widest withdrawn =
+    ascii "reach " ++ decimal radius ++ ascii " widest " ++ decimal widest ++ ascii " withdrawn " ++ decimal withdrawn ++ ascii "\n"
+
+-- ---- the sheet
+
+-- document 01's number of a refusal; of 7 without its pair
+abbrev pub numberOf : Numbered → ℕ
+numberOf (number n) = n
+numberOf (seven i j) = 7
+
+unfoldable pub refusedText : Numbered → List ℕ
+refusedText r = ascii "refused " ++ decimal (numberOf r) ++ ascii "\n"
+
+-- what is printed of Block's answer, its records and the withdrawals: a line for each block, or the refusal alone
+abbrev pub sheetText : Reply Figures → List BlockRecord → ℕ → List ℕ
+sheetText (value F) records withdrawn = heading ++ lines 1 (take (F .blocks) records) ++ closing (F .radius) (F .widest) withdrawn
+sheetText (refusal r) records withdrawn = refusedText r

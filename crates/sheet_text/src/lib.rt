@@ -1,0 +1,73 @@
+// The text of the printed sheet: for any answer of Block, any records and any count of withdrawals.
+use crate::lines::put_closing;
+use crate::lines::put_lines;
+use crate::putting::put_bytes;
+use crate::putting::put_named;
+use study::BlockRecord;
+use study::Blocked;
+use study::Refusal;
+
+mod lines;
+mod putting;
+
+ghost use mathlib.Core.Path.{_≡_};
+ghost use Prim.Native.Nat.{_≤_};
+ghost use lib.ListN.{length, take};
+ghost use Rattle.study.specs.Refusals.{numbered};
+ghost use Rattle.study.specs.Calls.{blockedOf};
+ghost use Rattle.sheet_text.specs.Text.{numberOf, sheetText};
+ghost use Rattle.sheet_text.specs.Putting.{Puts};
+
+// The text is the first `length` bytes: at most 26 of heading, 120 lines of 23 and a last line of 51.
+pub struct Text {
+    pub bytes: [u8; 2837],
+    pub length: usize,
+}
+
+// Document 01's number of a refusal.
+pub fn number_of(refusal: Refusal) -> u32
+    ensures { λ r. ⌜ r ≡ numberOf (numbered refusal) ⌝ }
+{
+    match refusal {
+        Refusal::ShortMemory => 1,
+        Refusal::SettingCount => 2,
+        Refusal::Minima => 3,
+        Refusal::RowLength => 4,
+        Refusal::Setting => 5,
+        Refusal::Distance => 6,
+        Refusal::ThreeTideRule(_, _) => 7,
+        Refusal::FileLength => 8,
+        Refusal::Mark => 9,
+        Refusal::TideCount => 10,
+        Refusal::FillBits => 11,
+        Refusal::ListLength => 12,
+        Refusal::NotDataset => 21,
+        Refusal::Full => 22,
+        Refusal::NoSuchTide => 23,
+        Refusal::NoTides => 24,
+        Refusal::TooFewTides => 25,
+        Refusal::WithdrawalLimit => 26,
+    }
+}
+
+fn put_sheet(out: &mut [u8], answer: Blocked, records: [BlockRecord; 120], withdrawn: u16) -> usize
+    requires { ⌜ 2837 ≤ length (now out) ⌝ }
+    ensures { λ r. ⌜ (r ≤ 2837) × Puts (now (out .entry)) 0 (sheetText (blockedOf answer) records withdrawn) r (now (out .exit)) ⌝ }
+{
+    match answer {
+        Blocked::Refused(why) => put_named(out, 0, b"refused ", number_of(why), b'\n'),
+        Blocked::Done(blocks, radius, widest) => {
+            let after_heading = put_bytes(out, 0, b"block centre tides widest\n");
+            let after_lines = put_lines(out, after_heading, blocks, records);
+            put_closing(out, after_lines, radius, widest, withdrawn)
+        }
+    }
+}
+
+pub fn sheet_text(answer: Blocked, records: [BlockRecord; 120], withdrawn: u16) -> Text
+    ensures { λ r. ⌜ (r .length ≤ 2837) × (take (r .length) (r .bytes) ≡ sheetText (blockedOf answer) records withdrawn) ⌝ }
+{
+    let mut bytes = [0u8; 2837];
+    let length = put_sheet(&mut bytes, answer, records, withdrawn);
+    Text { bytes, length }
+}
