@@ -22,16 +22,27 @@ lower-bound-requires : tie.Need-lower-bound-requires Inv-loop μ-loop
 lower-bound-requires c κs = c .before .before .before .before .before .before .pre .0
 
 first-from-requires : tie.Need-first-from-requires Inv-loop μ-loop
-first-from-requires c κs = (c .before .before .before .before .before .before .before .pre .0 .few, c .before .before .before .before .before .before .before .pre .0 .distances-long)
+first-from-requires c κs =
+    let pre = c .before .before .before .before .before .before .before .pre in
+    (pre .0 .few, pre .0 .distances-long)
 
 loop-holds : tie.Need-loop-holds Inv-loop μ-loop
-loop-holds c = let l = first-lowest (c .before .before .before .before .before .before .before .before .pre .1 .0) (c .before .before .before .before .before .before .before .before .pre .1 .1 .0) (c .before .lower-bound .result) (c .first-from .result) (c .before .lower-bound .ensures) (c .first-from .ensures) in (l, lowest-small (c .before .before .before .before .before .before .before .before .pre .1 .0) (c .before .before .before .before .before .before .before .before .pre .1 .1 .0) (c .first-from .result) l, c .before .before .before .before .before .before .before .before .pre .1 .1 .1, refl, kept-same _ _)
+loop-holds c =
+    let pre = c .before .before .before .before .before .before .before .before .pre in
+    let l = first-lowest (pre .1 .0) (pre .1 .1 .0) (c .before .lower-bound .result) (c .first-from .result) (c .before .lower-bound .ensures) (c .first-from .ensures) in
+    (l, lowest-small (pre .1 .0) (pre .1 .1 .0) (c .first-from .result) l, pre .1 .1 .1, refl, kept-same _ _)
 
 find-centres-requires : tie.Need-find-centres-requires Inv-loop μ-loop
-find-centres-requires c κs = (c .before .before .before .before .before .before .before .before .before .before .pre .0 .few, c .before .before .before .before .before .before .before .before .before .before .pre .0 .distances-long, c .before .loop .inv .2)
+find-centres-requires c κs =
+    let pre = c .before .before .before .before .before .before .before .before .before .before .pre in
+    (pre .0 .few, pre .0 .distances-long, c .before .loop .inv .2)
 
 attempt-requires : tie.Need-attempt-requires Inv-loop μ-loop
-attempt-requires c κs = let i = c .before .before .before .before .before .before .loop .inv in let k = i .4 .same-length in (c .before .before .before .before .before .before .before .before .before .before .before .before .before .before .before .pre .0, (c .before .before .before .before .before .before .before .before .before .before .before .before .before .before .before .pre .1 .0, (c .before .before .before .before .before .before .before .before .before .count-settings .ensures, (c .before .before .before .before .find-centres .ensures, (i .1, omega (arith, i .3), omega arith)))))
+attempt-requires c κs =
+    let pre = c .before .before .before .before .before .before .before .before .before .before .before .before .before .before .before .pre in
+    let i = c .before .before .before .before .before .before .loop .inv in
+    let k = i .4 .same-length in
+    (pre .0, (pre .1 .0, (c .before .before .before .before .before .before .before .before .before .count-settings .ensures, (c .before .before .before .before .find-centres .ensures, (i .1, omega (arith, i .3), omega arith)))))
 
 same-length : tie.Need-same-length Inv-loop μ-loop
 same-length c = c .before .before .before .before .before .attempt .ensures .0 .same-length ∙ c .before .before .before .before .before .before .before .before .before .before .before .before .loop .inv .3
@@ -40,13 +51,23 @@ same-length-2 : tie.Need-same-length-2 Inv-loop μ-loop
 same-length-2 c = c .before .before .before .before .before .attempt .ensures .1 .same-length ∙ c .before .before .before .before .before .before .before .before .before .before .before .before .loop .inv .4 .same-length
 
 returns : tie.Need-returns Inv-loop μ-loop
-returns c = (least-found (c .before .before .before .before .before .before .before .before .before .before .before .before .loop .inv .0) (c .before .before .before .before .before .before .before .before .before .before .find-centres .ensures) (c .before .before .before .before .before .before .before .before .before .before .before .before .loop .inv .3) (c .before .before .before .before .before .attempt .ensures .0) (c .if1 .taken), kept-on (c .before .before .before .before .before .before .before .before .before .before .before .before .loop .inv .4) (c .before .before .before .before .before .attempt .ensures .1))
+returns c =
+    let turn = c .before .before .before .before .before .before .before .before .before .before .before .before .loop in
+    (least-found (turn .inv .0) (c .before .before .before .before .before .before .before .before .before .before .find-centres .ensures) (turn .inv .3) (c .before .before .before .before .before .attempt .ensures .0) (c .if1 .taken), kept-on (turn .inv .4) (c .before .before .before .before .before .attempt .ensures .1))
 
 loop-less : tie.Need-loop-less Inv-loop μ-loop
-loop-less c = let l = next-lowest (c .before .before .before .before .before .before .before .before .before .before .before .before .before .before .before .before .before .before .before .before .before .pre .1 .0) (c .before .before .before .before .before .before .before .before .before .before .before .before .before .before .before .before .before .before .before .before .before .pre .1 .1 .0) (c .before .before .before .before .before .before .before .before .before .before .before .before .loop .inv .0) (c .before .before .before .before .before .attempt .ensures .0) (omega arith) in let q = lowest-small (c .before .before .before .before .before .before .before .before .before .before .before .before .before .before .before .before .before .before .before .before .before .pre .1 .0) (c .before .before .before .before .before .before .before .before .before .before .before .before .before .before .before .before .before .before .before .before .before .pre .1 .1 .0) (c .before .before .before .before .before .attempt .result) l in omega arith
+loop-less c =
+    let pre = c .before .before .before .before .before .before .before .before .before .before .before .before .before .before .before .before .before .before .before .before .before .pre in
+    let l = next-lowest (pre .1 .0) (pre .1 .1 .0) (c .before .before .before .before .before .before .before .before .before .before .before .before .loop .inv .0) (c .before .before .before .before .before .attempt .ensures .0) (omega arith) in
+    let q = lowest-small (pre .1 .0) (pre .1 .1 .0) (c .before .before .before .before .before .attempt .result) l in
+    omega arith
 
 loop-again : tie.Need-loop-again Inv-loop μ-loop
-loop-again c = let l = next-lowest (c .before .before .before .before .before .before .before .before .before .before .before .before .before .before .before .before .before .before .before .before .before .pre .1 .0) (c .before .before .before .before .before .before .before .before .before .before .before .before .before .before .before .before .before .before .before .before .before .pre .1 .1 .0) (c .before .before .before .before .before .before .before .before .before .before .before .before .loop .inv .0) (c .before .before .before .before .before .attempt .ensures .0) (omega arith) in (l, lowest-small (c .before .before .before .before .before .before .before .before .before .before .before .before .before .before .before .before .before .before .before .before .before .pre .1 .0) (c .before .before .before .before .before .before .before .before .before .before .before .before .before .before .before .before .before .before .before .before .before .pre .1 .1 .0) (c .before .before .before .before .before .attempt .result) l, c .before .before .before .before .before .before .before .before .before .before .find-centres .ensures .front .size, c .before .before .before .before .before .attempt .ensures .0 .same-length ∙ c .before .before .before .before .before .before .before .before .before .before .before .before .loop .inv .3, kept-on (c .before .before .before .before .before .before .before .before .before .before .before .before .loop .inv .4) (c .before .before .before .before .before .attempt .ensures .1))
+loop-again c =
+    let turn = c .before .before .before .before .before .before .before .before .before .before .before .before .loop in
+    let pre = c .before .before .before .before .before .before .before .before .before .before .before .before .before .before .before .before .before .before .before .before .before .pre in
+    let l = next-lowest (pre .1 .0) (pre .1 .1 .0) (turn .inv .0) (c .before .before .before .before .before .attempt .ensures .0) (omega arith) in
+    (l, lowest-small (pre .1 .0) (pre .1 .1 .0) (c .before .before .before .before .before .attempt .result) l, c .before .before .before .before .before .before .before .before .before .before .find-centres .ensures .front .size, c .before .before .before .before .before .attempt .ensures .0 .same-length ∙ turn .inv .3, kept-on (turn .inv .4) (c .before .before .before .before .before .attempt .ensures .1))
 
 pub least-radius-spec : {M : Type 1} → statement M
 least-radius-spec =

@@ -37,14 +37,18 @@ same-length : tie.Need-same-length
 same-length c = search needs
 
 returns : tie.Need-returns
-returns c = let a = c .before .before .before .before .before .before .before .before .before .before .args in (omega (arith, refused-short (c .before .before .before .number-of .result) (omega (arith, c .before .before .before .number-of .ok))), sheet-refused (a .records) (a .withdrawn) (c .before .before .before .before .before .before .before .answer .given .1) (c .before .before .before .number-of .ensures) (c .before .before .put-named .ensures))
+returns c =
+    let a = c .before .before .before .before .before .before .before .before .before .before .args in
+    (omega (arith, refused-short (c .before .before .before .number-of .result) (omega (arith, c .before .before .before .number-of .ok))), sheet-refused (a .records) (a .withdrawn) (c .before .before .before .before .before .before .before .answer .given .1) (c .before .before .before .number-of .ensures) (c .before .before .put-named .ensures))
 
 same-length-2 : tie.Need-same-length-2
 same-length-2 c = search needs
 
 returns-2 : tie.Need-returns-2
 unfolding heading
-returns-2 c = let a = c .before .before .before .before .before .before .before .before .before .before .before .before .before .before .before .before .before .args in (omega arith, sheet-done (a .records) (a .withdrawn) (c .before .before .before .before .before .before .before .before .before .before .before .before .before .before .answer2 .given .1) (c .before .before .before .before .before .before .before .before .before .before .put-bytes .ensures) (c .before .before .before .before .before .before .put-lines .ensures .1) (c .before .before .put-closing .ensures .1))
+returns-2 c =
+    let a = c .before .before .before .before .before .before .before .before .before .before .before .before .before .before .before .before .before .args in
+    (omega arith, sheet-done (a .records) (a .withdrawn) (c .before .before .before .before .before .before .before .before .before .before .before .before .before .before .answer2 .given .1) (c .before .before .before .before .before .before .before .before .before .before .put-bytes .ensures) (c .before .before .before .before .before .before .put-lines .ensures .1) (c .before .before .put-closing .ensures .1))
 
 pub put-sheet-spec : {M : Type 1} → statement M
 put-sheet-spec =

@@ -8,10 +8,14 @@ use Rattle.study_file.proofs.read.Statement.{statement}
 use Rattle.study_file.proofs.read.Tie as tie
 
 returns : tie.Need-returns
-returns c = read-short (stateOf (c .before .before .before .before .args .dataset) (c .before .before .before .before .args .distances .now) (c .before .before .before .before .args .settings .now)) (c .before .before .before .before .args .file .now) (inl (c .if1 .taken))
+returns c =
+    let args = c .before .before .before .before .args in
+    read-short (stateOf (args .dataset) (args .distances .now) (args .settings .now)) (args .file .now) (inl (c .if1 .taken))
 
 returns-2 : tie.Need-returns-2
-returns-2 c = read-short (stateOf (c .before .before .before .before .before .args .dataset) (c .before .before .before .before .before .args .distances .now) (c .before .before .before .before .before .args .settings .now)) (c .before .before .before .before .before .args .file .now) (inr (c .if2 .taken))
+returns-2 c =
+    let args = c .before .before .before .before .before .args in
+    read-short (stateOf (args .dataset) (args .distances .now) (args .settings .now)) (args .file .now) (inr (c .if2 .taken))
 
 head-answer-requires : tie.Need-head-answer-requires
 head-answer-requires c κs = search needs
@@ -23,7 +27,9 @@ enum-told-2 : tie.Need-enum-told-2
 enum-told-2 c = search needs
 
 returns-3 : tie.Need-returns-3
-returns-3 c = read-head (stateOf (c .before .before .before .before .before .before .before .before .args .dataset) (c .before .before .before .before .before .before .before .before .args .distances .now) (c .before .before .before .before .before .before .before .before .args .settings .now)) (c .before .before .before .before .before .before .before .before .args .file .now) (c .before .before .before .before .if1 .left) (c .before .before .before .if2 .left) (c .before .before .head-answer .ensures) (c .enum-told2 .given .1)
+returns-3 c =
+    let args = c .before .before .before .before .before .before .before .before .args in
+    read-head (stateOf (args .dataset) (args .distances .now) (args .settings .now)) (args .file .now) (c .before .before .before .before .if1 .left) (c .before .before .before .if2 .left) (c .before .before .head-answer .ensures) (c .enum-told2 .given .1)
 
 record-of-requires : tie.Need-record-of-requires
 record-of-requires c κs = head-passed (c .before .before .before .before .before .before .before .before .args .file .now) (c .before .before .head-answer .ensures) (c .enum-told .given .1)
@@ -47,7 +53,9 @@ enum-told-4 : tie.Need-enum-told-4
 enum-told-4 c = search needs
 
 returns-4 : tie.Need-returns-4
-returns-4 c = read-tide (stateOf (c .before .before .before .before .before .before .before .before .before .before .before .before .before .before .before .before .before .args .dataset) (c .before .before .before .before .before .before .before .before .before .before .before .before .before .before .before .before .before .args .distances .now) (c .before .before .before .before .before .before .before .before .before .before .before .before .before .before .before .before .before .args .settings .now)) (c .before .before .before .before .before .before .before .before .before .before .before .before .before .before .before .before .before .args .file .now) (c .before .before .before .before .before .before .before .before .before .before .before .before .before .if1 .left) (c .before .before .before .before .before .before .before .before .before .before .before .before .if2 .left) _ _ _ (c .before .before .before .before .read-tides .ensures) (c .enum-told4 .given .1)
+returns-4 c =
+    let args = c .before .before .before .before .before .before .before .before .before .before .before .before .before .before .before .before .before .args in
+    read-tide (stateOf (args .dataset) (args .distances .now) (args .settings .now)) (args .file .now) (c .before .before .before .before .before .before .before .before .before .before .before .before .before .if1 .left) (c .before .before .before .before .before .before .before .before .before .before .before .before .if2 .left) _ _ _ (c .before .before .before .before .read-tides .ensures) (c .enum-told4 .given .1)
 
 slice-aggregate-copy-distances : tie.Need-slice-aggregate-copy-distances
 slice-aggregate-copy-distances c = search needs
@@ -68,7 +76,9 @@ same-length-2 : tie.Need-same-length-2
 same-length-2 c = search needs
 
 returns-5 : tie.Need-returns-5
-returns-5 c = read-done (stateOf (c .before .before .before .before .before .before .before .before .before .before .before .before .before .before .before .before .before .before .before .before .before .before .before .before .before .before .before .args .dataset) (c .before .before .before .before .before .before .before .before .before .before .before .before .before .before .before .before .before .before .before .before .before .before .before .before .before .before .before .args .distances .now) (c .before .before .before .before .before .before .before .before .before .before .before .before .before .before .before .before .before .before .before .before .before .before .before .before .before .before .before .args .settings .now)) (c .before .before .before .before .before .before .before .before .before .before .before .before .before .before .before .before .before .before .before .before .before .before .before .before .before .before .before .args .file .now) (c .before .before .before .before .before .before .before .before .before .before .before .before .before .before .before .before .before .before .before .before .before .before .before .if1 .left) (c .before .before .before .before .before .before .before .before .before .before .before .before .before .before .before .before .before .before .before .before .before .before .if2 .left) _ _ (c .before .before .before .before .before .before .before .before .before .before .before .before .before .before .read-tides .ensures) (c .before .before .before .before .before .before .before .before .before .before .enum-told3 .given .1) (c .before .before .before .before .before .before .before .before .before .before .before .before .before .before .before .before .before .before .record-of .ensures) (c .before .before .before .before .before .before .before .copy-distances .ensures) (c .before .before .copy-settings .ensures)
+returns-5 c =
+    let args = c .before .before .before .before .before .before .before .before .before .before .before .before .before .before .before .before .before .before .before .before .before .before .before .before .before .before .before .args in
+    read-done (stateOf (args .dataset) (args .distances .now) (args .settings .now)) (args .file .now) (c .before .before .before .before .before .before .before .before .before .before .before .before .before .before .before .before .before .before .before .before .before .before .before .if1 .left) (c .before .before .before .before .before .before .before .before .before .before .before .before .before .before .before .before .before .before .before .before .before .before .if2 .left) _ _ (c .before .before .before .before .before .before .before .before .before .before .before .before .before .before .read-tides .ensures) (c .before .before .before .before .before .before .before .before .before .before .enum-told3 .given .1) (c .before .before .before .before .before .before .before .before .before .before .before .before .before .before .before .before .before .before .record-of .ensures) (c .before .before .before .before .before .before .before .copy-distances .ensures) (c .before .before .copy-settings .ensures)
 
 pub read-spec : {M : Type 1} → statement M
 read-spec =

@@ -16,10 +16,14 @@ enum-told : tie.Need-enum-told
 enum-told c = search needs
 
 write-file-requires : tie.Need-write-file-requires
-write-file-requires c κs = passed (stateOf (c .before .before .before .before .before .before .before .args .dataset) (c .before .before .before .before .before .before .before .args .distances .now) (c .before .before .before .before .before .before .before .args .settings .now)) (c .before .enum-told .given .1) (c .before .before .before .check .ensures)
+write-file-requires c κs =
+    let args = c .before .before .before .before .before .before .before .args in
+    passed (stateOf (args .dataset) (args .distances .now) (args .settings .now)) (c .before .enum-told .given .1) (c .before .before .before .check .ensures)
 
 returns : tie.Need-returns
-returns c = write-refused (stateOf (c .before .before .before .before .before .before .before .args .dataset) (c .before .before .before .before .before .before .before .args .distances .now) (c .before .before .before .before .before .before .before .args .settings .now)) (c .before .before .before .before .before .before .before .args .file .now) (c .before .answer .given .1) (c .before .before .before .check .ensures)
+returns c =
+    let args = c .before .before .before .before .before .before .before .args in
+    write-refused (stateOf (args .dataset) (args .distances .now) (args .settings .now)) (args .file .now) (c .before .answer .given .1) (c .before .before .before .check .ensures)
 
 same-length : tie.Need-same-length
 same-length c = search needs

@@ -12,16 +12,22 @@ byte-length-requires : tie.Need-byte-length-requires
 byte-length-requires c κs = (c .before .before .before .before .pre .dataset .k-high, c .before .before .before .before .pre .dataset .few)
 
 returns : tie.Need-returns
-returns c = write-short (stateOf (c .before .before .before .before .before .before .args .dataset) (c .before .before .before .before .before .before .args .distances .now) (c .before .before .before .before .before .before .args .settings .now)) (c .before .before .before .before .before .before .args .file .now) (c .before .before .before .before .before .before .pre) (c .before .byte-length .result) (c .before .byte-length .ensures .0) (c .if1 .taken)
+returns c =
+    let args = c .before .before .before .before .before .before .args in
+    write-short (stateOf (args .dataset) (args .distances .now) (args .settings .now)) (args .file .now) (c .before .before .before .before .before .before .pre) (c .before .byte-length .result) (c .before .byte-length .ensures .0) (c .if1 .taken)
 
 put-fields-requires : tie.Need-put-fields-requires
-put-fields-requires c κs = writable (stateOf (c .before .before .before .before .before .before .before .args .dataset) (c .before .before .before .before .before .before .before .args .distances .now) (c .before .before .before .before .before .before .before .args .settings .now)) (c .before .before .before .before .before .before .before .args .file .now) (c .before .before .before .before .before .before .before .pre) (c .before .before .byte-length .result) (c .before .before .byte-length .ensures .0) (c .before .if1 .left)
+put-fields-requires c κs =
+    let args = c .before .before .before .before .before .before .before .args in
+    writable (stateOf (args .dataset) (args .distances .now) (args .settings .now)) (args .file .now) (c .before .before .before .before .before .before .before .pre) (c .before .before .byte-length .result) (c .before .before .byte-length .ensures .0) (c .before .if1 .left)
 
 same-length : tie.Need-same-length
 same-length c = search needs
 
 returns-2 : tie.Need-returns-2
-returns-2 c = write-done (stateOf (c .before .before .before .before .before .before .before .before .before .before .args .dataset) (c .before .before .before .before .before .before .before .before .before .before .args .distances .now) (c .before .before .before .before .before .before .before .before .before .before .args .settings .now)) (c .before .before .before .before .before .before .before .before .before .before .args .file .now) (c .before .before .before .before .before .before .before .before .before .before .pre) (c .before .before .before .before .before .byte-length .result) (c .before .before .before .before .before .byte-length .ensures .0) (c .before .before .before .before .if1 .left) (c .before .before .put-fields .ensures)
+returns-2 c =
+    let args = c .before .before .before .before .before .before .before .before .before .before .args in
+    write-done (stateOf (args .dataset) (args .distances .now) (args .settings .now)) (args .file .now) (c .before .before .before .before .before .before .before .before .before .before .pre) (c .before .before .before .before .before .byte-length .result) (c .before .before .before .before .before .byte-length .ensures .0) (c .before .before .before .before .if1 .left) (c .before .before .put-fields .ensures)
 
 pub write-file-spec : {M : Type 1} → statement M
 write-file-spec =

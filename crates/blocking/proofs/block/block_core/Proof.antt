@@ -12,7 +12,10 @@ enum-known-answer : tie.Need-enum-known-answer
 enum-known-answer c = search needs
 
 returns : tie.Need-returns
-returns c = let e = c .before .answer .given .1 in let q = c .before .before .before .block-answer .ensures in (block-refusal _ _ _ e q, (no-rows _ _ _ e q _ refl, block-list-stays _ _ _ e q))
+returns c =
+    let e = c .before .answer .given .1 in
+    let q = c .before .before .before .block-answer .ensures in
+    (block-refusal _ _ _ e q, (no-rows _ _ _ e q _ refl, block-list-stays _ _ _ e q))
 
 enum-told : tie.Need-enum-told
 enum-told c = search needs

@@ -12,13 +12,19 @@ slice-aggregate-put-centres : tie.Need-slice-aggregate-put-centres
 slice-aggregate-put-centres c = search needs
 
 put-centres-requires : tie.Need-put-centres-requires
-put-centres-requires c κs = let R = c .before .before .before .before .before .block-rows .ensures .0 in let f = c .before .before .before .before .before .before .before .before .before .before .pre .passed .dataset .few in ((R .centres-long, omega (arith, R .few), omega (arith, R .few)), λ i l. omega (arith, R .centre-below i l))
+put-centres-requires c κs =
+    let R = c .before .before .before .before .before .block-rows .ensures .0 in
+    let f = c .before .before .before .before .before .before .before .before .before .before .pre .passed .dataset .few in
+    ((R .centres-long, omega (arith, R .few), omega (arith, R .few)), λ i l. omega (arith, R .centre-below i l))
 
 same-length : tie.Need-same-length
 same-length c = search needs
 
 returns : tie.Need-returns
-returns c = let p = c .before .before .before .before .before .before .before .before .before .before .before .before .before .before .pre in let R = c .before .before .before .before .before .before .before .before .before .block-rows .ensures in (block-value _ _ _ p (R .0), (block-rows _ _ _ p (R .0) _ (c .before .before .before .put-centres .ensures), block-list _ _ _ p (R .1)))
+returns c =
+    let p = c .before .before .before .before .before .before .before .before .before .before .before .before .before .before .pre in
+    let R = c .before .before .before .before .before .before .before .before .before .block-rows .ensures in
+    (block-value _ _ _ p (R .0), (block-rows _ _ _ p (R .0) _ (c .before .before .before .put-centres .ensures), block-list _ _ _ p (R .1)))
 
 pub compute-spec : {M : Type 1} → statement M
 compute-spec =

@@ -10,7 +10,10 @@ find-centres-requires : tie.Need-find-centres-requires
 find-centres-requires c κs = let p = c .before .before .before .before .pre .passed in (p .dataset .few, omega (arith, p .dataset .few, p .long .distances), omega arith)
 
 put-centres-requires : tie.Need-put-centres-requires
-put-centres-requires c κs = let p = c .before .before .before .before .before .before .before .pre in let C = c .before .before .find-centres .ensures in ((C .front .size, front-few (p .passed .dataset .few) C, omega (arith, p .room, front-fits C)), λ i l. omega (arith, p .passed .dataset .few, front-below C i l))
+put-centres-requires c κs =
+    let p = c .before .before .before .before .before .before .before .pre in
+    let C = c .before .before .find-centres .ensures in
+    ((C .front .size, front-few (p .passed .dataset .few) C, omega (arith, p .room, front-fits C)), λ i l. omega (arith, p .passed .dataset .few, front-below C i l))
 
 same-length : tie.Need-same-length
 same-length c = search needs

@@ -30,7 +30,10 @@ cast-list : tie.Need-cast-list Inv-loop μ-loop
 cast-list c = omega (arith, c .before .before .before .pre .1 (c .before .before .loop .i) (omega arith))
 
 slice-write-list : tie.Need-slice-write-list Inv-loop μ-loop
-slice-write-list c = let q = ap length (c .before .before .loop .inv .1) ∙ length-overwrite (λ x. getD (c .before .before .before .args .centres .now) x 0 + 1) _ (c .before .before .loop .i) (omega arith) in omega arith
+slice-write-list c =
+    let turn = c .before .before .loop in
+    let q = ap length (turn .inv .1) ∙ length-overwrite (λ x. getD (c .before .before .before .args .centres .now) x 0 + 1) _ (turn .i) (omega arith) in
+    omega arith
 
 add-i : tie.Need-add-i Inv-loop μ-loop
 add-i c = omega arith

@@ -30,22 +30,55 @@ wide-requires : tie.Need-wide-requires Inv-loop μ-loop
 wide-requires c κs = search needs
 
 mul-counts : tie.Need-mul-counts Inv-loop μ-loop
-mul-counts c = let h = c .before .before .before .before .before .before .before .before .pre .0 .setting-high (c .before .before .before .before .before .loop .t) (c .before .before .before .before .loop-test .taken) in let q = tallied-long (c .before .before .before .before .before .loop .inv .1) in let e = c .wide .ensures in omega arith
+mul-counts c =
+    let turn = c .before .before .before .before .before .loop in
+    let h = c .before .before .before .before .before .before .before .before .pre .0 .setting-high (turn .t) (c .before .before .before .before .loop-test .taken) in
+    let q = tallied-long (turn .inv .1) in
+    let e = c .wide .ensures in
+    omega arith
 
 element-copy-out-counts : tie.Need-element-copy-out-counts Inv-loop μ-loop
-element-copy-out-counts c = let h = c .before .before .before .before .before .before .before .before .pre .0 .setting-high (c .before .before .before .before .before .loop .t) (c .before .before .before .before .loop-test .taken) in let q = tallied-long (c .before .before .before .before .before .loop .inv .1) in let e = c .wide .ensures in omega arith
+element-copy-out-counts c =
+    let turn = c .before .before .before .before .before .loop in
+    let h = c .before .before .before .before .before .before .before .before .pre .0 .setting-high (turn .t) (c .before .before .before .before .loop-test .taken) in
+    let q = tallied-long (turn .inv .1) in
+    let e = c .wide .ensures in
+    omega arith
 
 add-counts : tie.Need-add-counts Inv-loop μ-loop
-add-counts c = let z = c .before .before .before .before .before .before .before .before .before .pre .0 in let f = z .few in let h = z .setting-high (c .before .before .before .before .before .before .loop .t) (c .before .before .before .before .before .loop-test .taken) in let e = c .before .wide .ensures in let k : c .before .wide .result < 9 = omega arith in let q = tallied-small (c .before .before .before .before .before .before .loop .inv .1) (c .before .wide .result) k in let x = c .before .before .before .same .ensures .1 in omega arith
+add-counts c =
+    let turn = c .before .before .before .before .before .before .loop in
+    let z = c .before .before .before .before .before .before .before .before .before .pre .0 in
+    let f = z .few in
+    let h = z .setting-high (turn .t) (c .before .before .before .before .before .loop-test .taken) in
+    let e = c .before .wide .ensures in
+    let k : c .before .wide .result < 9 = omega arith in
+    let q = tallied-small (turn .inv .1) (c .before .wide .result) k in
+    let x = c .before .before .before .same .ensures .1 in
+    omega arith
 
 mul-counts-2 : tie.Need-mul-counts-2 Inv-loop μ-loop
-mul-counts-2 c = let h = c .before .before .before .before .before .before .before .before .before .pre .0 .setting-high (c .before .before .before .before .before .before .loop .t) (c .before .before .before .before .before .loop-test .taken) in let q = tallied-long (c .before .before .before .before .before .before .loop .inv .1) in let e = c .before .wide .ensures in omega arith
+mul-counts-2 c =
+    let turn = c .before .before .before .before .before .before .loop in
+    let h = c .before .before .before .before .before .before .before .before .before .pre .0 .setting-high (turn .t) (c .before .before .before .before .before .loop-test .taken) in
+    let q = tallied-long (turn .inv .1) in
+    let e = c .before .wide .ensures in
+    omega arith
 
 element-write-counts : tie.Need-element-write-counts Inv-loop μ-loop
-element-write-counts c = let h = c .before .before .before .before .before .before .before .before .before .pre .0 .setting-high (c .before .before .before .before .before .before .loop .t) (c .before .before .before .before .before .loop-test .taken) in let q = tallied-long (c .before .before .before .before .before .before .loop .inv .1) in let e = c .before .wide .ensures in omega arith
+element-write-counts c =
+    let turn = c .before .before .before .before .before .before .loop in
+    let h = c .before .before .before .before .before .before .before .before .before .pre .0 .setting-high (turn .t) (c .before .before .before .before .before .loop-test .taken) in
+    let q = tallied-long (turn .inv .1) in
+    let e = c .before .wide .ensures in
+    omega arith
 
 add-found : tie.Need-add-found Inv-loop μ-loop
-add-found c = let f = c .before .before .before .before .before .before .before .before .before .pre .0 .few in let q = tallied-few (c .before .before .before .before .before .before .loop .inv .1) in let x = c .before .before .before .same .ensures .1 in omega arith
+add-found c =
+    let f = c .before .before .before .before .before .before .before .before .before .pre .0 .few in
+    let q = tallied-few (c .before .before .before .before .before .before .loop .inv .1) in
+    let x = c .before .before .before .same .ensures .1 in
+    omega arith
 
 add-t : tie.Need-add-t Inv-loop μ-loop
 add-t c = let f = c .before .before .before .before .before .before .before .before .before .pre .0 .few in omega arith
@@ -55,7 +88,11 @@ loop-less c = omega arith
 
 loop-again : tie.Need-loop-again Inv-loop μ-loop
 unfolding block labels
-loop-again c = let h = c .before .before .before .before .before .before .before .before .before .pre .0 .setting-high (c .before .before .before .before .before .before .loop .t) (c .before .before .before .before .before .loop-test .taken) in let e = c .before .wide .ensures in (omega arith, tallied-more (c .before .before .before .same .result) (c .before .wide .result) (c .before .before .before .before .before .before .loop .inv .1) (c .before .before .before .same .ensures .0) e (omega arith))
+loop-again c =
+    let turn = c .before .before .before .before .before .before .loop in
+    let h = c .before .before .before .before .before .before .before .before .before .pre .0 .setting-high (turn .t) (c .before .before .before .before .before .loop-test .taken) in
+    let e = c .before .wide .ensures in
+    (omega arith, tallied-more (c .before .before .before .same .result) (c .before .wide .result) (turn .inv .1) (c .before .before .before .same .ensures .0) e (omega arith))
 
 returns : tie.Need-returns Inv-loop μ-loop
 returns c = let e : c .before .loop .t ≡ c .before .before .before .before .args .n = omega arith in tallied-done e (c .before .loop .inv .1)

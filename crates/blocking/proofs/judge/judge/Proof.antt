@@ -31,7 +31,10 @@ returns-3 : tie.Need-returns-3
 returns-3 c = judge-few _ _ (judge-told _ _ (c .before .before .before .before .enum-told .given .1) (c .before .before .before .before .before .before .judge-answer .ensures)) (c .before .before .before .numbers-valid .ensures) (not-false _ (c .before .before .if1 .left)) (c .before .blocks-meet .ensures) (not-true _ (c .if2 .taken))
 
 widest-requires : tie.Need-widest-requires
-widest-requires c κs = let p = (judge-told _ _ (c .before .before .before .before .enum-told .given .1) (c .before .before .before .before .before .before .judge-answer .ensures)) in let l = listed _ _ p in (l .few, omega (arith, l .few, p .passed .long .distances), l .list-long)
+widest-requires c κs =
+    let p = (judge-told _ _ (c .before .before .before .before .enum-told .given .1) (c .before .before .before .before .before .before .judge-answer .ensures)) in
+    let l = listed _ _ p in
+    (l .few, omega (arith, l .few, p .passed .long .distances), l .list-long)
 
 returns-4 : tie.Need-returns-4
 returns-4 c = judge-yes _ _ (judge-told _ _ (c .before .before .before .before .before .enum-told .given .1) (c .before .before .before .before .before .before .before .judge-answer .ensures)) (c .before .before .before .before .numbers-valid .ensures) (not-false _ (c .before .before .before .if1 .left)) (c .before .before .blocks-meet .ensures) (not-false _ (c .before .if2 .left)) (c .widest .ensures)

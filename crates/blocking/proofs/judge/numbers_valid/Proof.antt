@@ -27,7 +27,9 @@ valid-number-requires c κs = search needs
 
 returns : tie.Need-returns Inv-loop μ-loop
 unfolding labels
-returns c = sym (every-fails (λ u. between 1 255 (labels (c .before .before .before .before .before .before .args .list .now) u)) (c .before .before .before .before .before .before .args .n) (c .before .before .before .before .loop .t) (c .before .before .before .loop-test .taken) (test-fails (c .before .valid-number .ensures) (c .if1 .taken)))
+returns c =
+    let args = c .before .before .before .before .before .before .args in
+    sym (every-fails (λ u. between 1 255 (labels (args .list .now) u)) (args .n) (c .before .before .before .before .loop .t) (c .before .before .before .loop-test .taken) (test-fails (c .before .valid-number .ensures) (c .if1 .taken)))
 
 add-t : tie.Need-add-t Inv-loop μ-loop
 add-t c = omega arith

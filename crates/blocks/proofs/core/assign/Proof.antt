@@ -12,22 +12,30 @@ slice-aggregate-least-radius : tie.Need-slice-aggregate-least-radius
 slice-aggregate-least-radius c = search needs
 
 least-radius-requires : tie.Need-least-radius-requires
-least-radius-requires c κs = (c .before .before .before .before .before .before .pre .0, (c .before .before .before .before .before .before .pre .1 .0, (c .before .before .before .before .before .before .pre .1 .1 .0, c .before .before .before .before .before .before .pre .1 .1 .1, let f = c .before .before .before .before .before .before .pre .0 .few in omega (arith, length-replicate {A = ℕ} 14400 0), c .before .before .before .before .before .before .pre .1 .1 .2)))
+least-radius-requires c κs =
+    let pre = c .before .before .before .before .before .before .pre in
+    (pre .0, (pre .1 .0, (pre .1 .1 .0, pre .1 .1 .1, let f = pre .0 .few in omega (arith, length-replicate {A = ℕ} 14400 0), pre .1 .1 .2)))
 
 slice-aggregate-first-assignment : tie.Need-slice-aggregate-first-assignment
 slice-aggregate-first-assignment c = search needs
 
 first-assignment-requires : tie.Need-first-assignment-requires
-first-assignment-requires c κs = (record { few-tides = c .before .before .before .before .before .before .before .before .before .before .before .before .pre .0 .few; few-blocks = front-few (c .before .before .before .before .before .before .before .before .before .before .before .before .pre .0 .few) (c .before .before .before .before .before .least-radius .ensures .0 .centres); small = c .before .before .before .before .before .before .before .before .before .before .before .before .pre .0 .b0-high; fit = c .before .before .before .before .before .before .before .before .before .before .before .before .pre .0 .fit; allowed-long = let f = c .before .before .before .before .before .before .before .before .before .before .before .before .pre .0 .few in omega (arith, c .before .before .before .before .before .least-radius .ensures .0 .table .same-length, length-replicate {A = ℕ} 14400 0); settings-long = c .before .before .before .before .before .before .before .before .before .before .before .before .pre .0 .settings-long; list-long = omega (arith, c .before .before .before .before .before .least-radius .ensures .1 .same-length, c .before .before .before .before .before .before .before .before .before .before .before .before .pre .1 .1 .2); setting-low = c .before .before .before .before .before .before .before .before .before .before .before .before .pre .0 .setting-low; setting-high = c .before .before .before .before .before .before .before .before .before .before .before .before .pre .0 .setting-high }, c .before .before .before .before .before .least-radius .ensures .0 .found)
+first-assignment-requires c κs =
+    let pre = c .before .before .before .before .before .before .before .before .before .before .before .before .pre in
+    (record { few-tides = pre .0 .few; few-blocks = front-few (pre .0 .few) (c .before .before .before .before .before .least-radius .ensures .0 .centres); small = pre .0 .b0-high; fit = pre .0 .fit; allowed-long = let f = pre .0 .few in omega (arith, c .before .before .before .before .before .least-radius .ensures .0 .table .same-length, length-replicate {A = ℕ} 14400 0); settings-long = pre .0 .settings-long; list-long = omega (arith, c .before .before .before .before .before .least-radius .ensures .1 .same-length, pre .1 .1 .2); setting-low = pre .0 .setting-low; setting-high = pre .0 .setting-high }, c .before .before .before .before .before .least-radius .ensures .0 .found)
 
 number-requires : tie.Need-number-requires
-number-requires c κs = (omega (arith, c .before .before .before .before .first-assignment .ensures .1 .same-length, c .before .before .before .before .before .before .before .before .before .before .least-radius .ensures .1 .same-length, c .before .before .before .before .before .before .before .before .before .before .before .before .before .before .before .before .before .pre .1 .1 .2), λ t l. let q = front-few (c .before .before .before .before .before .before .before .before .before .before .before .before .before .before .before .before .before .pre .0 .few) (c .before .before .before .before .before .before .before .before .before .before .least-radius .ensures .0 .centres) in let h = c .before .before .before .before .first-assignment .ensures .0 .assigned .below t l in omega arith)
+number-requires c κs =
+    let pre = c .before .before .before .before .before .before .before .before .before .before .before .before .before .before .before .before .before .pre in
+    (omega (arith, c .before .before .before .before .first-assignment .ensures .1 .same-length, c .before .before .before .before .before .before .before .before .before .before .least-radius .ensures .1 .same-length, pre .1 .1 .2), λ t l. let q = front-few (pre .0 .few) (c .before .before .before .before .before .before .before .before .before .before .least-radius .ensures .0 .centres) in let h = c .before .before .before .before .first-assignment .ensures .0 .assigned .below t l in omega arith)
 
 same-length : tie.Need-same-length
 same-length c = search needs
 
 returns : tie.Need-returns
-returns c = assigned-core (c .before .before .before .before .before .before .before .before .before .before .before .before .before .before .before .before .before .before .before .before .pre .1 .0) (c .before .before .before .before .before .before .before .before .before .before .before .before .before .before .before .before .before .before .before .before .pre .0 .few) (c .before .before .before .before .before .before .before .before .before .before .before .before .before .least-radius .ensures .0) (c .before .before .before .before .before .before .before .first-assignment .ensures .0) (c .before .before .before .before .before .before .before .before .before .before .before .before .before .least-radius .ensures .1) (c .before .before .before .before .before .before .before .first-assignment .ensures .1) (c .before .before .before .before .before .before .before .before .before .before .before .before .before .before .before .before .before .before .before .before .pre .1 .1 .2) (c .before .before .number .ensures)
+returns c =
+    let pre = c .before .before .before .before .before .before .before .before .before .before .before .before .before .before .before .before .before .before .before .before .pre in
+    assigned-core (pre .1 .0) (pre .0 .few) (c .before .before .before .before .before .before .before .before .before .before .before .before .before .least-radius .ensures .0) (c .before .before .before .before .before .before .before .first-assignment .ensures .0) (c .before .before .before .before .before .before .before .before .before .before .before .before .before .least-radius .ensures .1) (c .before .before .before .before .before .before .before .first-assignment .ensures .1) (pre .1 .1 .2) (c .before .before .number .ensures)
 
 pub assign-spec : {M : Type 1} → statement M
 assign-spec =

@@ -8,10 +8,14 @@ use Rattle.blocks.proofs.core.block_rows.Statement.{statement}
 use Rattle.blocks.proofs.core.block_rows.Tie as tie
 
 assign-requires : tie.Need-assign-requires
-assign-requires c κs = (c .before .before .before .before .before .pre .0, (c .before .before .before .before .before .pre .1 .0, (c .before .before .before .before .before .pre .1 .1 .0, refl, c .before .before .before .before .before .pre .1 .1 .1)))
+assign-requires c κs =
+    let pre = c .before .before .before .before .before .pre in
+    (pre .0, (pre .1 .0, (pre .1 .1 .0, refl, pre .1 .1 .1)))
 
 measure-requires : tie.Need-measure-requires
-measure-requires c κs = ((c .before .before .before .before .before .before .before .before .before .before .before .pre .0 .few, c .before .before .before .before .before .before .before .before .before .before .before .pre .0 .distances-long, omega (arith, c .before .before .before .before .before .assign .ensures .same-length, c .before .before .before .before .before .before .before .before .before .before .before .pre .1 .1 .1)), (c .before .before .before .before .before .assign .ensures .low, (c .before .before .before .before .before .assign .ensures .high, measured-none _ _ _)))
+measure-requires c κs =
+    let pre = c .before .before .before .before .before .before .before .before .before .before .before .pre in
+    ((pre .0 .few, pre .0 .distances-long, omega (arith, c .before .before .before .before .before .assign .ensures .same-length, pre .1 .1 .1)), (c .before .before .before .before .before .assign .ensures .low, (c .before .before .before .before .before .assign .ensures .high, measured-none _ _ _)))
 
 same-length : tie.Need-same-length
 same-length c = search needs

@@ -18,7 +18,11 @@ slice-read-list : tie.Need-slice-read-list Inv-loop μ-loop
 slice-read-list c = let q = numbered-length (c .before .before .loop .inv .1) (omega arith) in omega arith
 
 add-list : tie.Need-add-list Inv-loop μ-loop
-add-list c = let q = numbered-here (c .before .before .loop .inv .1) in let h = c .before .before .before .pre .1 (c .before .before .loop .t) (c .before .loop-test .taken) in omega arith
+add-list c =
+    let turn = c .before .before .loop in
+    let q = numbered-here (turn .inv .1) in
+    let h = c .before .before .before .pre .1 (turn .t) (c .before .loop-test .taken) in
+    omega arith
 
 slice-write-list : tie.Need-slice-write-list Inv-loop μ-loop
 slice-write-list c = let q = numbered-length (c .before .before .loop .inv .1) (omega arith) in omega arith

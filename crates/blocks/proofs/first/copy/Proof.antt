@@ -22,7 +22,10 @@ shared-slice-read-to : tie.Need-shared-slice-read-to Inv-loop μ-loop
 shared-slice-read-to c = omega arith
 
 slice-write-to : tie.Need-slice-write-to Inv-loop μ-loop
-slice-write-to c = let q = ap length (c .before .before .loop .inv .1) ∙ length-overwrite (labels (c .before .before .before .args .from .now)) _ (c .before .before .loop .t) (omega arith) in omega arith
+slice-write-to c =
+    let turn = c .before .before .loop in
+    let q = ap length (turn .inv .1) ∙ length-overwrite (labels (c .before .before .before .args .from .now)) _ (turn .t) (omega arith) in
+    omega arith
 
 add-t : tie.Need-add-t Inv-loop μ-loop
 add-t c = omega arith

@@ -16,7 +16,9 @@ loop-holds : tie.Need-loop-holds Inv-loop μ-loop
 loop-holds c = (omega arith, kept-same _ _, fixed-start (c .before .before .before .pre .1))
 
 settle-requires : tie.Need-settle-requires Inv-loop μ-loop
-settle-requires c κs = (asked-on (c .before .before .before .before .before .before .before .pre .0) (c .before .before .before .loop .inv .2 .same-length) (c .before .before .before .loop .inv .1 .same-length), (c .before .before .before .loop .inv .2 .assigned, c .before .before .loop-test .taken))
+settle-requires c κs =
+    let turn = c .before .before .before .loop in
+    (asked-on (c .before .before .before .before .before .before .before .pre .0) (turn .inv .2 .same-length) (turn .inv .1 .same-length), (turn .inv .2 .assigned, c .before .before .loop-test .taken))
 
 add-t : tie.Need-add-t Inv-loop μ-loop
 add-t c = let f = c .before .before .before .before .before .before .before .before .before .before .before .before .pre .0 .few-tides in omega arith
@@ -25,7 +27,9 @@ loop-less : tie.Need-loop-less Inv-loop μ-loop
 loop-less c = omega arith
 
 loop-again : tie.Need-loop-again Inv-loop μ-loop
-loop-again c = (omega arith, kept-on (c .before .before .before .before .before .before .before .before .loop .inv .1) (c .before .before .before .before .settle .ensures .1), fixed-more (c .before .before .before .before .before .before .before .before .loop .inv .2) (c .before .before .before .before .settle .ensures .0))
+loop-again c =
+    let turn = c .before .before .before .before .before .before .before .before .loop in
+    (omega arith, kept-on (turn .inv .1) (c .before .before .before .before .settle .ensures .1), fixed-more (turn .inv .2) (c .before .before .before .before .settle .ensures .0))
 
 same-length : tie.Need-same-length Inv-loop μ-loop
 same-length c = c .before .loop .inv .2 .same-length

@@ -58,7 +58,10 @@ loop-again c =
     (omega arith, greatest-more _ (l .u) (c .before .inside .result) (l .best) (c .greater .result) (l .inv .1) (rw w (c .before .inside .ensures)) (c .greater .ensures))
 
 returns : tie.Need-returns Inv-loop μ-loop
-returns c = let e : c .before .loop .u ≡ c .before .before .before .before .args .t = omega arith in c .before .loop .inv .1 ∙ ap (farthestOf (c .before .before .before .before .args .distances .now) (c .before .before .before .before .args .n) (labels (c .before .before .before .before .args .list .now)) (c .before .before .before .before .args .t)) e
+returns c =
+    let args = c .before .before .before .before .args in
+    let e : c .before .loop .u ≡ args .t = omega arith in
+    c .before .loop .inv .1 ∙ ap (farthestOf (args .distances .now) (args .n) (labels (args .list .now)) (args .t)) e
 
 pub farthest-spec : {M : Type 1} → statement M
 farthest-spec =

@@ -18,7 +18,9 @@ loop-holds : tie.Need-loop-holds Inv-loop μ-loop
 loop-holds c = (omega arith, c .before .before .pre .1 .1 .1)
 
 farthest-requires : tie.Need-farthest-requires Inv-loop μ-loop
-farthest-requires c κs = (c .before .before .before .before .pre .0 .0, c .loop-test .taken, c .before .before .before .before .pre .0 .1, c .before .before .before .before .pre .0 .2)
+farthest-requires c κs =
+    let pre = c .before .before .before .before .pre in
+    (pre .0 .0, c .loop-test .taken, pre .0 .1, pre .0 .2)
 
 shared-slice-read-wide : tie.Need-shared-slice-read-wide Inv-loop μ-loop
 shared-slice-read-wide c = omega arith
@@ -28,38 +30,88 @@ wide-requires c κs = search needs
 
 sub-m : tie.Need-sub-m Inv-loop μ-loop
 unfolding labels
-sub-m c = let a = c .before .before .before .before .before .before .before .pre .1 .0 (c .before .before .before .before .loop .t) (c .before .before .before .loop-test .taken) in let b = c .before .before .before .before .before .before .before .pre .1 .1 .0 (c .before .before .before .before .loop .t) (c .before .before .before .loop-test .taken) in let w = c .wide .ensures in omega arith
+sub-m c =
+    let turn = c .before .before .before .before .loop in
+    let pre = c .before .before .before .before .before .before .before .pre in
+    let a = pre .1 .0 (turn .t) (c .before .before .before .loop-test .taken) in
+    let b = pre .1 .1 .0 (turn .t) (c .before .before .before .loop-test .taken) in
+    let w = c .wide .ensures in
+    omega arith
 
 element-copy-out-sizes : tie.Need-element-copy-out-sizes Inv-loop μ-loop
 unfolding labels
-element-copy-out-sizes c = let a = c .before .before .before .before .before .before .before .pre .1 .0 (c .before .before .before .before .loop .t) (c .before .before .before .loop-test .taken) in let b = c .before .before .before .before .before .before .before .pre .1 .1 .0 (c .before .before .before .before .loop .t) (c .before .before .before .loop-test .taken) in let w = c .wide .ensures in omega arith
+element-copy-out-sizes c =
+    let turn = c .before .before .before .before .loop in
+    let pre = c .before .before .before .before .before .before .before .pre in
+    let a = pre .1 .0 (turn .t) (c .before .before .before .loop-test .taken) in
+    let b = pre .1 .1 .0 (turn .t) (c .before .before .before .loop-test .taken) in
+    let w = c .wide .ensures in
+    omega arith
 
 add-sizes : tie.Need-add-sizes Inv-loop μ-loop
 unfolding labels
-add-sizes c = let a = c .before .before .before .before .before .before .before .before .pre .1 .0 (c .before .before .before .before .before .loop .t) (c .before .before .before .before .loop-test .taken) in let b = c .before .before .before .before .before .before .before .before .pre .1 .1 .0 (c .before .before .before .before .before .loop .t) (c .before .before .before .before .loop-test .taken) in let w = c .before .wide .ensures in let q = measured-small (c .before .before .before .before .before .loop .inv .1) (c .before .wide .result - 1) (omega arith) in let f = c .before .before .before .before .before .before .before .before .pre .0 .0 in omega arith
+add-sizes c =
+    let turn = c .before .before .before .before .before .loop in
+    let pre = c .before .before .before .before .before .before .before .before .pre in
+    let a = pre .1 .0 (turn .t) (c .before .before .before .before .loop-test .taken) in
+    let b = pre .1 .1 .0 (turn .t) (c .before .before .before .before .loop-test .taken) in
+    let w = c .before .wide .ensures in
+    let q = measured-small (turn .inv .1) (c .before .wide .result - 1) (omega arith) in
+    let f = pre .0 .0 in
+    omega arith
 
 element-write-sizes : tie.Need-element-write-sizes Inv-loop μ-loop
 unfolding labels
-element-write-sizes c = let a = c .before .before .before .before .before .before .before .before .pre .1 .0 (c .before .before .before .before .before .loop .t) (c .before .before .before .before .loop-test .taken) in let b = c .before .before .before .before .before .before .before .before .pre .1 .1 .0 (c .before .before .before .before .before .loop .t) (c .before .before .before .before .loop-test .taken) in let w = c .before .wide .ensures in omega arith
+element-write-sizes c =
+    let turn = c .before .before .before .before .before .loop in
+    let pre = c .before .before .before .before .before .before .before .before .pre in
+    let a = pre .1 .0 (turn .t) (c .before .before .before .before .loop-test .taken) in
+    let b = pre .1 .1 .0 (turn .t) (c .before .before .before .before .loop-test .taken) in
+    let w = c .before .wide .ensures in
+    omega arith
 
 mul-greater : tie.Need-mul-greater Inv-loop μ-loop
 unfolding labels
-mul-greater c = let a = c .before .before .before .before .before .before .before .before .pre .1 .0 (c .before .before .before .before .before .loop .t) (c .before .before .before .before .loop-test .taken) in let b = c .before .before .before .before .before .before .before .before .pre .1 .1 .0 (c .before .before .before .before .before .loop .t) (c .before .before .before .before .loop-test .taken) in let w = c .before .wide .ensures in omega arith
+mul-greater c =
+    let turn = c .before .before .before .before .before .loop in
+    let pre = c .before .before .before .before .before .before .before .before .pre in
+    let a = pre .1 .0 (turn .t) (c .before .before .before .before .loop-test .taken) in
+    let b = pre .1 .1 .0 (turn .t) (c .before .before .before .before .loop-test .taken) in
+    let w = c .before .wide .ensures in
+    omega arith
 
 element-copy-out-greater : tie.Need-element-copy-out-greater Inv-loop μ-loop
 unfolding labels
-element-copy-out-greater c = let a = c .before .before .before .before .before .before .before .before .pre .1 .0 (c .before .before .before .before .before .loop .t) (c .before .before .before .before .loop-test .taken) in let b = c .before .before .before .before .before .before .before .before .pre .1 .1 .0 (c .before .before .before .before .before .loop .t) (c .before .before .before .before .loop-test .taken) in let w = c .before .wide .ensures in omega arith
+element-copy-out-greater c =
+    let turn = c .before .before .before .before .before .loop in
+    let pre = c .before .before .before .before .before .before .before .before .pre in
+    let a = pre .1 .0 (turn .t) (c .before .before .before .before .loop-test .taken) in
+    let b = pre .1 .1 .0 (turn .t) (c .before .before .before .before .loop-test .taken) in
+    let w = c .before .wide .ensures in
+    omega arith
 
 greater-requires : tie.Need-greater-requires Inv-loop μ-loop
 greater-requires c κs = search needs
 
 mul-diameters : tie.Need-mul-diameters Inv-loop μ-loop
 unfolding labels
-mul-diameters c = let a = c .before .before .before .before .before .before .before .before .before .before .pre .1 .0 (c .before .before .before .before .before .before .before .loop .t) (c .before .before .before .before .before .before .loop-test .taken) in let b = c .before .before .before .before .before .before .before .before .before .before .pre .1 .1 .0 (c .before .before .before .before .before .before .before .loop .t) (c .before .before .before .before .before .before .loop-test .taken) in let w = c .before .before .before .wide .ensures in omega arith
+mul-diameters c =
+    let turn = c .before .before .before .before .before .before .before .loop in
+    let pre = c .before .before .before .before .before .before .before .before .before .before .pre in
+    let a = pre .1 .0 (turn .t) (c .before .before .before .before .before .before .loop-test .taken) in
+    let b = pre .1 .1 .0 (turn .t) (c .before .before .before .before .before .before .loop-test .taken) in
+    let w = c .before .before .before .wide .ensures in
+    omega arith
 
 element-write-diameters : tie.Need-element-write-diameters Inv-loop μ-loop
 unfolding labels
-element-write-diameters c = let a = c .before .before .before .before .before .before .before .before .before .before .pre .1 .0 (c .before .before .before .before .before .before .before .loop .t) (c .before .before .before .before .before .before .loop-test .taken) in let b = c .before .before .before .before .before .before .before .before .before .before .pre .1 .1 .0 (c .before .before .before .before .before .before .before .loop .t) (c .before .before .before .before .before .before .loop-test .taken) in let w = c .before .before .before .wide .ensures in omega arith
+element-write-diameters c =
+    let turn = c .before .before .before .before .before .before .before .loop in
+    let pre = c .before .before .before .before .before .before .before .before .before .before .pre in
+    let a = pre .1 .0 (turn .t) (c .before .before .before .before .before .before .loop-test .taken) in
+    let b = pre .1 .1 .0 (turn .t) (c .before .before .before .before .before .before .loop-test .taken) in
+    let w = c .before .before .before .wide .ensures in
+    omega arith
 
 greater-requires-2 : tie.Need-greater-requires-2 Inv-loop μ-loop
 greater-requires-2 c κs = search needs
@@ -72,7 +124,13 @@ loop-less c = omega arith
 
 loop-again : tie.Need-loop-again Inv-loop μ-loop
 unfolding labels
-loop-again c = let a = c .before .before .before .before .before .before .before .before .before .before .before .pre .1 .0 (c .before .before .before .before .before .before .before .before .loop .t) (c .before .before .before .before .before .before .before .loop-test .taken) in let b = c .before .before .before .before .before .before .before .before .before .before .before .pre .1 .1 .0 (c .before .before .before .before .before .before .before .before .loop .t) (c .before .before .before .before .before .before .before .loop-test .taken) in let w = c .before .before .before .before .wide .ensures in (omega arith, measured-more (c .before .before .before .before .before .before .before .before .loop .inv .1) (c .before .before .before .before .wide .result - 1) (omega arith) (omega arith) (c .before .before .before .before .before .before .farthest .result) (c .before .greater .result) (c .greater2 .result) (c .before .before .before .before .before .before .farthest .ensures) (c .before .greater .ensures) (c .greater2 .ensures))
+loop-again c =
+    let turn = c .before .before .before .before .before .before .before .before .loop in
+    let pre = c .before .before .before .before .before .before .before .before .before .before .before .pre in
+    let a = pre .1 .0 (turn .t) (c .before .before .before .before .before .before .before .loop-test .taken) in
+    let b = pre .1 .1 .0 (turn .t) (c .before .before .before .before .before .before .before .loop-test .taken) in
+    let w = c .before .before .before .before .wide .ensures in
+    (omega arith, measured-more (turn .inv .1) (c .before .before .before .before .wide .result - 1) (omega arith) (omega arith) (c .before .before .before .before .before .before .farthest .result) (c .before .greater .result) (c .greater2 .result) (c .before .before .before .before .before .before .farthest .ensures) (c .before .greater .ensures) (c .greater2 .ensures))
 
 returns : tie.Need-returns Inv-loop μ-loop
 returns c = let e : c .before .loop .t ≡ c .before .before .before .before .args .n = omega arith in measured-done e (c .before .loop .inv .1)

@@ -19,7 +19,9 @@ unfolding widestOf
 loop-holds c = (omega arith, greatest-none _)
 
 farthest-requires : tie.Need-farthest-requires Inv-loop μ-loop
-farthest-requires c κs = (c .before .before .before .before .pre .0, c .loop-test .taken, c .before .before .before .before .pre .1, c .before .before .before .before .pre .2)
+farthest-requires c κs =
+    let pre = c .before .before .before .before .pre in
+    (pre .0, c .loop-test .taken, pre .1, pre .2)
 
 greater-requires : tie.Need-greater-requires Inv-loop μ-loop
 greater-requires c κs = search needs
@@ -32,10 +34,15 @@ loop-less c = omega arith
 
 loop-again : tie.Need-loop-again Inv-loop μ-loop
 unfolding widestOf
-loop-again c = (omega arith, greatest-more _ (c .before .before .before .loop .t) (c .before .farthest .result) (c .before .before .before .loop .best) (c .greater .result) (c .before .before .before .loop .inv .1) (c .before .farthest .ensures) (c .greater .ensures))
+loop-again c =
+    let turn = c .before .before .before .loop in
+    (omega arith, greatest-more _ (turn .t) (c .before .farthest .result) (turn .best) (c .greater .result) (turn .inv .1) (c .before .farthest .ensures) (c .greater .ensures))
 
 returns : tie.Need-returns Inv-loop μ-loop
-returns c = let e : c .before .loop .t ≡ c .before .before .before .before .args .n = omega arith in c .before .loop .inv .1 ∙ ap (widestOf (c .before .before .before .before .args .distances .now) (c .before .before .before .before .args .n) (labels (c .before .before .before .before .args .list .now))) e
+returns c =
+    let args = c .before .before .before .before .args in
+    let e : c .before .loop .t ≡ args .n = omega arith in
+    c .before .loop .inv .1 ∙ ap (widestOf (args .distances .now) (args .n) (labels (args .list .now))) e
 
 pub widest-spec : {M : Type 1} → statement M
 widest-spec =

@@ -23,10 +23,14 @@ loop-holds : tie.Need-loop-holds Inv-loop μ-loop
 loop-holds c = (omega arith, every-none _)
 
 near-marked-requires : tie.Need-near-marked-requires Inv-loop μ-loop
-near-marked-requires c κs = (c .before .before .before .before .before .before .before .pre .few, c .before .before .before .before .before .before .before .pre .distances-long, c .before .loop-test .taken)
+near-marked-requires c κs =
+    let pre = c .before .before .before .before .before .before .before .pre in
+    (pre .few, pre .distances-long, c .before .loop-test .taken)
 
 returns : tie.Need-returns Inv-loop μ-loop
-returns c = sym (every-fails _ _ _ (c .before .before .before .loop-test .taken) (test-fails (c .before .near-marked .ensures) (c .if1 .taken))) ∙ (covers-marked _ (c .before .before .before .before .before .before .before .before .before .args .distances .now) (c .before .before .before .before .before .before .before .before .before .args .settings .now) (c .before .before .before .before .before .before .before .before .before .args .n) (c .before .before .before .before .before .before .before .before .before .args .minima) (c .before .before .before .before .before .before .before .before .before .args .g) (c .before .before .before .before .before .mark-balls .ensures))
+returns c =
+    let args = c .before .before .before .before .before .before .before .before .before .args in
+    sym (every-fails _ _ _ (c .before .before .before .loop-test .taken) (test-fails (c .before .near-marked .ensures) (c .if1 .taken))) ∙ (covers-marked _ (args .distances .now) (args .settings .now) (args .n) (args .minima) (args .g) (c .before .before .before .before .before .mark-balls .ensures))
 
 add-t : tie.Need-add-t Inv-loop μ-loop
 add-t c = omega arith
@@ -38,7 +42,9 @@ loop-again : tie.Need-loop-again Inv-loop μ-loop
 loop-again c = (omega arith, every-more _ _ (c .before .before .before .before .loop .inv .1) (test-passes (c .before .near-marked .ensures) (c .if1 .left)))
 
 returns-2 : tie.Need-returns-2 Inv-loop μ-loop
-returns-2 c = sym (every-done _ _ _ (omega arith) (omega arith) (c .before .loop .inv .1)) ∙ (covers-marked _ (c .before .before .before .before .before .before .args .distances .now) (c .before .before .before .before .before .before .args .settings .now) (c .before .before .before .before .before .before .args .n) (c .before .before .before .before .before .before .args .minima) (c .before .before .before .before .before .before .args .g) (c .before .before .mark-balls .ensures))
+returns-2 c =
+    let args = c .before .before .before .before .before .before .args in
+    sym (every-done _ _ _ (omega arith) (omega arith) (c .before .loop .inv .1)) ∙ (covers-marked _ (args .distances .now) (args .settings .now) (args .n) (args .minima) (args .g) (c .before .before .mark-balls .ensures))
 
 pub covered-spec : {M : Type 1} → statement M
 covered-spec =

@@ -32,10 +32,17 @@ loop-less : tie.Need-loop-less Inv-loop μ-loop
 loop-less c = omega arith
 
 loop-again : tie.Need-loop-again Inv-loop μ-loop
-loop-again c = let f = c .before .before .before .before .before .pre .0 .few in (omega arith, overwrite-step (λ x. bit (meets (c .before .before .before .before .before .args .minima) (c .before .before .before .before .before .args .n) (λ t. getD (c .before .before .before .before .before .args .settings .now) t 0) (ball (c .before .before .before .before .before .args .distances .now) x (c .before .before .before .before .before .args .g)))) _ (c .ball-mark .result) (c .before .before .loop .inv .1) (c .ball-mark .ensures) (omega (arith, c .before .before .before .before .before .pre .1)))
+loop-again c =
+    let args = c .before .before .before .before .before .args in
+    let pre = c .before .before .before .before .before .pre in
+    let f = pre .0 .few in
+    (omega arith, overwrite-step (λ x. bit (meets (args .minima) (args .n) (λ t. getD (args .settings .now) t 0) (ball (args .distances .now) x (args .g)))) _ (c .ball-mark .result) (c .before .before .loop .inv .1) (c .ball-mark .ensures) (omega (arith, pre .1)))
 
 returns : tie.Need-returns Inv-loop μ-loop
-returns c = let e : c .before .loop .c ≡ c .before .before .before .before .args .n = omega arith in overwrite-done (λ x. bit (meets (c .before .before .before .before .args .minima) (c .before .before .before .before .args .n) (λ t. getD (c .before .before .before .before .args .settings .now) t 0) (ball (c .before .before .before .before .args .distances .now) x (c .before .before .before .before .args .g)))) _ e (c .before .loop .inv .1)
+returns c =
+    let args = c .before .before .before .before .args in
+    let e : c .before .loop .c ≡ args .n = omega arith in
+    overwrite-done (λ x. bit (meets (args .minima) (args .n) (λ t. getD (args .settings .now) t 0) (ball (args .distances .now) x (args .g)))) _ e (c .before .loop .inv .1)
 
 pub mark-balls-spec : {M : Type 1} → statement M
 mark-balls-spec =

@@ -40,7 +40,13 @@ shared-slice-read-if1 : tie.Need-shared-slice-read-if1 Inv-loop μ-loop
 shared-slice-read-if1 c = let h = c .before .before .before .before .pre .1 (c .before .before .before .loop .m) (c .before .before .loop-test .taken) in omega arith
 
 returns : tie.Need-returns Inv-loop μ-loop
-returns c = let h = c .before .before .before .before .before .pre .1 (c .before .before .before .before .loop .m) (c .before .before .before .loop-test .taken) in let w = within-is (c .before .before .before .before .before .args .distances .now) (c .before .before .before .before .before .args .n) (getD (c .before .before .before .before .before .args .centres .now) (c .before .before .before .before .loop .m) 0) (c .before .before .before .before .before .args .t) h (c .before .before .before .before .before .pre .0 .4) in sym (all-fails (λ x. ltb (c .before .before .before .before .before .args .g) (within (c .before .before .before .before .before .args .distances .now) (c .before .before .before .before .before .args .n) x (c .before .before .before .before .before .args .t))) (c .before .before .before .before .before .args .centres .now) (c .before .before .before .before .loop .m) (c .before .before .before .before .before .args .count) (c .before .before .before .loop-test .taken) (omega arith) (le→nltb (c .before .before .before .before .before .args .g) (within (c .before .before .before .before .before .args .distances .now) (c .before .before .before .before .before .args .n) (getD (c .before .before .before .before .before .args .centres .now) (c .before .before .before .before .loop .m) 0) (c .before .before .before .before .before .args .t)) (omega arith)))
+returns c =
+    let args = c .before .before .before .before .before .args in
+    let turn = c .before .before .before .before .loop in
+    let pre = c .before .before .before .before .before .pre in
+    let h = pre .1 (turn .m) (c .before .before .before .loop-test .taken) in
+    let w = within-is (args .distances .now) (args .n) (getD (args .centres .now) (turn .m) 0) (args .t) h (pre .0 .4) in
+    sym (all-fails (λ x. ltb (args .g) (within (args .distances .now) (args .n) x (args .t))) (args .centres .now) (turn .m) (args .count) (c .before .before .before .loop-test .taken) (omega arith) (le→nltb (args .g) (within (args .distances .now) (args .n) (getD (args .centres .now) (turn .m) 0) (args .t)) (omega arith)))
 
 add-m : tie.Need-add-m Inv-loop μ-loop
 add-m c = omega arith
@@ -49,10 +55,19 @@ loop-less : tie.Need-loop-less Inv-loop μ-loop
 loop-less c = omega arith
 
 loop-again : tie.Need-loop-again Inv-loop μ-loop
-loop-again c = let h = c .before .before .before .before .before .pre .1 (c .before .before .before .before .loop .m) (c .before .before .before .loop-test .taken) in let w = within-is (c .before .before .before .before .before .args .distances .now) (c .before .before .before .before .before .args .n) (getD (c .before .before .before .before .before .args .centres .now) (c .before .before .before .before .loop .m) 0) (c .before .before .before .before .before .args .t) h (c .before .before .before .before .before .pre .0 .4) in (omega arith, all-more (λ x. ltb (c .before .before .before .before .before .args .g) (within (c .before .before .before .before .before .args .distances .now) (c .before .before .before .before .before .args .n) x (c .before .before .before .before .before .args .t))) (c .before .before .before .before .before .args .centres .now) (c .before .before .before .before .loop .m) (omega arith) (c .before .before .before .before .loop .inv .1) (lt→ltb (c .before .before .before .before .before .args .g) (within (c .before .before .before .before .before .args .distances .now) (c .before .before .before .before .before .args .n) (getD (c .before .before .before .before .before .args .centres .now) (c .before .before .before .before .loop .m) 0) (c .before .before .before .before .before .args .t)) (omega arith)))
+loop-again c =
+    let args = c .before .before .before .before .before .args in
+    let turn = c .before .before .before .before .loop in
+    let pre = c .before .before .before .before .before .pre in
+    let h = pre .1 (turn .m) (c .before .before .before .loop-test .taken) in
+    let w = within-is (args .distances .now) (args .n) (getD (args .centres .now) (turn .m) 0) (args .t) h (pre .0 .4) in
+    (omega arith, all-more (λ x. ltb (args .g) (within (args .distances .now) (args .n) x (args .t))) (args .centres .now) (turn .m) (omega arith) (turn .inv .1) (lt→ltb (args .g) (within (args .distances .now) (args .n) (getD (args .centres .now) (turn .m) 0) (args .t)) (omega arith)))
 
 returns-2 : tie.Need-returns-2 Inv-loop μ-loop
-returns-2 c = let e : c .before .loop .m ≡ c .before .before .args .count = omega arith in sym (T-true _ (subst (λ z. T (all (λ x. ltb (c .before .before .args .g) (within (c .before .before .args .distances .now) (c .before .before .args .n) x (c .before .before .args .t))) (take z (c .before .before .args .centres .now)))) e (c .before .loop .inv .1)))
+returns-2 c =
+    let args = c .before .before .args in
+    let e : c .before .loop .m ≡ args .count = omega arith in
+    sym (T-true _ (subst (λ z. T (all (λ x. ltb (args .g) (within (args .distances .now) (args .n) x (args .t))) (take z (args .centres .now)))) e (c .before .loop .inv .1)))
 
 pub far-from-spec : {M : Type 1} → statement M
 far-from-spec =

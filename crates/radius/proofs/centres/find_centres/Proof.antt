@@ -18,16 +18,37 @@ loop-holds : tie.Need-loop-holds Inv-loop μ-loop
 loop-holds c = (omega arith, centres-start (within (c .before .args .distances .now) (c .before .args .n)) (c .before .args .g) _ (c .before .pre .2))
 
 far-from-requires : tie.Need-far-from-requires Inv-loop μ-loop
-far-from-requires c κs = let F = c .before .before .loop .inv .1 in let q = centres-few (within (c .before .before .before .before .args .distances .now) (c .before .before .before .before .args .n)) (c .before .before .before .before .args .g) (c .before .before .loop .t) in ((c .before .before .before .before .pre .0, c .before .before .before .before .pre .1, F .size, omega (arith, F .long), c .before .loop-test .taken), λ m l. let h = centres-below (within (c .before .before .before .before .args .distances .now) (c .before .before .before .before .args .n)) (c .before .before .before .before .args .g) (c .before .before .loop .t) F m l in omega arith)
+far-from-requires c κs =
+    let args = c .before .before .before .before .args in
+    let turn = c .before .before .loop in
+    let pre = c .before .before .before .before .pre in
+    let F = turn .inv .1 in
+    let q = centres-few (within (args .distances .now) (args .n)) (args .g) (turn .t) in
+    ((pre .0, pre .1, F .size, omega (arith, F .long), c .before .loop-test .taken), λ m l. let h = centres-below (within (args .distances .now) (args .n)) (args .g) (turn .t) F m l in omega arith)
 
 mul-centres : tie.Need-mul-centres Inv-loop μ-loop
-mul-centres c = let F = c .before .before .before .before .loop .inv .1 in let q = centres-few (within (c .before .before .before .before .before .before .args .distances .now) (c .before .before .before .before .before .before .args .n)) (c .before .before .before .before .before .before .args .g) (c .before .before .before .before .loop .t) in omega (arith, F .long)
+mul-centres c =
+    let args = c .before .before .before .before .before .before .args in
+    let turn = c .before .before .before .before .loop in
+    let F = turn .inv .1 in
+    let q = centres-few (within (args .distances .now) (args .n)) (args .g) (turn .t) in
+    omega (arith, F .long)
 
 element-write-centres : tie.Need-element-write-centres Inv-loop μ-loop
-element-write-centres c = let F = c .before .before .before .before .loop .inv .1 in let q = centres-few (within (c .before .before .before .before .before .before .args .distances .now) (c .before .before .before .before .before .before .args .n)) (c .before .before .before .before .before .before .args .g) (c .before .before .before .before .loop .t) in omega (arith, F .long)
+element-write-centres c =
+    let args = c .before .before .before .before .before .before .args in
+    let turn = c .before .before .before .before .loop in
+    let F = turn .inv .1 in
+    let q = centres-few (within (args .distances .now) (args .n)) (args .g) (turn .t) in
+    omega (arith, F .long)
 
 add-count : tie.Need-add-count Inv-loop μ-loop
-add-count c = let F = c .before .before .before .before .loop .inv .1 in let q = centres-few (within (c .before .before .before .before .before .before .args .distances .now) (c .before .before .before .before .before .before .args .n)) (c .before .before .before .before .before .before .args .g) (c .before .before .before .before .loop .t) in omega (arith, F .long)
+add-count c =
+    let args = c .before .before .before .before .before .before .args in
+    let turn = c .before .before .before .before .loop in
+    let F = turn .inv .1 in
+    let q = centres-few (within (args .distances .now) (args .n)) (args .g) (turn .t) in
+    omega (arith, F .long)
 
 add-t : tie.Need-add-t Inv-loop μ-loop
 add-t c = omega arith
@@ -36,7 +57,10 @@ loop-less : tie.Need-loop-less Inv-loop μ-loop
 loop-less c = omega arith
 
 loop-again : tie.Need-loop-again Inv-loop μ-loop
-loop-again c = (omega arith, centres-hit (within (c .before .before .before .before .before .before .args .distances .now) (c .before .before .before .before .before .before .args .n)) (c .before .before .before .before .before .before .args .g) (c .before .before .before .before .loop .t) (c .before .before .before .before .loop .inv .1) (sym (c .if1 .taken) ∙ c .before .far-from .ensures) (omega arith))
+loop-again c =
+    let args = c .before .before .before .before .before .before .args in
+    let turn = c .before .before .before .before .loop in
+    (omega arith, centres-hit (within (args .distances .now) (args .n)) (args .g) (turn .t) (turn .inv .1) (sym (c .if1 .taken) ∙ c .before .far-from .ensures) (omega arith))
 
 add-t-2 : tie.Need-add-t-2 Inv-loop μ-loop
 add-t-2 c = omega arith
@@ -45,10 +69,16 @@ loop-less-2 : tie.Need-loop-less-2 Inv-loop μ-loop
 loop-less-2 c = omega arith
 
 loop-again-2 : tie.Need-loop-again-2 Inv-loop μ-loop
-loop-again-2 c = (omega arith, centres-miss (within (c .before .before .before .before .before .before .args .distances .now) (c .before .before .before .before .before .before .args .n)) (c .before .before .before .before .before .before .args .g) (c .before .before .before .before .loop .t) (c .before .before .before .before .loop .inv .1) (sym (c .if1 .left) ∙ c .before .far-from .ensures))
+loop-again-2 c =
+    let args = c .before .before .before .before .before .before .args in
+    let turn = c .before .before .before .before .loop in
+    (omega arith, centres-miss (within (args .distances .now) (args .n)) (args .g) (turn .t) (turn .inv .1) (sym (c .if1 .left) ∙ c .before .far-from .ensures))
 
 returns : tie.Need-returns Inv-loop μ-loop
-returns c = let e : c .before .loop .t ≡ c .before .before .before .args .n = omega arith in record { front = subst (λ z. Front (c .before .loop .centres) (c .before .loop .count) (centresAmong (within (c .before .before .before .args .distances .now) (c .before .before .before .args .n)) (c .before .before .before .args .g) z)) e (c .before .loop .inv .1) }
+returns c =
+    let args = c .before .before .before .args in
+    let e : c .before .loop .t ≡ args .n = omega arith in
+    record { front = subst (λ z. Front (c .before .loop .centres) (c .before .loop .count) (centresAmong (within (args .distances .now) (args .n)) (args .g) z)) e (c .before .loop .inv .1) }
 
 pub find-centres-spec : {M : Type 1} → statement M
 find-centres-spec =

@@ -45,7 +45,12 @@ wide-requires-2 c κs = search needs
 
 returns-2 : tie.Need-returns-2 Inv-loop μ-loop
 unfolding met
-returns-2 c = let e = c .before .wide2 .ensures in let h = c .before .before .before .before .before .before .before .wide .ensures in rw (le-leb (c .before .before .before .before .before .before .before .before .args .minima .b0) (c .before .before .before .before .before .before .before .before .args .found) (omega arith), every-fails (enough (c .before .before .before .before .before .before .before .before .args .minima .b) (c .before .before .before .before .before .before .before .before .args .counts .now)) 8 (c .before .before .before .before .loop .j) (c .before .before .before .loop-test .taken) (lt-leb (getD (c .before .before .before .before .before .before .before .before .args .minima .b) (c .before .before .before .before .loop .j) 0) (getD (c .before .before .before .before .before .before .before .before .args .counts .now) (c .before .before .before .before .loop .j + 1) 0) (omega arith)))
+returns-2 c =
+    let args = c .before .before .before .before .before .before .before .before .args in
+    let turn = c .before .before .before .before .loop in
+    let e = c .before .wide2 .ensures in
+    let h = c .before .before .before .before .before .before .before .wide .ensures in
+    rw (le-leb (args .minima .b0) (args .found) (omega arith), every-fails (enough (args .minima .b) (args .counts .now)) 8 (turn .j) (c .before .before .before .loop-test .taken) (lt-leb (getD (args .minima .b) (turn .j) 0) (getD (args .counts .now) (turn .j + 1) 0) (omega arith)))
 
 add-j : tie.Need-add-j Inv-loop μ-loop
 add-j c = omega arith
@@ -54,11 +59,18 @@ loop-less : tie.Need-loop-less Inv-loop μ-loop
 loop-less c = omega arith
 
 loop-again : tie.Need-loop-again Inv-loop μ-loop
-loop-again c = let e = c .before .wide2 .ensures in (omega arith, every-more _ _ (c .before .before .before .before .loop .inv .1) (le-leb (getD (c .before .before .before .before .before .before .before .before .args .minima .b) (c .before .before .before .before .loop .j) 0) (getD (c .before .before .before .before .before .before .before .before .args .counts .now) (c .before .before .before .before .loop .j + 1) 0) (omega arith)))
+loop-again c =
+    let args = c .before .before .before .before .before .before .before .before .args in
+    let turn = c .before .before .before .before .loop in
+    let e = c .before .wide2 .ensures in
+    (omega arith, every-more _ _ (turn .inv .1) (le-leb (getD (args .minima .b) (turn .j) 0) (getD (args .counts .now) (turn .j + 1) 0) (omega arith)))
 
 returns-3 : tie.Need-returns-3 Inv-loop μ-loop
 unfolding met
-returns-3 c = let h = c .before .before .before .before .wide .ensures in rw (le-leb (c .before .before .before .before .before .args .minima .b0) (c .before .before .before .before .before .args .found) (omega arith), every-done (enough (c .before .before .before .before .before .args .minima .b) (c .before .before .before .before .before .args .counts .now)) (c .before .loop .j) 8 (c .before .loop .inv .0) (c .loop-test .left) (c .before .loop .inv .1))
+returns-3 c =
+    let args = c .before .before .before .before .before .args in
+    let h = c .before .before .before .before .wide .ensures in
+    rw (le-leb (args .minima .b0) (args .found) (omega arith), every-done (enough (args .minima .b) (args .counts .now)) (c .before .loop .j) 8 (c .before .loop .inv .0) (c .loop-test .left) (c .before .loop .inv .1))
 
 pub counts-meet-spec : {M : Type 1} → statement M
 counts-meet-spec =

@@ -36,7 +36,10 @@ loop-less : tie.Need-loop-less Inv-loop μ-loop
 loop-less c = omega arith
 
 loop-again : tie.Need-loop-again Inv-loop μ-loop
-loop-again c = (omega arith, omega arith, ap (λ x. x + 1) (c .before .before .before .before .loop .inv .2) ∙ sym (count-yes (c .before .before .before .before .loop .t) (λ u. eqb (getD (c .before .before .before .before .before .before .args .settings .now) u 0) (c .before .before .before .before .before .before .args .j)) (eq→eqb _ _ (sym (c .before .wide .ensures .0) ∙ c .if1 .taken))))
+loop-again c =
+    let args = c .before .before .before .before .before .before .args in
+    let turn = c .before .before .before .before .loop in
+    (omega arith, omega arith, ap (λ x. x + 1) (turn .inv .2) ∙ sym (count-yes (turn .t) (λ u. eqb (getD (args .settings .now) u 0) (args .j)) (eq→eqb _ _ (sym (c .before .wide .ensures .0) ∙ c .if1 .taken))))
 
 add-t-2 : tie.Need-add-t-2 Inv-loop μ-loop
 add-t-2 c = omega arith
@@ -45,10 +48,16 @@ loop-less-2 : tie.Need-loop-less-2 Inv-loop μ-loop
 loop-less-2 c = omega arith
 
 loop-again-2 : tie.Need-loop-again-2 Inv-loop μ-loop
-loop-again-2 c = (omega arith, omega arith, c .before .before .before .before .loop .inv .2 ∙ sym (count-no (c .before .before .before .before .loop .t) (λ u. eqb (getD (c .before .before .before .before .before .before .args .settings .now) u 0) (c .before .before .before .before .before .before .args .j)) (λ q. c .if1 .left (c .before .wide .ensures .0 ∙ eqb→eq (getD (c .before .before .before .before .before .before .args .settings .now) (c .before .before .before .before .loop .t) 0) (c .before .before .before .before .before .before .args .j) q))))
+loop-again-2 c =
+    let args = c .before .before .before .before .before .before .args in
+    let turn = c .before .before .before .before .loop in
+    (omega arith, omega arith, turn .inv .2 ∙ sym (count-no (turn .t) (λ u. eqb (getD (args .settings .now) u 0) (args .j)) (λ q. c .if1 .left (c .before .wide .ensures .0 ∙ eqb→eq (getD (args .settings .now) (turn .t) 0) (args .j) q))))
 
 returns : tie.Need-returns Inv-loop μ-loop
-returns c = let e : c .before .loop .t ≡ c .before .before .before .args .n = omega arith in c .before .loop .inv .2 ∙ ap (λ z. count z (λ u. eqb (getD (c .before .before .before .args .settings .now) u 0) (c .before .before .before .args .j))) e
+returns c =
+    let args = c .before .before .before .args in
+    let e : c .before .loop .t ≡ args .n = omega arith in
+    c .before .loop .inv .2 ∙ ap (λ z. count z (λ u. eqb (getD (args .settings .now) u 0) (args .j))) e
 
 pub count-setting-spec : {M : Type 1} → statement M
 count-setting-spec =

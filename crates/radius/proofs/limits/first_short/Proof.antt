@@ -23,7 +23,9 @@ element-copy-out-ball-meets : tie.Need-element-copy-out-ball-meets Inv-loop μ-l
 element-copy-out-ball-meets c = omega arith
 
 ball-meets-requires : tie.Need-ball-meets-requires Inv-loop μ-loop
-ball-meets-requires c κs = (c .before .before .before .before .before .pre .0, c .before .before .before .before .before .pre .1 .1 (c .before .before .loop .m) (c .before .loop-test .taken))
+ball-meets-requires c κs =
+    let pre = c .before .before .before .before .before .pre in
+    (pre .0, pre .1 .1 (c .before .before .loop .m) (c .before .loop-test .taken))
 
 returns : tie.Need-returns Inv-loop μ-loop
 returns c = short-here (c .before .before .before .before .loop .m) (c .before .before .before .loop-test .taken) (sym (c .before .ball-meets .ensures) ∙ not-true _ (c .if1 .taken))

@@ -22,7 +22,9 @@ mul-if1 : tie.Need-mul-if1 Inv-loop μ-loop
 mul-if1 c = let q = product-small (c .before .before .args .count) (c .wide .result) (c .before .before .pre .1) (c .wide .ensures .1) in omega arith
 
 returns : tie.Need-returns Inv-loop μ-loop
-returns c = λ _. inl (let w = c .before .wide .ensures .0 in subst (λ z. c .before .before .before .args .n < c .before .before .before .args .count * z) w (c .if1 .taken))
+returns c =
+    let args = c .before .before .before .args in
+    λ _. inl (let w = c .before .wide .ensures .0 in subst (λ z. args .n < args .count * z) w (c .if1 .taken))
 
 loop-holds : tie.Need-loop-holds Inv-loop μ-loop
 loop-holds c = omega arith
@@ -40,10 +42,14 @@ wide-requires-2 : tie.Need-wide-requires-2 Inv-loop μ-loop
 wide-requires-2 c κs = search needs
 
 mul-if2-2 : tie.Need-mul-if2-2 Inv-loop μ-loop
-mul-if2-2 c = let q = product-small (c .before .before .before .before .before .before .before .before .args .count) (c .wide2 .result) (c .before .before .before .before .before .before .before .before .pre .1) (c .wide2 .ensures .1) in omega arith
+mul-if2-2 c =
+    let q = product-small (c .before .before .before .before .before .before .before .before .args .count) (c .wide2 .result) (c .before .before .before .before .before .before .before .before .pre .1) (c .wide2 .ensures .1) in
+    omega arith
 
 returns-2 : tie.Need-returns-2 Inv-loop μ-loop
-returns-2 c = λ _. many-setting (c .before .before .before .before .before .before .before .before .before .args .minima) (c .before .before .before .before .before .before .before .before .before .args .count) (c .before .wide2 .result) (c .before .before .before .before .loop .j) (c .before .before .before .before .before .before .before .before .before .pre .0) (c .before .before .before .loop-test .taken) (c .before .wide2 .ensures .0) (c .if2 .taken)
+returns-2 c =
+    let args = c .before .before .before .before .before .before .before .before .before .args in
+    λ _. many-setting (args .minima) (args .count) (c .before .wide2 .result) (c .before .before .before .before .loop .j) (c .before .before .before .before .before .before .before .before .before .pre .0) (c .before .before .before .loop-test .taken) (c .before .wide2 .ensures .0) (c .if2 .taken)
 
 add-j : tie.Need-add-j Inv-loop μ-loop
 add-j c = omega arith

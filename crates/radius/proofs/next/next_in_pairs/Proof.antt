@@ -16,7 +16,9 @@ loop-holds : tie.Need-loop-holds Inv-loop μ-loop
 loop-holds c = (omega arith, next-none _ _ _ (λ x v. omega (arith, v .1)))
 
 next-later-requires : tie.Need-next-later-requires Inv-loop μ-loop
-next-later-requires c κs = ((c .before .before .before .pre .0 .0, c .before .before .before .pre .0 .1, c .before .before .before .pre .0 .2, c .loop-test .taken), c .before .before .before .pre .1)
+next-later-requires c κs =
+    let pre = c .before .before .before .pre in
+    ((pre .0 .0, pre .0 .1, pre .0 .2, c .loop-test .taken), pre .1)
 
 add-i : tie.Need-add-i Inv-loop μ-loop
 add-i c = omega arith
@@ -25,10 +27,16 @@ loop-less : tie.Need-loop-less Inv-loop μ-loop
 loop-less c = omega arith
 
 loop-again : tie.Need-loop-again Inv-loop μ-loop
-loop-again c = (omega arith, pairs-step (c .before .before .before .before .args .distances .now) (c .before .before .before .before .args .g) 1048576 (c .before .before .loop .best) (c .next-later .result) (c .before .before .before .before .args .tides .now) (c .before .before .before .before .args .count) (c .before .before .loop .i) (c .before .before .loop .inv .1) (c .next-later .ensures))
+loop-again c =
+    let args = c .before .before .before .before .args in
+    let turn = c .before .before .loop in
+    (omega arith, pairs-step (args .distances .now) (args .g) 1048576 (turn .best) (c .next-later .result) (args .tides .now) (args .count) (turn .i) (turn .inv .1) (c .next-later .ensures))
 
 returns : tie.Need-returns Inv-loop μ-loop
-returns c = let e : c .before .loop .i ≡ c .before .before .before .args .count = omega arith in subst (λ z. Next (InPairs (c .before .before .before .args .distances .now) (c .before .before .before .args .tides .now) (c .before .before .before .args .count) z) (c .before .before .before .args .g) 1048576 (c .before .loop .best)) e (c .before .loop .inv .1)
+returns c =
+    let args = c .before .before .before .args in
+    let e : c .before .loop .i ≡ args .count = omega arith in
+    subst (λ z. Next (InPairs (args .distances .now) (args .tides .now) (args .count) z) (args .g) 1048576 (c .before .loop .best)) e (c .before .loop .inv .1)
 
 pub next-in-pairs-spec : {M : Type 1} → statement M
 next-in-pairs-spec =

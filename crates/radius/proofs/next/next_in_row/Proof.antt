@@ -38,10 +38,16 @@ loop-less : tie.Need-loop-less Inv-loop μ-loop
 loop-less c = omega arith
 
 loop-again : tie.Need-loop-again Inv-loop μ-loop
-loop-again c = (omega arith, row-step (c .before .before .before .before .before .args .distances .now) (c .before .before .before .before .before .args .g) (c .before .before .before .before .before .args .start) (c .before .before .before .loop .best) (c .closer .result) (c .before .before .before .before .before .args .c) (c .before .before .before .loop .t) (c .before .before .before .loop .inv .1) (c .closer .ensures))
+loop-again c =
+    let args = c .before .before .before .before .before .args in
+    let turn = c .before .before .before .loop in
+    (omega arith, row-step (args .distances .now) (args .g) (args .start) (turn .best) (c .closer .result) (args .c) (turn .t) (turn .inv .1) (c .closer .ensures))
 
 returns : tie.Need-returns Inv-loop μ-loop
-returns c = let e : c .before .loop .t ≡ c .before .before .before .args .n = omega arith in subst (λ z. Next (InRow (c .before .before .before .args .distances .now) (c .before .before .before .args .c) z) (c .before .before .before .args .g) (c .before .before .before .args .start) (c .before .loop .best)) e (c .before .loop .inv .1)
+returns c =
+    let args = c .before .before .before .args in
+    let e : c .before .loop .t ≡ args .n = omega arith in
+    subst (λ z. Next (InRow (args .distances .now) (args .c) z) (args .g) (args .start) (c .before .loop .best)) e (c .before .loop .inv .1)
 
 pub next-in-row-spec : {M : Type 1} → statement M
 next-in-row-spec =

@@ -23,7 +23,9 @@ element-copy-out-next-in-row : tie.Need-element-copy-out-next-in-row Inv-loop μ
 element-copy-out-next-in-row c = omega arith
 
 next-in-row-requires : tie.Need-next-in-row-requires Inv-loop μ-loop
-next-in-row-requires c κs = (c .before .before .before .before .pre .0 .0, c .before .before .before .before .pre .1 (c .before .before .loop .m) (c .before .loop-test .taken), c .before .before .before .before .pre .0 .1)
+next-in-row-requires c κs =
+    let pre = c .before .before .before .before .pre in
+    (pre .0 .0, pre .1 (c .before .before .loop .m) (c .before .loop-test .taken), pre .0 .1)
 
 add-m : tie.Need-add-m Inv-loop μ-loop
 add-m c = omega arith
@@ -32,10 +34,16 @@ loop-less : tie.Need-loop-less Inv-loop μ-loop
 loop-less c = omega arith
 
 loop-again : tie.Need-loop-again Inv-loop μ-loop
-loop-again c = (omega arith, rows-step (c .before .before .before .before .before .args .distances .now) (c .before .before .before .before .before .args .g) 1048576 (c .before .before .before .loop .best) (c .next-in-row .result) (c .before .before .before .before .before .args .n) (λ i. getD (c .before .before .before .before .before .args .tides .now) i 0) (c .before .before .before .loop .m) (c .before .before .before .loop .inv .1) (c .next-in-row .ensures))
+loop-again c =
+    let args = c .before .before .before .before .before .args in
+    let turn = c .before .before .before .loop in
+    (omega arith, rows-step (args .distances .now) (args .g) 1048576 (turn .best) (c .next-in-row .result) (args .n) (λ i. getD (args .tides .now) i 0) (turn .m) (turn .inv .1) (c .next-in-row .ensures))
 
 returns : tie.Need-returns Inv-loop μ-loop
-returns c = let e : c .before .loop .m ≡ c .before .before .before .args .count = omega arith in subst (λ z. Next (InRows (c .before .before .before .args .distances .now) (c .before .before .before .args .n) (λ i. getD (c .before .before .before .args .tides .now) i 0) z) (c .before .before .before .args .g) 1048576 (c .before .loop .best)) e (c .before .loop .inv .1)
+returns c =
+    let args = c .before .before .before .args in
+    let e : c .before .loop .m ≡ args .count = omega arith in
+    subst (λ z. Next (InRows (args .distances .now) (args .n) (λ i. getD (args .tides .now) i 0) z) (args .g) 1048576 (c .before .loop .best)) e (c .before .loop .inv .1)
 
 pub next-in-rows-spec : {M : Type 1} → statement M
 next-in-rows-spec =

@@ -35,13 +35,25 @@ element-copy-out-closer : tie.Need-element-copy-out-closer Inv-loop μ-loop
 element-copy-out-closer c = omega arith
 
 add-closer : tie.Need-add-closer Inv-loop μ-loop
-add-closer c = let h = c .before .before .before .before .before .pre .1 (c .before .before .loop .m) (c .before .loop-test .taken) in let k = c .before .before .before .before .before .pre .1 (c .before .before .before .before .before .args .i) (omega arith) in omega arith
+add-closer c =
+    let pre = c .before .before .before .before .before .pre in
+    let h = pre .1 (c .before .before .loop .m) (c .before .loop-test .taken) in
+    let k = pre .1 (c .before .before .before .before .before .args .i) (omega arith) in
+    omega arith
 
 mul-closer-3 : tie.Need-mul-closer-3 Inv-loop μ-loop
-mul-closer-3 c = let h = c .before .before .before .before .before .pre .1 (c .before .before .loop .m) (c .before .loop-test .taken) in let k = c .before .before .before .before .before .pre .1 (c .before .before .before .before .before .args .i) (omega arith) in omega arith
+mul-closer-3 c =
+    let pre = c .before .before .before .before .before .pre in
+    let h = pre .1 (c .before .before .loop .m) (c .before .loop-test .taken) in
+    let k = pre .1 (c .before .before .before .before .before .args .i) (omega arith) in
+    omega arith
 
 shared-slice-read-closer : tie.Need-shared-slice-read-closer Inv-loop μ-loop
-shared-slice-read-closer c = let h = c .before .before .before .before .before .before .pre .1 (c .before .before .before .loop .m) (c .before .before .loop-test .taken) in let k = c .before .before .before .before .before .before .pre .1 (c .before .before .before .before .before .before .args .i) (omega arith) in omega arith
+shared-slice-read-closer c =
+    let pre = c .before .before .before .before .before .before .pre in
+    let h = pre .1 (c .before .before .before .loop .m) (c .before .before .loop-test .taken) in
+    let k = pre .1 (c .before .before .before .before .before .before .args .i) (omega arith) in
+    omega arith
 
 closer-requires : tie.Need-closer-requires Inv-loop μ-loop
 closer-requires c κs = search needs
@@ -53,10 +65,16 @@ loop-less : tie.Need-loop-less Inv-loop μ-loop
 loop-less c = omega arith
 
 loop-again : tie.Need-loop-again Inv-loop μ-loop
-loop-again c = (omega arith, omega arith, later-step (c .before .before .before .before .before .before .before .args .distances .now) (c .before .before .before .before .before .before .before .args .g) (c .before .before .before .before .before .before .before .args .start) (c .before .before .before .before .loop .best) (c .closer .result) (c .before .before .before .before .before .before .before .args .tides .now) (c .before .before .before .before .before .before .before .args .i) (c .before .before .before .before .loop .m) (c .before .before .before .before .loop .inv .0) (c .before .before .before .before .loop .inv .2) (c .closer .ensures))
+loop-again c =
+    let args = c .before .before .before .before .before .before .before .args in
+    let turn = c .before .before .before .before .loop in
+    (omega arith, omega arith, later-step (args .distances .now) (args .g) (args .start) (turn .best) (c .closer .result) (args .tides .now) (args .i) (turn .m) (turn .inv .0) (turn .inv .2) (c .closer .ensures))
 
 returns : tie.Need-returns Inv-loop μ-loop
-returns c = let e : c .before .loop .m ≡ c .before .before .before .before .args .count = omega arith in subst (λ z. Next (InLater (c .before .before .before .before .args .distances .now) (c .before .before .before .before .args .tides .now) (c .before .before .before .before .args .i) z) (c .before .before .before .before .args .g) (c .before .before .before .before .args .start) (c .before .loop .best)) e (c .before .loop .inv .2)
+returns c =
+    let args = c .before .before .before .before .args in
+    let e : c .before .loop .m ≡ args .count = omega arith in
+    subst (λ z. Next (InLater (args .distances .now) (args .tides .now) (args .i) z) (args .g) (args .start) (c .before .loop .best)) e (c .before .loop .inv .2)
 
 pub next-later-spec : {M : Type 1} → statement M
 next-later-spec =

@@ -25,10 +25,16 @@ loop-less : tie.Need-loop-less Inv-loop μ-loop
 loop-less c = omega arith
 
 loop-again : tie.Need-loop-again Inv-loop μ-loop
-loop-again c = (omega arith, rows-step (c .before .before .before .before .args .distances .now) (c .before .before .before .before .args .g) 1048576 (c .before .before .loop .best) (c .next-in-row .result) (c .before .before .before .before .args .n) (λ i. i) (c .before .before .loop .c) (c .before .before .loop .inv .1) (c .next-in-row .ensures))
+loop-again c =
+    let args = c .before .before .before .before .args in
+    let turn = c .before .before .loop in
+    (omega arith, rows-step (args .distances .now) (args .g) 1048576 (turn .best) (c .next-in-row .result) (args .n) (λ i. i) (turn .c) (turn .inv .1) (c .next-in-row .ensures))
 
 returns : tie.Need-returns Inv-loop μ-loop
-returns c = let e : c .before .loop .c ≡ c .before .before .before .args .n = omega arith in subst (λ z. Next (InRows (c .before .before .before .args .distances .now) (c .before .before .before .args .n) (λ i. i) z) (c .before .before .before .args .g) 1048576 (c .before .loop .best)) e (c .before .loop .inv .1)
+returns c =
+    let args = c .before .before .before .args in
+    let e : c .before .loop .c ≡ args .n = omega arith in
+    subst (λ z. Next (InRows (args .distances .now) (args .n) (λ i. i) z) (args .g) 1048576 (c .before .loop .best)) e (c .before .loop .inv .1)
 
 pub next-of-all-spec : {M : Type 1} → statement M
 next-of-all-spec =

@@ -16,7 +16,10 @@ loop-holds : tie.Need-loop-holds Inv-loop μ-loop
 loop-holds c = (omega arith, table-none _ _ _ _ _)
 
 allow-row-requires : tie.Need-allow-row-requires Inv-loop μ-loop
-allow-row-requires c κs = let q = c .before .before .loop .inv .1 .same-length in ((c .before .before .before .before .before .pre .0 .0, c .before .before .before .before .before .pre .0 .1, omega arith, c .before .before .before .before .before .pre .0 .3, c .before .loop-test .taken), c .before .before .before .before .before .pre .1)
+allow-row-requires c κs =
+    let pre = c .before .before .before .before .before .pre in
+    let q = c .before .before .loop .inv .1 .same-length in
+    ((pre .0 .0, pre .0 .1, omega arith, pre .0 .3, c .before .loop-test .taken), pre .1)
 
 add-t : tie.Need-add-t Inv-loop μ-loop
 add-t c = omega arith

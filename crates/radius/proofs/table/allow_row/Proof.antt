@@ -32,7 +32,9 @@ mul-mark-3 : tie.Need-mul-mark-3 Inv-loop μ-loop
 mul-mark-3 c = let h = c .before .before .before .before .before .pre .1 (c .before .before .loop .m) (c .before .loop-test .taken) in omega arith
 
 shared-slice-read-mark : tie.Need-shared-slice-read-mark Inv-loop μ-loop
-shared-slice-read-mark c = let h = c .before .before .before .before .before .before .pre .1 (c .before .before .before .loop .m) (c .before .before .loop-test .taken) in omega arith
+shared-slice-read-mark c =
+    let h = c .before .before .before .before .before .before .pre .1 (c .before .before .before .loop .m) (c .before .before .loop-test .taken) in
+    omega arith
 
 mark-requires : tie.Need-mark-requires Inv-loop μ-loop
 mark-requires c κs = search needs

@@ -23,22 +23,35 @@ cast-put-field : tie.Need-cast-put-field
 cast-put-field c = search needs
 
 put-field-requires-2 : tie.Need-put-field-requires-2
-put-field-requires-2 c κs = let a = c .before .before .before .before .before .before .before .args in let s = short (a .number) (a .block) (omega arith) (c .struct-known .given) in omega (arith, line-length (a .number) (a .block))
+put-field-requires-2 c κs =
+    let a = c .before .before .before .before .before .before .before .args in
+    let s = short (a .number) (a .block) (omega arith) (c .struct-known .given) in
+    omega (arith, line-length (a .number) (a .block))
 
 cast-put-field-2 : tie.Need-cast-put-field-2
 cast-put-field-2 c = search needs
 
 put-field-requires-3 : tie.Need-put-field-requires-3
-put-field-requires-3 c κs = let a = c .before .before .before .before .before .before .before .before .before .before .before .before .args in let s = short (a .number) (a .block) (omega arith) (c .struct-known2 .given) in omega (arith, line-length (a .number) (a .block))
+put-field-requires-3 c κs =
+    let a = c .before .before .before .before .before .before .before .before .before .before .before .before .args in
+    let s = short (a .number) (a .block) (omega arith) (c .struct-known2 .given) in
+    omega (arith, line-length (a .number) (a .block))
 
 put-field-requires-4 : tie.Need-put-field-requires-4
-put-field-requires-4 c κs = let a = c .before .before .before .before .before .before .before .before .before .before .before .before .before .before .before .before .args in let s = short (a .number) (a .block) (omega arith) (c .before .before .before .before .struct-known2 .given) in omega (arith, line-length (a .number) (a .block))
+put-field-requires-4 c κs =
+    let a = c .before .before .before .before .before .before .before .before .before .before .before .before .before .before .before .before .args in
+    let s = short (a .number) (a .block) (omega arith) (c .before .before .before .before .struct-known2 .given) in
+    omega (arith, line-length (a .number) (a .block))
 
 same-length : tie.Need-same-length
 same-length c = search needs
 
 returns : tie.Need-returns
-returns c = let a = c .before .before .before .before .before .before .before .before .before .before .before .before .before .before .before .before .before .before .before .args in let p = line-put (a .number) (a .block) (c .before .before .before .before .before .before .before .before .before .before .before .before .before .before .before .before .put-field .ensures) (c .before .before .before .before .before .before .before .before .before .before .before .put-field2 .ensures) (c .before .before .before .before .before .before .put-field3 .ensures) (c .before .before .put-field4 .ensures) in let s = short (a .number) (a .block) (omega arith) (c .before .before .before .before .before .before .before .struct-known2 .given) in (omega (arith, p .ends), p)
+returns c =
+    let a = c .before .before .before .before .before .before .before .before .before .before .before .before .before .before .before .before .before .before .before .args in
+    let p = line-put (a .number) (a .block) (c .before .before .before .before .before .before .before .before .before .before .before .before .before .before .before .before .put-field .ensures) (c .before .before .before .before .before .before .before .before .before .before .before .put-field2 .ensures) (c .before .before .before .before .before .before .put-field3 .ensures) (c .before .before .put-field4 .ensures) in
+    let s = short (a .number) (a .block) (omega arith) (c .before .before .before .before .before .before .before .struct-known2 .given) in
+    (omega (arith, p .ends), p)
 
 pub put-line-spec : {M : Type 1} → statement M
 put-line-spec =

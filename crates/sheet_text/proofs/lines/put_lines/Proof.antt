@@ -48,13 +48,18 @@ loop-less : tie.Need-loop-less Inv-loop μ-loop
 loop-less c = omega arith
 
 loop-again : tie.Need-loop-again Inv-loop μ-loop
-loop-again c = let a = c .before .before .before .before .before .before .before .before .before .args in ((omega arith, omega arith, omega arith), lines-more (a .t4) _ (c .before .before .before .before .before .before .before .loop .i) (let long : length (a .t4) ≡ 120 = search needs in omega arith) (c .before .before .before .before .before .before .before .loop .inv .1) (c .before .before .put-line .ensures .1))
+loop-again c =
+    let turn = c .before .before .before .before .before .before .before .loop in
+    let a = c .before .before .before .before .before .before .before .before .before .args in
+    ((omega arith, omega arith, omega arith), lines-more (a .t4) _ (turn .i) (let long : length (a .t4) ≡ 120 = search needs in omega arith) (turn .inv .1) (c .before .before .put-line .ensures .1))
 
 same-length-2 : tie.Need-same-length-2 Inv-loop μ-loop
 same-length-2 c = c .before .loop .inv .1 .same
 
 returns-2 : tie.Need-returns-2 Inv-loop μ-loop
-returns-2 c = let a = c .before .before .before .args in (omega arith, lines-all (a .t4) (c .before .loop .i) (a .blocks) (let long : length (a .t4) ≡ 120 = search needs in omega arith) (omega arith) (c .before .loop .inv .1))
+returns-2 c =
+    let a = c .before .before .before .args in
+    (omega arith, lines-all (a .t4) (c .before .loop .i) (a .blocks) (let long : length (a .t4) ≡ 120 = search needs in omega arith) (omega arith) (c .before .loop .inv .1))
 
 pub put-lines-spec : {M : Type 1} → statement M
 put-lines-spec =

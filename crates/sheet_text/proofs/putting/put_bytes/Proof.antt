@@ -31,7 +31,9 @@ loop-less : tie.Need-loop-less Inv-loop μ-loop
 loop-less c = omega arith
 
 loop-again : tie.Need-loop-again Inv-loop μ-loop
-loop-again c = (omega arith, copied-more _ _ _ (c .before .before .before .pre) (c .before .before .loop .i) (c .before .loop-test .taken) (c .before .before .loop .inv .1))
+loop-again c =
+    let turn = c .before .before .loop in
+    (omega arith, copied-more _ _ _ (c .before .before .before .pre) (turn .i) (c .before .loop-test .taken) (turn .inv .1))
 
 add-result : tie.Need-add-result Inv-loop μ-loop
 add-result c = omega arith

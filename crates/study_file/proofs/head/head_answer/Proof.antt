@@ -23,13 +23,17 @@ returns-2 : tie.Need-returns-2
 returns-2 c = absurd (no-end-start (c .before .before .before .before .before .args .file .now) (c .before .before .read-start .ensures) (c .enum-told .given .1) (omega arith))
 
 returns-3 : tie.Need-returns-3
-returns-3 c = head-mark (c .before .before .before .before .before .before .before .args .file .now) (c .before .before .before .before .before .if1 .left) (c .before .before .mark .given .0 .0) (c .before .before .mark .given .0 .1 .0) (got-start (c .before .before .before .before .before .before .before .args .file .now) (c .before .before .before .before .read-start .ensures) (c .before .before .mark .given .1)) (c .if2 .taken)
+returns-3 c =
+    let args = c .before .before .before .before .before .before .before .args in
+    head-mark (args .file .now) (c .before .before .before .before .before .if1 .left) (c .before .before .mark .given .0 .0) (c .before .before .mark .given .0 .1 .0) (got-start (args .file .now) (c .before .before .before .before .read-start .ensures) (c .before .before .mark .given .1)) (c .if2 .taken)
 
 cast-n : tie.Need-cast-n
 cast-n c = search needs
 
 returns-4 : tie.Need-returns-4
-returns-4 c = head-count (c .before .before .before .before .before .before .before .before .args .file .now) (c .before .before .before .before .before .before .if1 .left) (c .before .before .before .mark .given .0 .0) (c .before .before .before .mark .given .0 .1 .0) (got-start (c .before .before .before .before .before .before .before .before .args .file .now) (c .before .before .before .before .before .read-start .ensures) (c .before .before .before .mark .given .1)) (c .before .if2 .left) (c .if3 .taken)
+returns-4 c =
+    let args = c .before .before .before .before .before .before .before .before .args in
+    head-count (args .file .now) (c .before .before .before .before .before .before .if1 .left) (c .before .before .before .mark .given .0 .0) (c .before .before .before .mark .given .0 .1 .0) (got-start (args .file .now) (c .before .before .before .before .before .read-start .ensures) (c .before .before .before .mark .given .1)) (c .before .if2 .left) (c .if3 .taken)
 
 number-requires : tie.Need-number-requires
 number-requires c κs = search needs
@@ -38,13 +42,19 @@ cast-k : tie.Need-cast-k
 cast-k c = search needs
 
 returns-5 : tie.Need-returns-5
-returns-5 c = head-kinds (c .before .before .before .before .before .before .before .before .before .before .args .file .now) (c .before .before .before .before .before .before .before .before .if1 .left) (c .before .before .before .before .before .mark .given .0 .0) (c .before .before .before .before .before .mark .given .0 .1 .0) (got-start (c .before .before .before .before .before .before .before .before .before .before .args .file .now) (c .before .before .before .before .before .before .before .read-start .ensures) (c .before .before .before .before .before .mark .given .1)) (c .before .before .before .if2 .left) (c .before .before .if3 .left) (c .before .number .result) (c .before .number .ensures .0) (between-low 1 8 _ (c .if4 .taken))
+returns-5 c =
+    let args = c .before .before .before .before .before .before .before .before .before .before .args in
+    head-kinds (args .file .now) (c .before .before .before .before .before .before .before .before .if1 .left) (c .before .before .before .before .before .mark .given .0 .0) (c .before .before .before .before .before .mark .given .0 .1 .0) (got-start (args .file .now) (c .before .before .before .before .before .before .before .read-start .ensures) (c .before .before .before .before .before .mark .given .1)) (c .before .before .before .if2 .left) (c .before .before .if3 .left) (c .before .number .result) (c .before .number .ensures .0) (between-low 1 8 _ (c .if4 .taken))
 
 returns-6 : tie.Need-returns-6
-returns-6 c = head-kinds (c .before .before .before .before .before .before .before .before .before .before .before .args .file .now) (c .before .before .before .before .before .before .before .before .before .if1 .left) (c .before .before .before .before .before .before .mark .given .0 .0) (c .before .before .before .before .before .before .mark .given .0 .1 .0) (got-start (c .before .before .before .before .before .before .before .before .before .before .before .args .file .now) (c .before .before .before .before .before .before .before .before .read-start .ensures) (c .before .before .before .before .before .before .mark .given .1)) (c .before .before .before .before .if2 .left) (c .before .before .before .if3 .left) (c .before .before .number .result) (c .before .before .number .ensures .0) (between-high 1 8 _ (c .if5 .taken))
+returns-6 c =
+    let args = c .before .before .before .before .before .before .before .before .before .before .before .args in
+    head-kinds (args .file .now) (c .before .before .before .before .before .before .before .before .before .if1 .left) (c .before .before .before .before .before .before .mark .given .0 .0) (c .before .before .before .before .before .before .mark .given .0 .1 .0) (got-start (args .file .now) (c .before .before .before .before .before .before .before .before .read-start .ensures) (c .before .before .before .before .before .before .mark .given .1)) (c .before .before .before .before .if2 .left) (c .before .before .before .if3 .left) (c .before .before .number .result) (c .before .before .number .ensures .0) (between-high 1 8 _ (c .if5 .taken))
 
 body-answer-requires : tie.Need-body-answer-requires
-body-answer-requires c κs = begun (c .before .before .before .before .before .before .before .before .before .before .before .args .file .now) (c .before .before .before .before .before .before .before .before .before .if1 .left) (c .before .before .before .before .before .before .mark .given .0 .0) (c .before .before .before .before .before .before .mark .given .0 .1 .0) (got-start (c .before .before .before .before .before .before .before .before .before .before .before .args .file .now) (c .before .before .before .before .before .before .before .before .read-start .ensures) (c .before .before .before .before .before .before .mark .given .1)) (c .before .before .before .before .if2 .left) (c .before .before .before .if3 .left) (c .before .before .number .result) (c .before .before .number .ensures .0) (c .before .if4 .left) (c .if5 .left)
+body-answer-requires c κs =
+    let args = c .before .before .before .before .before .before .before .before .before .before .before .args in
+    begun (args .file .now) (c .before .before .before .before .before .before .before .before .before .if1 .left) (c .before .before .before .before .before .before .mark .given .0 .0) (c .before .before .before .before .before .before .mark .given .0 .1 .0) (got-start (args .file .now) (c .before .before .before .before .before .before .before .before .read-start .ensures) (c .before .before .before .before .before .before .mark .given .1)) (c .before .before .before .before .if2 .left) (c .before .before .before .if3 .left) (c .before .before .number .result) (c .before .before .number .ensures .0) (c .before .if4 .left) (c .if5 .left)
 
 returns-7 : tie.Need-returns-7
 returns-7 c = c .body-answer .ensures

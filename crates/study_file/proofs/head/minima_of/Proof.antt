@@ -50,7 +50,10 @@ cast-b0 : tie.Need-cast-b0 Inv-loop μ-loop
 cast-b0 c = omega (arith, c .number2 .ensures .1)
 
 returns : tie.Need-returns Inv-loop μ-loop
-returns c = minima-read (c .before .before .before .before .args .file .now) (c .before .before .before .before .args .k) (c .before .before .loop .j) (c .number2 .result) (omega arith) (omega arith) (c .number2 .ensures .0) (c .before .before .loop .inv .1)
+returns c =
+    let args = c .before .before .before .before .args in
+    let turn = c .before .before .loop in
+    minima-read (args .file .now) (args .k) (turn .j) (c .number2 .result) (omega arith) (omega arith) (c .number2 .ensures .0) (turn .inv .1)
 
 pub minima-of-spec : {M : Type 1} → statement M
 minima-of-spec =

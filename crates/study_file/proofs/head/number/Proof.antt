@@ -14,10 +14,15 @@ enum-told : tie.Need-enum-told
 enum-told c = search needs
 
 returns : tie.Need-returns
-returns c = absurd (no-end (c .before .before .before .before .args .file .now) (c .before .before .before .before .args .at) (c .before .before .before .before .args .width) (c .before .before .read-field .ensures) (c .enum-told .given .1) (c .before .before .before .before .pre .1))
+returns c =
+    let args = c .before .before .before .before .args in
+    absurd (no-end (args .file .now) (args .at) (args .width) (c .before .before .read-field .ensures) (c .enum-told .given .1) (c .before .before .before .before .pre .1))
 
 returns-2 : tie.Need-returns-2
-returns-2 c = let g = got (c .before .before .before .before .before .args .file .now) (c .before .before .before .before .before .args .at) (c .before .before .before .before .before .args .width) (c .before .before .before .read-field .ensures) (c .before .v .given .1) in (g .is, g .small)
+returns-2 c =
+    let args = c .before .before .before .before .before .args in
+    let g = got (args .file .now) (args .at) (args .width) (c .before .before .before .read-field .ensures) (c .before .v .given .1) in
+    (g .is, g .small)
 
 pub number-spec : {M : Type 1} → statement M
 number-spec = tie.close (tie.spec read-field-requires enum-known-v enum-told returns returns-2)

@@ -19,19 +19,27 @@ enum-told : tie.Need-enum-told
 enum-told c = search needs
 
 returns : tie.Need-returns
-returns c = let i = inside (c .before .before .before .before .before .before .before .args .file .now) (c .before .before .before .before .before .before .before .args .k) (c .before .before .before .before .before .before .before .args .t) (c .before .before .before .before .before .before .before .args .near .now) (c .before .before .before .before .before .before .before .args .kinds .now) (c .before .before .before .before .before .before .before .pre) (c .before .before .before .bit-length .result) (c .before .before .before .bit-length .ensures .0) in absurd (no-end (c .before .before .before .before .before .before .before .args .file .now) (c .before .before .before .bit-length .result) 3 (c .before .before .read-field .ensures) (c .enum-told .given .1) (i .setting))
+returns c =
+    let args = c .before .before .before .before .before .before .before .args in
+    let i = inside (args .file .now) (args .k) (args .t) (args .near .now) (args .kinds .now) (c .before .before .before .before .before .before .before .pre) (c .before .before .before .bit-length .result) (c .before .before .before .bit-length .ensures .0) in
+    absurd (no-end (args .file .now) (c .before .before .before .bit-length .result) 3 (c .before .before .read-field .ensures) (c .enum-told .given .1) (i .setting))
 
 cast-if1 : tie.Need-cast-if1
 cast-if1 c = search needs
 
 returns-2 : tie.Need-returns-2
-returns-2 c = tide-five (c .before .before .before .before .before .before .before .before .before .args .file .now) (c .before .before .before .before .before .before .before .before .before .args .k) (c .before .before .before .before .before .before .before .before .before .args .t) (c .before .before .before .before .before .before .before .before .before .args .near .now) (c .before .before .before .before .before .before .before .before .before .args .kinds .now) (c .before .before .before .before .before .before .before .before .before .pre) (c .before .before .before .before .before .bit-length .result) (c .before .before .before .before .before .bit-length .ensures .0) (got (c .before .before .before .before .before .before .before .before .before .args .file .now) (c .before .before .before .before .before .bit-length .result) 3 (c .before .before .before .before .read-field .ensures) (c .before .before .less .given .1)) (c .if1 .taken)
+returns-2 c =
+    let args = c .before .before .before .before .before .before .before .before .before .args in
+    tide-five (args .file .now) (args .k) (args .t) (args .near .now) (args .kinds .now) (c .before .before .before .before .before .before .before .before .before .pre) (c .before .before .before .before .before .bit-length .result) (c .before .before .before .before .before .bit-length .ensures .0) (got (args .file .now) (c .before .before .before .before .before .bit-length .result) 3 (c .before .before .before .before .read-field .ensures) (c .before .before .less .given .1)) (c .if1 .taken)
 
 add-read-row : tie.Need-add-read-row
 add-read-row c = search needs
 
 read-row-requires : tie.Need-read-row-requires
-read-row-requires c κs = let i = inside (c .before .before .before .before .before .before .before .before .before .before .args .file .now) (c .before .before .before .before .before .before .before .before .before .before .args .k) (c .before .before .before .before .before .before .before .before .before .before .args .t) (c .before .before .before .before .before .before .before .before .before .before .args .near .now) (c .before .before .before .before .before .before .before .before .before .before .args .kinds .now) (c .before .before .before .before .before .before .before .before .before .before .pre) (c .before .before .before .before .before .before .bit-length .result) (c .before .before .before .before .before .before .bit-length .ensures .0) in ((i .few, omega arith), (i .row, omega (arith, i .low)))
+read-row-requires c κs =
+    let args = c .before .before .before .before .before .before .before .before .before .before .args in
+    let i = inside (args .file .now) (args .k) (args .t) (args .near .now) (args .kinds .now) (c .before .before .before .before .before .before .before .before .before .before .pre) (c .before .before .before .before .before .before .bit-length .result) (c .before .before .before .before .before .before .bit-length .ensures .0) in
+    ((i .few, omega arith), (i .row, omega (arith, i .low)))
 
 enum-told-2 : tie.Need-enum-told-2
 enum-told-2 c = search needs
@@ -43,7 +51,9 @@ same-length : tie.Need-same-length
 same-length c = search needs
 
 returns-3 : tie.Need-returns-3
-returns-3 c = tide-stops (c .before .before .before .before .before .before .before .before .before .before .before .before .before .before .before .args .file .now) (c .before .before .before .before .before .before .before .before .before .before .before .before .before .before .before .args .k) (c .before .before .before .before .before .before .before .before .before .before .before .before .before .before .before .args .t) (c .before .before .before .before .before .before .before .before .before .before .before .before .before .before .before .args .near .now) (c .before .before .before .before .before .before .before .before .before .before .before .before .before .before .before .args .kinds .now) (c .before .before .before .before .before .before .before .before .before .before .before .before .before .before .before .pre) (c .before .before .before .before .before .before .before .before .before .before .before .bit-length .result) (c .before .before .before .before .before .before .before .before .before .before .before .bit-length .ensures .0) (got (c .before .before .before .before .before .before .before .before .before .before .before .before .before .before .before .args .file .now) (c .before .before .before .before .before .before .before .before .before .before .before .bit-length .result) 3 (c .before .before .before .before .before .before .before .before .before .before .read-field .ensures) (c .before .before .before .before .before .before .before .before .less .given .1)) (c .before .before .before .before .before .before .if1 .left) (c .before .before .before .before .read-row .ensures) (c .enum-told3 .given .1)
+returns-3 c =
+    let args = c .before .before .before .before .before .before .before .before .before .before .before .before .before .before .before .args in
+    tide-stops (args .file .now) (args .k) (args .t) (args .near .now) (args .kinds .now) (c .before .before .before .before .before .before .before .before .before .before .before .before .before .before .before .pre) (c .before .before .before .before .before .before .before .before .before .before .before .bit-length .result) (c .before .before .before .before .before .before .before .before .before .before .before .bit-length .ensures .0) (got (args .file .now) (c .before .before .before .before .before .before .before .before .before .before .before .bit-length .result) 3 (c .before .before .before .before .before .before .before .before .before .before .read-field .ensures) (c .before .before .before .before .before .before .before .before .less .given .1)) (c .before .before .before .before .before .before .if1 .left) (c .before .before .before .before .read-row .ensures) (c .enum-told3 .given .1)
 
 add-kinds : tie.Need-add-kinds
 add-kinds c = search needs
@@ -61,7 +71,9 @@ same-length-3 : tie.Need-same-length-3
 same-length-3 c = search needs
 
 returns-4 : tie.Need-returns-4
-returns-4 c = tide-goes (c .before .before .before .before .before .before .before .before .before .before .before .before .before .before .before .args .file .now) (c .before .before .before .before .before .before .before .before .before .before .before .before .before .before .before .args .k) (c .before .before .before .before .before .before .before .before .before .before .before .before .before .before .before .args .t) (c .before .before .before .before .before .before .before .before .before .before .before .before .before .before .before .args .near .now) (c .before .before .before .before .before .before .before .before .before .before .before .before .before .before .before .args .kinds .now) (c .before .before .before .before .before .before .before .before .before .before .before .before .before .before .before .pre) (c .before .before .before .before .before .before .before .before .before .before .before .bit-length .result) (c .before .before .before .before .before .before .before .before .before .before .before .bit-length .ensures .0) (got (c .before .before .before .before .before .before .before .before .before .before .before .before .before .before .before .args .file .now) (c .before .before .before .before .before .before .before .before .before .before .before .bit-length .result) 3 (c .before .before .before .before .before .before .before .before .before .before .read-field .ensures) (c .before .before .before .before .before .before .before .before .less .given .1)) (c .before .before .before .before .before .before .if1 .left) (c .before .before .before .before .read-row .ensures) (c .enum-told2 .given .1)
+returns-4 c =
+    let args = c .before .before .before .before .before .before .before .before .before .before .before .before .before .before .before .args in
+    tide-goes (args .file .now) (args .k) (args .t) (args .near .now) (args .kinds .now) (c .before .before .before .before .before .before .before .before .before .before .before .before .before .before .before .pre) (c .before .before .before .before .before .before .before .before .before .before .before .bit-length .result) (c .before .before .before .before .before .before .before .before .before .before .before .bit-length .ensures .0) (got (args .file .now) (c .before .before .before .before .before .before .before .before .before .before .before .bit-length .result) 3 (c .before .before .before .before .before .before .before .before .before .before .read-field .ensures) (c .before .before .before .before .before .before .before .before .less .given .1)) (c .before .before .before .before .before .before .if1 .left) (c .before .before .before .before .read-row .ensures) (c .enum-told2 .given .1)
 
 pub read-tide-spec : {M : Type 1} → statement M
 read-tide-spec =

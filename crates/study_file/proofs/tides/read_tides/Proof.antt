@@ -19,7 +19,9 @@ loop-holds : tie.Need-loop-holds Inv-loop μ-loop
 loop-holds c = (omega arith, c .before .before .before .pre .2, refl, refl)
 
 read-tide-requires : tie.Need-read-tide-requires Inv-loop μ-loop
-read-tide-requires c κs = (c .before .before .before .before .before .before .before .pre .0, omega (arith, c .before .before .before .before .before .before .before .pre .1), c .before .before .before .loop .inv .1)
+read-tide-requires c κs =
+    let pre = c .before .before .before .before .before .before .before .pre in
+    (pre .0, omega (arith, pre .1), c .before .before .before .loop .inv .1)
 
 enum-told : tie.Need-enum-told Inv-loop μ-loop
 enum-told c = search needs
@@ -34,7 +36,9 @@ same-length-2 : tie.Need-same-length-2 Inv-loop μ-loop
 same-length-2 c = omega arith
 
 returns : tie.Need-returns Inv-loop μ-loop
-returns c = reached-stops (c .before .before .before .before .before .before .before .before .before .before .before .before .before .before .args .file .now) _ (c .before .before .before .before .before .before .before .before .before .before .before .before .before .before .args .n) (c .before .before .before .before .before .before .read-tide .ensures) (c .enum-told2 .given .1)
+returns c =
+    let args = c .before .before .before .before .before .before .before .before .before .before .before .before .before .before .args in
+    reached-stops (args .file .now) _ (args .n) (c .before .before .before .before .before .before .read-tide .ensures) (c .enum-told2 .given .1)
 
 add-t : tie.Need-add-t Inv-loop μ-loop
 add-t c = omega arith
@@ -52,7 +56,9 @@ same-length-4 : tie.Need-same-length-4 Inv-loop μ-loop
 same-length-4 c = c .before .loop .inv .3
 
 returns-2 : tie.Need-returns-2 Inv-loop μ-loop
-returns-2 c = reached-all (c .before .before .before .before .before .args .file .now) (c .before .loop .t) (c .before .before .before .before .before .args .n) (omega arith) (omega arith) (c .before .loop .inv .1)
+returns-2 c =
+    let args = c .before .before .before .before .before .args in
+    reached-all (args .file .now) (c .before .loop .t) (args .n) (omega arith) (omega arith) (c .before .loop .inv .1)
 
 pub read-tides-spec : {M : Type 1} → statement M
 read-tides-spec =

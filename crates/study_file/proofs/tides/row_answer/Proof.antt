@@ -33,10 +33,14 @@ enum-told : tie.Need-enum-told
 enum-told c = search needs
 
 returns : tie.Need-returns
-returns c = row-breaks (c .before .before .before .before .before .before .args .near .now) (c .before .before .before .before .before .before .args .t) (omega arith) (omega arith) (c .before .before .before .first-broken .ensures) (c .before .found .given .1)
+returns c =
+    let args = c .before .before .before .before .before .before .args in
+    row-breaks (args .near .now) (args .t) (omega arith) (omega arith) (c .before .before .before .first-broken .ensures) (c .before .found .given .1)
 
 returns-2 : tie.Need-returns-2
-returns-2 c = row-holds (c .before .before .before .before .before .args .near .now) (c .before .before .before .before .before .args .t) (omega arith) (omega arith) (c .before .before .first-broken .ensures) (c .enum-told .given .1)
+returns-2 c =
+    let args = c .before .before .before .before .before .args in
+    row-holds (args .near .now) (args .t) (omega arith) (omega arith) (c .before .before .first-broken .ensures) (c .enum-told .given .1)
 
 pub row-answer-spec : {M : Type 1} → statement M
 row-answer-spec =

@@ -38,7 +38,9 @@ same-length : tie.Need-same-length Inv-loop μ-loop
 same-length c = c .before .before .before .before .loop .inv .2
 
 returns : tie.Need-returns Inv-loop μ-loop
-returns c = absurd (no-end (c .before .before .before .before .before .before .before .args .file .now) (c .before .before .before .before .before .before .before .args .start + 20 * c .before .before .before .before .loop .i) 20 (c .before .before .read-field .ensures) (c .enum-told .given .1) (omega arith))
+returns c =
+    let args = c .before .before .before .before .before .before .before .args in
+    absurd (no-end (args .file .now) (args .start + 20 * c .before .before .before .before .loop .i) 20 (c .before .before .read-field .ensures) (c .enum-told .given .1) (omega arith))
 
 mul-near : tie.Need-mul-near Inv-loop μ-loop
 mul-near c = omega arith
@@ -71,7 +73,10 @@ loop-less : tie.Need-loop-less Inv-loop μ-loop
 loop-less c = omega arith
 
 loop-again : tie.Need-loop-again Inv-loop μ-loop
-loop-again c = (omega arith, row-taken (c .before .before .before .before .before .before .before .before .args .file .now) (c .before .before .before .before .before .before .before .before .args .start) (c .before .before .before .before .before .before .before .before .args .t) (c .before .before .before .before .before .loop .i) (c .before .x .given .0 .0) _ (omega arith) (got (c .before .before .before .before .before .before .before .before .args .file .now) (c .before .before .before .before .before .before .before .before .args .start + 20 * c .before .before .before .before .before .loop .i) 20 (c .before .before .before .read-field .ensures) (c .before .x .given .1)) (c .before .before .before .before .before .loop .inv .1), simp length-set (c .before .before .before .before .before .loop .inv .2))
+loop-again c =
+    let args = c .before .before .before .before .before .before .before .before .args in
+    let turn = c .before .before .before .before .before .loop in
+    (omega arith, row-taken (args .file .now) (args .start) (args .t) (turn .i) (c .before .x .given .0 .0) _ (omega arith) (got (args .file .now) (args .start + 20 * turn .i) 20 (c .before .before .before .read-field .ensures) (c .before .x .given .1)) (turn .inv .1), simp length-set (turn .inv .2))
 
 same-length-2 : tie.Need-same-length-2 Inv-loop μ-loop
 same-length-2 c = c .before .loop .inv .2

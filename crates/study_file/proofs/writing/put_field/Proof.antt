@@ -61,13 +61,18 @@ loop-less : tie.Need-loop-less Inv-loop μ-loop
 loop-less c = omega arith
 
 loop-again : tie.Need-loop-again Inv-loop μ-loop
-loop-again c = (omega arith, field-more _ _ (c .before .before .before .before .before .before .before .before .args .width) (c .before .before .before .before .before .before .before .before .args .value) (c .before .before .before .before .before .before .loop .done) (c .before .before .before .before .taken .result) (omega arith) (omega arith) (c .before .before .before .before .before .before .loop .inv .1) (c .before .before .put-part .ensures))
+loop-again c =
+    let args = c .before .before .before .before .before .before .before .before .args in
+    let turn = c .before .before .before .before .before .before .loop in
+    (omega arith, field-more _ _ (args .width) (args .value) (turn .done) (c .before .before .before .before .taken .result) (omega arith) (omega arith) (turn .inv .1) (c .before .before .put-part .ensures))
 
 same-length : tie.Need-same-length Inv-loop μ-loop
 same-length c = c .before .loop .inv .1 .same
 
 returns : tie.Need-returns Inv-loop μ-loop
-returns c = puts-one _ _ _ _ (field-end _ _ (c .before .before .before .args .width) (c .before .before .before .args .value) (c .before .loop .done) (omega arith) (omega arith) (c .before .loop .inv .1))
+returns c =
+    let args = c .before .before .before .args in
+    puts-one _ _ _ _ (field-end _ _ (args .width) (args .value) (c .before .loop .done) (omega arith) (omega arith) (c .before .loop .inv .1))
 
 pub put-field-spec : {M : Type 1} → statement M
 put-field-spec =

@@ -10,10 +10,15 @@ cast-k : tie.Need-cast-k
 cast-k c = search needs
 
 put-head-requires : tie.Need-put-head-requires
-put-head-requires c κs = head-room (stateOf (c .before .before .before .before .before .before .before .args .dataset) (c .before .before .before .before .before .before .before .args .distances .now) (c .before .before .before .before .before .before .before .args .settings .now)) _ (c .before .before .before .before .before .before .before .pre)
+put-head-requires c κs =
+    let args = c .before .before .before .before .before .before .before .args in
+    head-room (stateOf (args .dataset) (args .distances .now) (args .settings .now)) _ (c .before .before .before .before .before .before .before .pre)
 
 put-minima-requires : tie.Need-put-minima-requires
-put-minima-requires c κs = (c .before .before .before .before .before .before .before .before .before .before .before .pre .dataset .k-high, omega (arith, c .before .before .before .put-head .ensures .same, minima-room (stateOf (c .before .before .before .before .before .before .before .before .before .before .before .args .dataset) (c .before .before .before .before .before .before .before .before .before .before .before .args .distances .now) (c .before .before .before .before .before .before .before .before .before .before .before .args .settings .now)) _ (c .before .before .before .before .before .before .before .before .before .before .before .pre)))
+put-minima-requires c κs =
+    let args = c .before .before .before .before .before .before .before .before .before .before .before .args in
+    let pre = c .before .before .before .before .before .before .before .before .before .before .before .pre in
+    (pre .dataset .k-high, omega (arith, c .before .before .before .put-head .ensures .same, minima-room (stateOf (args .dataset) (args .distances .now) (args .settings .now)) _ (pre)))
 
 put-tides-requires : tie.Need-put-tides-requires
 put-tides-requires c κs = search needs
@@ -22,7 +27,9 @@ same-length : tie.Need-same-length
 same-length c = search needs
 
 returns : tie.Need-returns
-returns c = parts-put (stateOf (c .before .before .before .before .before .before .before .before .before .before .before .before .before .before .before .before .before .before .args .dataset) (c .before .before .before .before .before .before .before .before .before .before .before .before .before .before .before .before .before .before .args .distances .now) (c .before .before .before .before .before .before .before .before .before .before .before .before .before .before .before .before .before .before .args .settings .now)) _ (eight (stateOf (c .before .before .before .before .before .before .before .before .before .before .before .before .before .before .before .before .before .before .args .dataset) (c .before .before .before .before .before .before .before .before .before .before .before .before .before .before .before .before .before .before .args .distances .now) (c .before .before .before .before .before .before .before .before .before .before .before .before .before .before .before .before .before .before .args .settings .now)) _ (c .before .before .before .before .before .before .before .before .before .before .before .before .before .before .before .before .before .before .pre)) (c .before .before .before .before .before .before .before .before .before .before .put-head .ensures) (c .before .before .before .before .before .before .put-minima .ensures) (c .before .before .put-tides .ensures)
+returns c =
+    let args = c .before .before .before .before .before .before .before .before .before .before .before .before .before .before .before .before .before .before .args in
+    parts-put (stateOf (args .dataset) (args .distances .now) (args .settings .now)) _ (eight (stateOf (args .dataset) (args .distances .now) (args .settings .now)) _ (c .before .before .before .before .before .before .before .before .before .before .before .before .before .before .before .before .before .before .pre)) (c .before .before .before .before .before .before .before .before .before .before .put-head .ensures) (c .before .before .before .before .before .before .put-minima .ensures) (c .before .before .put-tides .ensures)
 
 pub put-fields-spec : {M : Type 1} → statement M
 put-fields-spec =

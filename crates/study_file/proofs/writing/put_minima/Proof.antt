@@ -40,7 +40,9 @@ loop-less : tie.Need-loop-less Inv-loop μ-loop
 loop-less c = omega arith
 
 loop-again : tie.Need-loop-again Inv-loop μ-loop
-loop-again c = (omega arith, run-more _ 42 7 _ (c .before .before .before .before .before .before .loop .j) (c .before .before .before .wide .result) (c .before .before .before .before .before .before .loop .inv .1) (c .before .before .before .wide .ensures .0) (c .before .before .put-field .ensures))
+loop-again c =
+    let turn = c .before .before .before .before .before .before .loop in
+    (omega arith, run-more _ 42 7 _ (turn .j) (c .before .before .before .wide .result) (turn .inv .1) (c .before .before .before .wide .ensures .0) (c .before .before .put-field .ensures))
 
 same-length : tie.Need-same-length Inv-loop μ-loop
 same-length c = c .before .loop .inv .1 .same

@@ -24,7 +24,10 @@ shl-new : tie.Need-shl-new
 shl-new c = search needs
 
 add-new : tie.Need-add-new
-add-new c = omega (arith, c .kept .ensures .1, part-moved (c .before .before .before .args .file .now) (c .before .before .before .args .at) (c .before .before .before .args .count) (c .before .before .before .args .v) (c .before .before .before .pre .0 .1) (c .before .before .before .pre .1 .0), part-small (c .before .before .before .args .file .now) (c .before .before .before .args .at) (c .before .before .before .args .count) (c .before .before .before .args .v) (c .before .before .before .pre .0 .1) (c .before .before .before .pre .1 .0))
+add-new c =
+    let args = c .before .before .before .args in
+    let pre = c .before .before .before .pre in
+    omega (arith, c .kept .ensures .1, part-moved (args .file .now) (args .at) (args .count) (args .v) (pre .0 .1) (pre .1 .0), part-small (args .file .now) (args .at) (args .count) (args .v) (pre .0 .1) (pre .1 .0))
 
 cast-file : tie.Need-cast-file
 cast-file c = search needs
@@ -36,7 +39,10 @@ same-length : tie.Need-same-length
 same-length c = search needs
 
 returns : tie.Need-returns
-returns c = part-put (c .before .before .before .args .file .now) (c .before .before .before .args .at) (c .before .before .before .args .count) (c .before .before .before .args .v) (c .before .before .before .pre .0 .1) (c .before .before .before .pre .1 .0) (c .kept .result) (c .kept .ensures .0) (c .before .before .before .pre .0 .0) (c .before .before .before .pre .1 .1)
+returns c =
+    let args = c .before .before .before .args in
+    let pre = c .before .before .before .pre in
+    part-put (args .file .now) (args .at) (args .count) (args .v) (pre .0 .1) (pre .1 .0) (c .kept .result) (c .kept .ensures .0) (pre .0 .0) (pre .1 .1)
 
 pub put-part-spec : {M : Type 1} → statement M
 put-part-spec =

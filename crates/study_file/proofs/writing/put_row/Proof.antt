@@ -46,7 +46,9 @@ loop-less : tie.Need-loop-less Inv-loop μ-loop
 loop-less c = omega arith
 
 loop-again : tie.Need-loop-again Inv-loop μ-loop
-loop-again c = (omega arith, run-more _ _ 20 _ (c .before .before .before .before .before .before .loop .i) _ (c .before .before .before .before .before .before .loop .inv .1) refl (c .before .before .put-field .ensures))
+loop-again c =
+    let turn = c .before .before .before .before .before .before .loop in
+    (omega arith, run-more _ _ 20 _ (turn .i) _ (turn .inv .1) refl (c .before .before .put-field .ensures))
 
 same-length : tie.Need-same-length Inv-loop μ-loop
 same-length c = c .before .loop .inv .1 .same

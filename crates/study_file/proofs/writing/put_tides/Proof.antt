@@ -19,13 +19,20 @@ cast-k : tie.Need-cast-k Inv-loop μ-loop
 cast-k c = omega arith
 
 loop-holds : tie.Need-loop-holds Inv-loop μ-loop
-loop-holds c = (omega arith, tides-none (stateOf (c .before .before .before .before .args .dataset) (c .before .before .before .before .args .distances .now) (c .before .before .before .before .args .settings .now)) _ _)
+loop-holds c =
+    let args = c .before .before .before .before .args in
+    (omega arith, tides-none (stateOf (args .dataset) (args .distances .now) (args .settings .now)) _ _)
 
 bit-length-requires : tie.Need-bit-length-requires Inv-loop μ-loop
-bit-length-requires c κs = (c .before .before .before .before .before .before .pre .dataset .k-high, omega (arith, c .before .before .before .before .before .before .pre .dataset .few))
+bit-length-requires c κs =
+    let pre = c .before .before .before .before .before .before .pre in
+    (pre .dataset .k-high, omega (arith, pre .dataset .few))
 
 put-tide-requires : tie.Need-put-tide-requires Inv-loop μ-loop
-put-tide-requires c κs = tide-room (stateOf (c .before .before .before .before .before .before .before .before .args .dataset) (c .before .before .before .before .before .before .before .before .args .distances .now) (c .before .before .before .before .before .before .before .before .args .settings .now)) _ (c .before .before .before .before .before .before .before .before .pre) (c .before .before .before .loop .file) (c .before .before .before .loop .inv .1 .same) (c .before .before .before .loop .t) (c .before .bit-length .result) (c .before .before .loop-test .taken) (c .before .bit-length .ensures .0)
+put-tide-requires c κs =
+    let args = c .before .before .before .before .before .before .before .before .args in
+    let turn = c .before .before .before .loop in
+    tide-room (stateOf (args .dataset) (args .distances .now) (args .settings .now)) _ (c .before .before .before .before .before .before .before .before .pre) (turn .file) (turn .inv .1 .same) (turn .t) (c .before .bit-length .result) (c .before .before .loop-test .taken) (c .before .bit-length .ensures .0)
 
 add-t : tie.Need-add-t Inv-loop μ-loop
 add-t c = omega arith
@@ -34,13 +41,18 @@ loop-less : tie.Need-loop-less Inv-loop μ-loop
 loop-less c = omega arith
 
 loop-again : tie.Need-loop-again Inv-loop μ-loop
-loop-again c = (omega arith, tides-more (stateOf (c .before .before .before .before .before .before .before .before .before .before .before .args .dataset) (c .before .before .before .before .before .before .before .before .before .before .before .args .distances .now) (c .before .before .before .before .before .before .before .before .before .before .before .args .settings .now)) _ _ (c .before .before .before .before .before .before .loop .t) (c .before .before .before .before .before .before .loop .inv .1) (c .before .before .before .before .bit-length .ensures .0) (c .before .before .put-tide .ensures))
+loop-again c =
+    let args = c .before .before .before .before .before .before .before .before .before .before .before .args in
+    let turn = c .before .before .before .before .before .before .loop in
+    (omega arith, tides-more (stateOf (args .dataset) (args .distances .now) (args .settings .now)) _ _ (turn .t) (turn .inv .1) (c .before .before .before .before .bit-length .ensures .0) (c .before .before .put-tide .ensures))
 
 same-length : tie.Need-same-length Inv-loop μ-loop
 same-length c = c .before .loop .inv .1 .same
 
 returns : tie.Need-returns Inv-loop μ-loop
-returns c = tides-done (stateOf (c .before .before .before .before .before .before .args .dataset) (c .before .before .before .before .before .before .args .distances .now) (c .before .before .before .before .before .before .args .settings .now)) _ _ (c .before .loop .t) (c .before .before .before .before .before .before .args .dataset .n) (omega arith) (omega arith) (c .before .loop .inv .1)
+returns c =
+    let args = c .before .before .before .before .before .before .args in
+    tides-done (stateOf (args .dataset) (args .distances .now) (args .settings .now)) _ _ (c .before .loop .t) (args .dataset .n) (omega arith) (omega arith) (c .before .loop .inv .1)
 
 pub put-tides-spec : {M : Type 1} → statement M
 put-tides-spec =
