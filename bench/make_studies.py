@@ -1,0 +1,185 @@
+#!/usr/bin/env python3
+"""Writes the study files that the programs are timed on, the same every time.
+
+    make_studies.py FOLDER      FOLDER/<n>-<easy|hard>-<name>.study
+
+Easy: tides on a line or in a plane (distance by streets), few settings.
+Hard: most candidates have few enough centres, and only the matching of tides
+to blocks turns them away; or many ties with eight exact minima.
+"""
+
+import os
+import sys
+
+SIZES = [30, 60, 90, 120]
+
+
+class Random:
+    """xorshift, so that the files don't depend on the Python at hand."""
+
+    def __init__(self, seed):
+        self.x = seed * 2654435761 % 2**64 or 1
+
+    def below(self, end):
+        x = self.x
+        x ^= x << 13 & 2**64 - 1
+        x ^= x >> 7
+        x ^= x << 17 & 2**64 - 1
+        self.x = x
+        return (x >> 20) % end
+
+    def shuffled(self, items):
+        items = list(items)
+        for i in range(len(items) - 1, 0, -1):
+            j = self.below(i + 1)
+            items[i], items[j] = items[j], items[i]
+        return items
+
+
+def study_file(k, b0, b, settings, distance, withdrawals=0):
+    """Document 01's bits, most significant first; settings from 1."""
+    n = len(settings)
+    bits = []
+
+    def put(value, width):
+        assert 0 <= value < 1 << width
+        bits.append(format(value, f"0{width}b"))
+
+    put(0x54, 8)
+    put(n, 7)
+    put(k, 4)
+    put(b0, 7)
+    put(withdrawals, 16)
+    for least in b:
+        put(least, 7)
+    for t in range(n):
+        put(settings[t] - 1, 3)
+        for e in range(t):
+            put(distance(t, e), 20)
+    text = "".join(bits)
+    assert len(text) == 42 + 7 * k + 3 * n + 10 * n * max(n - 1, 0)
+    text += "0" * (-len(text) % 8)
+    return int(text, 2).to_bytes(len(text) // 8, "big")
+
+
+def line(n):
+    r = Random(n)
+    at = [r.below(1_000_000) for _ in range(n)]
+    return study_file(1, 3, [0], [1] * n, lambda t, e: abs(at[t] - at[e]))
+
+
+def plane(n):
+    r = Random(n + 1)
+    at = [(r.below(500_000), r.below(500_000)) for _ in range(n)]
+    settings = [1 + r.below(2) for _ in range(n)]
+    return study_file(
+        2, 4, [1, 1], settings,
+        lambda t, e: abs(at[t][0] - at[e][0]) + abs(at[t][1] - at[e][1]), 12)
+
+
+def rooms(n, k, b0, b, seed, moving=False):
+    """Two rooms. In the first, m centres share one tide too few between them
+    at every reach from R to 2R - 1; in the second, one centre has enough. All
+    distances inside a room are from R to 2R and mostly different, so that
+    nearly each of them is a candidate. The rooms are 3R apart. Moving: each
+    tide of the first room is at R from one centre only, and one more tide is
+    near one more centre at each of a thousand candidates."""
+    r = Random(seed)
+    R = 100_000
+    m = (n - b0 - 1) // b0
+    first = m * b0 - 1
+    free = r.shuffled(range(R + 1, 2 * R))
+    table = {}
+    for t in range(n):
+        for e in range(t):
+            if (e < first) != (t < first):
+                d = 3 * R
+            elif t < m:
+                d = 2 * R  # both are centres of the first room
+            elif e < m and (not moving or t % m == e) or e == first:
+                d = R  # one of them is a centre
+            else:
+                d = free.pop()
+            table[t, e] = d
+    settings = [1 + t % k for t in range(first)] + [1 + t % k for t in range(n - first)]
+    assert (m + 1) * b0 <= n
+    return study_file(k, b0, b, settings, lambda t, e: table[t, e], 300)
+
+
+def count(n):
+    """The first room lacks a tide for the blocks' size."""
+    return rooms(n, 1, 5, [0], n + 2)
+
+
+def settings(n):
+    """The first room lacks a tide of the last of eight settings."""
+    return rooms(n, 8, 8, [1] * 8, n + 3)
+
+
+def moving(n):
+    """As before, with tides that come near one by one."""
+    return rooms(n, 8, 8, [1] * 8, n + 6, moving=True)
+
+
+def ties(n):
+    """Two distances only; eight settings, each block just one tide of each
+    where the blocks are full. The first list needs many trials."""
+    r = Random(n + 4)
+    blocks = n // 8
+    near = {}
+    for c in range(8):
+        # each setting's tides: a hidden filling, and other blocks by chance
+        for m, t in enumerate(r.shuffled(range(blocks))):
+            near[c, t] = m
+    # the centres come first, one of each setting in turn
+    tides = [(m % 8, [t for t in range(blocks) if near[m % 8, t] == m][0]) for m in range(blocks)]
+    held = set(tides)
+    tides += r.shuffled([x for x in near if x not in held])
+    own = [near[x] for x in tides]
+    while len(tides) < n:
+        tides.append((r.below(8), None))
+        own.append(r.below(blocks))
+    table = {}
+    for t in range(n):
+        for e in range(t):
+            if e < blocks:
+                d = 2 if t < blocks else 1 if own[t] == e or r.below(3) == 0 else 2
+            else:
+                d = 1 + r.below(2)
+            table[t, e] = d
+    return study_file(8, 8, [1] * 8, [x[0] + 1 for x in tides], lambda t, e: table[t, e], 65_535)
+
+
+def spread(n):
+    """All distances different, from 500,000 to 1,000,000; eight settings."""
+    r = Random(n + 5)
+    table = {}
+    used = set()
+    for t in range(n):
+        for e in range(t):
+            d = 500_000 + r.below(500_001)
+            while d in used:
+                d = 500_000 + r.below(500_001)
+            used.add(d)
+            table[t, e] = d
+    settings = [1 + t % 8 for t in range(n)]
+    return study_file(8, 8, [1] * 8, settings, lambda t, e: table[t, e])
+
+
+KINDS = [
+    ("easy", line), ("easy", plane),
+    ("hard", count), ("hard", settings), ("hard", moving), ("hard", ties), ("hard", spread),
+]
+
+
+def main():
+    folder = sys.argv[1]
+    os.makedirs(folder, exist_ok=True)
+    for n in SIZES:
+        for kind, make in KINDS:
+            with open(f"{folder}/{n:03}-{kind}-{make.__name__}.study", "wb") as out:
+                out.write(make(n))
+
+
+if __name__ == "__main__":
+    main()

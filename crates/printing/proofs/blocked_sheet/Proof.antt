@@ -1,0 +1,30 @@
+-- `blocked_sheet` meets its contract: the text of what Block answers. Assumes nothing.
+use mathlib.Core.Path.{_∙_}
+use Prim.Native.Nat.{ℕ}
+use lib.ListN.{length-replicate}
+use Rattle.dataset.specs.Memory.{stateOf}
+use Rattle.printing.specs.Laws.{blocked-text}
+use borrow.Author.Needs.{needs}
+use Rattle.printing.proofs.blocked_sheet.Statement.{statement}
+use Rattle.printing.proofs.blocked_sheet.Tie as tie
+
+slice-aggregate-block-by-value : tie.Need-slice-aggregate-block-by-value
+slice-aggregate-block-by-value c = search needs
+
+block-by-value-requires : tie.Need-block-by-value-requires
+block-by-value-requires c κs = search needs
+
+sheet-text-requires : tie.Need-sheet-text-requires
+sheet-text-requires c κs = search needs
+
+returns : tie.Need-returns
+returns c =
+    let a = c .before .before .before .before .before .before .before .args in
+    let blocked = c .before .before .before .block-by-value .ensures in
+    let text = c .sheet-text .ensures in
+    (text .0, text .1 ∙ blocked-text (stateOf (a .dataset) (a .distances .now) (a .settings .now)) _ (length-replicate {A = ℕ} 120 0) (blocked .0) (blocked .1 .1))
+
+pub blocked-sheet-spec : {M : Type 1} → statement M
+blocked-sheet-spec =
+    tie.close
+    (tie.spec slice-aggregate-block-by-value block-by-value-requires sheet-text-requires returns)

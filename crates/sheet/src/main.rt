@@ -1,0 +1,19 @@
+// Reads a study file from standard input and prints its sheet.
+use libc::STDIN_FILENO;
+use libc::STDOUT_FILENO;
+ghost use Prim.Native.Nat.{_≤_};
+
+fn print(bytes: [u8; 2837], length: usize)
+    requires { ⌜ length ≤ 2837 ⌝ }
+{
+    io::write_all(STDOUT_FILENO, &bytes[..length]);
+}
+
+fn main() {
+    // one byte more than the longest file decides (`decided` of printing/specs/Limit.antt)
+    let mut input = [0u8; 17909];
+    let count = io::read_full(STDIN_FILENO, &mut input);
+    let text = printing::sheet(&input[..count]);
+    let bytes = text.bytes;
+    print(bytes, text.length);
+}
