@@ -1,0 +1,65 @@
+-- The loop's invariant: the first i places hold their numbers. Assumes nothing.
+use borrow.Author.Needs.{needs}
+use native.Mathlib.Omega.{arith}
+use Prim.Native.Nat.{ℕ, _-_, _≤_}
+use mathlib.Core.Path.{_≡_, refl, _∙_}
+use lib.ListN.{length, getD, length-set}
+use Rattle.lists.specs.Lists.{overwrite}
+use Rattle.lists.specs.Tables.{overwrite-none, overwrite-step, overwrite-done}
+use Rattle.c_api.specs.Api.{numbersOf}
+use Rattle.c_api.specs.RecordLaws.{written}
+use Rattle.c_api.proofs.numbers.put_dataset.Statement.{statement}
+use Rattle.c_api.proofs.numbers.put_dataset.Tie as tie
+
+abbrev Inv-loop : tie.InvT-loop
+Inv-loop numbers₀ dataset i₀ numbers i = (i ≤ 12) × (numbers ≡ overwrite i (λ (j : ℕ). getD (numbersOf dataset) j 0) numbers₀) × (length numbers ≡ length numbers₀)
+
+abbrev μ-loop : tie.MeasureT-loop
+μ-loop numbers₀ dataset i₀ numbers i = 12 - i
+
+loop-holds : tie.Need-loop-holds Inv-loop μ-loop
+loop-holds c = (omega arith, overwrite-none _ _, refl)
+
+number-at-requires : tie.Need-number-at-requires Inv-loop μ-loop
+number-at-requires c κs = (omega arith, omega arith)
+
+mul-numbers : tie.Need-mul-numbers Inv-loop μ-loop
+mul-numbers c = omega arith
+
+slice-write-numbers : tie.Need-slice-write-numbers Inv-loop μ-loop
+slice-write-numbers c = omega arith
+
+add-i : tie.Need-add-i Inv-loop μ-loop
+add-i c = omega arith
+
+loop-less : tie.Need-loop-less Inv-loop μ-loop
+loop-less c = omega arith
+
+loop-again : tie.Need-loop-again Inv-loop μ-loop
+loop-again c =
+    let inv = c .before .before .loop .inv in
+    (omega arith, overwrite-step _ _ _ (inv .1) (c .number-at .ensures) (omega arith), simp length-set (inv .2))
+
+same-length : tie.Need-same-length Inv-loop μ-loop
+same-length c = c .before .loop .inv .2
+
+returns : tie.Need-returns Inv-loop μ-loop
+returns c =
+    let eight : length (c .before .before .before .args .dataset .minima .b) ≡ 8 = search needs in
+    overwrite-done _ _ (omega arith) (c .before .loop .inv .1) ∙ written _ eight _
+
+pub put-dataset-spec : {M : Type 1} → statement M
+put-dataset-spec =
+    tie.close
+    (tie.spec
+    Inv-loop
+    μ-loop
+    loop-holds
+    number-at-requires
+    mul-numbers
+    slice-write-numbers
+    add-i
+    loop-less
+    loop-again
+    same-length
+    returns)

@@ -1,0 +1,185 @@
+-- What the calls for C answer and leave. A dataset's record is 12 numbers: k, n, b0, b1 .. b8, withdrawals. Assumes nothing.
+use Prim.Native.Nat.{ℕ, _+_, _*_, min}
+use mathlib.Core.Bool.{Bool, cond, _||_}
+use mathlib.Core.List.{List, [], _∷_, _++_}
+use lib.Dec.{ltb}
+use lib.ListN.{length, drop, getD}
+use Rattle.lists.specs.Lists.{tabulate}
+use Rattle.study.specs.declared.Minima.{Minima}
+use Rattle.study.specs.declared.Dataset.{Dataset}
+use Rattle.study.specs.declared.BlockRecord.{BlockRecord}
+use Rattle.study.specs.Problem.{blocking}
+use Rattle.study.specs.Study.{Study, problem}
+use Rattle.study.specs.Refusals.{number, seven, Verdict, accepted, refused, settled}
+use Rattle.study.specs.Calls.{centreNumbers, Figures, figures, blockRecord, Judgement, approval, disapproval, judgement}
+use Rattle.file_format.specs.File.{fileOf}
+use Rattle.dataset.specs.Memory.{State, stateOf, studyOf, contentsOf}
+use Rattle.dataset.specs.Answers.{openAnswer, openLeaves, minimaAnswer, minimaLeaves, enterAnswer, enterLeaves, withdrawAnswer, withdrawLeaves}
+use Rattle.study_file.specs.Answers.{readAnswer, readLeaves, writeAnswer}
+use Rattle.blocking.specs.Answers.{centresAnswer, blockAnswer, judgeAnswer}
+
+-- ---- the record and the memory that the caller lends
+
+pub record Lent : Type 0 where
+  pub numbers : List ℕ
+  pub distances : List ℕ
+  pub settings : List ℕ
+
+abbrev pub lent : List ℕ → List ℕ → List ℕ → Lent
+lent n d s = record { numbers = n; distances = d; settings = s }
+
+-- minima in 9 numbers from place p on: b0, b1 .. b8
+unfoldable pub minimaAt : ℕ → List ℕ → Minima
+minimaAt p l = record { b0 = getD l p 0; b = tabulate 8 (λ j. getD l (p + 1 + j) 0) }
+
+unfoldable pub datasetOf : List ℕ → Dataset
+datasetOf l = record { k = getD l 0 0; n = getD l 1 0; minima = minimaAt 2 l; withdrawn = getD l 11 0 }
+
+unfoldable pub numbersOf : Dataset → List ℕ
+numbersOf r = r .k ∷ r .n ∷ r .minima .b0 ∷ (r .minima .b ++ (r .withdrawn ∷ []))
+
+-- what the call looks at; a number that no dataset has, such as k = 300, makes it no dataset (21)
+unfoldable pub stateIn : Lent → State
+stateIn l = stateOf (datasetOf (l .numbers)) (l .distances) (l .settings)
+
+-- ---- the answer
+
+-- 0, or the refusal's number; for 7 its pair besides
+abbrev pub code : Verdict → ℕ
+code accepted = 0
+code (refused (number m)) = m
+code (refused (seven i j)) = 7 + 256 * i + 65536 * j
+
+-- a list of fixed size that is too short is reason 1 and comes first; then the verdict of the call
+unfoldable pub roomFirst : Bool → Verdict → Verdict
+roomFirst scant own = cond scant (refused (number 1)) own
+
+unfoldable pub lacks : ℕ → List ℕ → Bool
+lacks n l = ltb (length l) n
+
+-- ---- what stands afterwards
+
+-- these numbers in the front of a lent list; the places past them stay
+unfoldable pub over : List ℕ → List ℕ → List ℕ
+over xs l = xs ++ drop (length xs) l
+
+-- what a call writes: these numbers where it is accepted
+unfoldable pub output : Verdict → List ℕ → List ℕ → List ℕ
+output v xs l = settled v (over xs l) l
+
+-- record and memory hold s after an accepted call; a refused one changes nothing
+unfoldable pub left : Lent → Verdict → State → Lent
+left l v s = settled v (lent (over (numbersOf (s .dataset)) (l .numbers)) (s .distances) (s .settings)) l
+
+-- ---- Open
+
+unfoldable pub openVerdict : Lent → ℕ → Verdict
+openVerdict l k = roomFirst (lacks 12 (l .numbers)) (openAnswer (stateIn l) k)
+
+unfoldable pub openLeft : Lent → ℕ → Lent
+openLeft l k = left l (openVerdict l k) (openLeaves (stateIn l) k)
+
+-- ---- Minima, given 9 numbers
+
+unfoldable pub minimaVerdict : Lent → List ℕ → Verdict
+minimaVerdict l minima = roomFirst (lacks 12 (l .numbers) || lacks 9 minima) (minimaAnswer (stateIn l) (minimaAt 0 minima))
+
+unfoldable pub minimaLeft : Lent → List ℕ → Lent
+minimaLeft l minima = left l (minimaVerdict l minima) (minimaLeaves (stateIn l) (minimaAt 0 minima))
+
+-- ---- Enter
+
+unfoldable pub enterVerdict : Lent → ℕ → List ℕ → Verdict
+enterVerdict l setting row = roomFirst (lacks 12 (l .numbers)) (enterAnswer (stateIn l) setting row)
+
+unfoldable pub enterLeft : Lent → ℕ → List ℕ → Lent
+enterLeft l setting row = left l (enterVerdict l setting row) (enterLeaves (stateIn l) setting row)
+
+-- ---- Withdraw
+
+unfoldable pub withdrawVerdict : Lent → ℕ → Verdict
+withdrawVerdict l t = roomFirst (lacks 12 (l .numbers)) (withdrawAnswer (stateIn l) t)
+
+unfoldable pub withdrawLeft : Lent → ℕ → Lent
+withdrawLeft l t = left l (withdrawVerdict l t) (withdrawLeaves (stateIn l) t)
+
+-- ---- Read
+
+unfoldable pub readVerdict : Lent → List ℕ → Verdict
+readVerdict l file = roomFirst (lacks 12 (l .numbers)) (readAnswer (stateIn l) file)
+
+unfoldable pub readLeft : Lent → List ℕ → Lent
+readLeft l file = left l (readVerdict l file) (readLeaves (stateIn l) file)
+
+-- ---- Centres at g, lent a list and 1 number for their count
+
+unfoldable pub centresVerdict : Lent → List ℕ → List ℕ → Verdict
+centresVerdict l list count = roomFirst (lacks 12 (l .numbers) || lacks 1 count) (centresAnswer (stateIn l) list)
+
+unfoldable pub centresList : Lent → ℕ → List ℕ → List ℕ → List ℕ
+centresList l g list count = output (centresVerdict l list count) (centreNumbers (studyOf (stateIn l)) g) list
+
+unfoldable pub centresCount : Lent → ℕ → List ℕ → List ℕ → List ℕ
+centresCount l g list count = output (centresVerdict l list count) (length (centreNumbers (studyOf (stateIn l)) g) ∷ []) count
+
+-- ---- Block, lent a list, three columns with a place for each block, and 3 numbers for its figures
+
+pub record Places : Type 0 where
+  pub list : List ℕ
+  pub centres : List ℕ
+  pub sizes : List ℕ
+  pub diameters : List ℕ
+  pub result : List ℕ
+
+abbrev pub places : List ℕ → List ℕ → List ℕ → List ℕ → List ℕ → Places
+places l c s d r = record { list = l; centres = c; sizes = s; diameters = d; result = r }
+
+-- how many records of blocks the columns can hold
+abbrev pub recordRoom : Places → ℕ
+recordRoom p = min (length (p .centres)) (min (length (p .sizes)) (length (p .diameters)))
+
+unfoldable pub blockVerdict : Lent → Places → Verdict
+blockVerdict l p = roomFirst (lacks 12 (l .numbers) || lacks 3 (p .result)) (blockAnswer (stateIn l) (length (p .list)) (recordRoom p))
+
+-- one field of each block's record
+unfoldable pub column : (BlockRecord → ℕ) → Study → List ℕ
+column f S = tabulate (figures S .blocks) (λ i. f (blockRecord S i))
+
+abbrev pub figureNumbers : Figures → List ℕ
+figureNumbers F = F .blocks ∷ F .radius ∷ F .widest ∷ []
+
+unfoldable pub blockLeft : Lent → Places → Places
+blockLeft l p =
+    let S = studyOf (stateIn l) in
+    let v = blockVerdict l p in
+    record {
+      list = output v (blocking (problem S)) (p .list);
+      centres = output v (column (λ r. r .centre) S) (p .centres);
+      sizes = output v (column (λ r. r .tides) S) (p .sizes);
+      diameters = output v (column (λ r. r .diameter) S) (p .diameters);
+      result = output v (figureNumbers (figures S)) (p .result);
+    }
+
+-- ---- Judge, given a list and lent 2 numbers
+
+unfoldable pub judgeVerdict : Lent → List ℕ → List ℕ → Verdict
+judgeVerdict l list result = roomFirst (lacks 12 (l .numbers) || lacks 2 result) (judgeAnswer (stateIn l) list)
+
+-- 1 and the greatest diameter for yes, 0 and 0 for no
+abbrev pub judgementNumbers : Judgement → List ℕ
+judgementNumbers (approval w) = 1 ∷ w ∷ []
+judgementNumbers disapproval = 0 ∷ 0 ∷ []
+
+unfoldable pub judgeResult : Lent → List ℕ → List ℕ → List ℕ
+judgeResult l list result = output (judgeVerdict l list result) (judgementNumbers (judgement (studyOf (stateIn l)) list)) result
+
+-- ---- Write, lent a file and 1 number for its length
+
+unfoldable pub writeVerdict : Lent → List ℕ → List ℕ → Verdict
+writeVerdict l file result = roomFirst (lacks 12 (l .numbers) || lacks 1 result) (writeAnswer (stateIn l) (length file))
+
+unfoldable pub writeFile : Lent → List ℕ → List ℕ → List ℕ
+writeFile l file result = output (writeVerdict l file result) (fileOf (contentsOf (stateIn l))) file
+
+unfoldable pub writeLength : Lent → List ℕ → List ℕ → List ℕ
+writeLength l file result = output (writeVerdict l file result) (length (fileOf (contentsOf (stateIn l))) ∷ []) result

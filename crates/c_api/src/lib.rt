@@ -1,0 +1,244 @@
+// The calls for C and whoever links C: functions on numbers and slices, each with the whole contract of the Rattle call behind it.
+// A dataset's record is 12 numbers of 16 bits: k, n, b0, b1 .. b8, withdrawals. Each call answers 0, or the refusal's number;
+// for 7 its pair i < j besides, as 7 + 256 i + 65,536 j. include/tides.h declares them.
+use crate::code::answer_code;
+use crate::code::refusal_code;
+use crate::numbers::dataset_of;
+use crate::numbers::minima_of;
+use crate::numbers::settle;
+use crate::rows::least;
+use crate::rows::put_columns;
+use crate::rows::put_numbers;
+use blocking::block::block_core;
+use blocking::centres::centres_into;
+use blocking::judge::judge;
+use study::Answer;
+use study::Blocked;
+use study::Judged;
+use study_file::Written;
+
+mod code;
+mod numbers;
+mod rows;
+
+ghost use mathlib.Core.Path.{_≡_};
+ghost use Rattle.c_api.specs.Api.{lent, code, openVerdict, openLeft, minimaVerdict, minimaLeft, enterVerdict, enterLeft, withdrawVerdict, withdrawLeft, readVerdict, readLeft, centresVerdict, centresList, centresCount, places, blockVerdict, blockLeft, judgeVerdict, judgeResult, writeVerdict, writeFile, writeLength};
+
+#[no_mangle]
+pub extern "C" fn tides_open(
+    numbers: &mut [u16],
+    distances: &mut [u32],
+    settings: &mut [u8],
+    k: u8,
+) -> u32
+    ensures code { λ r. ⌜ r ≡ code (openVerdict (lent (now (numbers .entry)) (now (distances .entry)) (now (settings .entry))) k) ⌝ }
+    ensures leaves { λ _. ⌜ lent (now (numbers .exit)) (now (distances .exit)) (now (settings .exit)) ≡ openLeft (lent (now (numbers .entry)) (now (distances .entry)) (now (settings .entry))) k ⌝ }
+{
+    if numbers.len() < 12 {
+        return 1;
+    }
+    let outcome = dataset::open(dataset_of(numbers), distances, settings, k);
+    settle(numbers, outcome)
+}
+
+// The minima are 9 bytes: b0, b1 .. b8.
+#[no_mangle]
+pub extern "C" fn tides_minima(
+    numbers: &mut [u16],
+    distances: &[u32],
+    settings: &[u8],
+    minima: &[u8],
+) -> u32
+    ensures code { λ r. ⌜ r ≡ code (minimaVerdict (lent (now (numbers .entry)) (now (distances .entry)) (now (settings .entry))) (now (minima .entry))) ⌝ }
+    ensures leaves { λ _. ⌜ lent (now (numbers .exit)) (now (distances .entry)) (now (settings .entry)) ≡ minimaLeft (lent (now (numbers .entry)) (now (distances .entry)) (now (settings .entry))) (now (minima .entry)) ⌝ }
+{
+    if numbers.len() < 12 {
+        return 1;
+    }
+    if minima.len() < 9 {
+        return 1;
+    }
+    let outcome = dataset::set_minima(dataset_of(numbers), distances, settings, minima_of(minima));
+    settle(numbers, outcome)
+}
+
+#[no_mangle]
+pub extern "C" fn tides_enter(
+    numbers: &mut [u16],
+    distances: &mut [u32],
+    settings: &mut [u8],
+    setting: u8,
+    row: &[u32],
+) -> u32
+    ensures code { λ r. ⌜ r ≡ code (enterVerdict (lent (now (numbers .entry)) (now (distances .entry)) (now (settings .entry))) setting (now (row .entry))) ⌝ }
+    ensures leaves { λ _. ⌜ lent (now (numbers .exit)) (now (distances .exit)) (now (settings .exit)) ≡ enterLeft (lent (now (numbers .entry)) (now (distances .entry)) (now (settings .entry))) setting (now (row .entry)) ⌝ }
+{
+    if numbers.len() < 12 {
+        return 1;
+    }
+    let outcome = dataset::enter(dataset_of(numbers), distances, settings, setting, row);
+    settle(numbers, outcome)
+}
+
+#[no_mangle]
+pub extern "C" fn tides_withdraw(
+    numbers: &mut [u16],
+    distances: &mut [u32],
+    settings: &mut [u8],
+    tide: u8,
+) -> u32
+    ensures code { λ r. ⌜ r ≡ code (withdrawVerdict (lent (now (numbers .entry)) (now (distances .entry)) (now (settings .entry))) tide) ⌝ }
+    ensures leaves { λ _. ⌜ lent (now (numbers .exit)) (now (distances .exit)) (now (settings .exit)) ≡ withdrawLeft (lent (now (numbers .entry)) (now (distances .entry)) (now (settings .entry))) tide ⌝ }
+{
+    if numbers.len() < 12 {
+        return 1;
+    }
+    let outcome = dataset::withdraw(dataset_of(numbers), distances, settings, tide);
+    settle(numbers, outcome)
+}
+
+#[no_mangle]
+pub extern "C" fn tides_read(
+    numbers: &mut [u16],
+    distances: &mut [u32],
+    settings: &mut [u8],
+    file: &[u8],
+) -> u32
+    ensures code { λ r. ⌜ r ≡ code (readVerdict (lent (now (numbers .entry)) (now (distances .entry)) (now (settings .entry))) (now (file .entry))) ⌝ }
+    ensures leaves { λ _. ⌜ lent (now (numbers .exit)) (now (distances .exit)) (now (settings .exit)) ≡ readLeft (lent (now (numbers .entry)) (now (distances .entry)) (now (settings .entry))) (now (file .entry)) ⌝ }
+{
+    if numbers.len() < 12 {
+        return 1;
+    }
+    let outcome = study_file::read(dataset_of(numbers), distances, settings, file);
+    settle(numbers, outcome)
+}
+
+// The number of centres goes into `count`.
+#[no_mangle]
+pub extern "C" fn tides_centres(
+    numbers: &[u16],
+    distances: &[u32],
+    settings: &[u8],
+    g: u32,
+    list: &mut [u8],
+    count: &mut [u16],
+) -> u32
+    ensures code { λ r. ⌜ r ≡ code (centresVerdict (lent (now (numbers .entry)) (now (distances .entry)) (now (settings .entry))) (now (list .entry)) (now (count .entry))) ⌝ }
+    ensures list { λ _. ⌜ now (list .exit) ≡ centresList (lent (now (numbers .entry)) (now (distances .entry)) (now (settings .entry))) g (now (list .entry)) (now (count .entry)) ⌝ }
+    ensures count { λ _. ⌜ now (count .exit) ≡ centresCount (lent (now (numbers .entry)) (now (distances .entry)) (now (settings .entry))) g (now (list .entry)) (now (count .entry)) ⌝ }
+{
+    if numbers.len() < 12 {
+        return 1;
+    }
+    if count.len() < 1 {
+        return 1;
+    }
+    let found = centres_into(dataset_of(numbers), distances, settings, g, list);
+    let answer = found.answer;
+    let Answer::Done = answer else {
+        return answer_code(answer);
+    };
+    count[0] = found.count as u16;
+    0
+}
+
+// The result is 3 numbers: how many blocks, the radius, the greatest diameter.
+#[no_mangle]
+pub extern "C" fn tides_block(
+    numbers: &[u16],
+    distances: &[u32],
+    settings: &[u8],
+    list: &mut [u8],
+    centres: &mut [u8],
+    sizes: &mut [u8],
+    diameters: &mut [u32],
+    result: &mut [u32],
+) -> u32
+    ensures code { λ r. ⌜ r ≡ code (blockVerdict (lent (now (numbers .entry)) (now (distances .entry)) (now (settings .entry))) (places (now (list .entry)) (now (centres .entry)) (now (sizes .entry)) (now (diameters .entry)) (now (result .entry)))) ⌝ }
+    ensures leaves { λ _. ⌜ places (now (list .exit)) (now (centres .exit)) (now (sizes .exit)) (now (diameters .exit)) (now (result .exit)) ≡ blockLeft (lent (now (numbers .entry)) (now (distances .entry)) (now (settings .entry))) (places (now (list .entry)) (now (centres .entry)) (now (sizes .entry)) (now (diameters .entry)) (now (result .entry))) ⌝ }
+{
+    if numbers.len() < 12 {
+        return 1;
+    }
+    if result.len() < 3 {
+        return 1;
+    }
+    let room = least(centres.len(), sizes.len(), diameters.len());
+    let computed = block_core(dataset_of(numbers), distances, settings, list, room);
+    let answer = computed.answer;
+    let rows = computed.rows;
+    match answer {
+        Blocked::Refused(why) => refusal_code(why),
+        Blocked::Done(blocks, radius, widest) => {
+            put_columns(rows, blocks, centres, sizes, diameters);
+            let count = blocks as u32;
+            let figures = [count, radius, widest];
+            put_numbers(&figures, 3, result);
+            0
+        }
+    }
+}
+
+// The result is 2 numbers: 1 and the greatest diameter for yes, 0 and 0 for no.
+#[no_mangle]
+pub extern "C" fn tides_judge(
+    numbers: &[u16],
+    distances: &[u32],
+    settings: &[u8],
+    list: &[u8],
+    result: &mut [u32],
+) -> u32
+    ensures code { λ r. ⌜ r ≡ code (judgeVerdict (lent (now (numbers .entry)) (now (distances .entry)) (now (settings .entry))) (now (list .entry)) (now (result .entry))) ⌝ }
+    ensures result { λ _. ⌜ now (result .exit) ≡ judgeResult (lent (now (numbers .entry)) (now (distances .entry)) (now (settings .entry))) (now (list .entry)) (now (result .entry)) ⌝ }
+{
+    if numbers.len() < 12 {
+        return 1;
+    }
+    if result.len() < 2 {
+        return 1;
+    }
+    let judged = judge(dataset_of(numbers), distances, settings, list);
+    match judged {
+        Judged::Refused(why) => refusal_code(why),
+        Judged::Declined => {
+            let no = [0, 0];
+            put_numbers(&no, 2, result);
+            0
+        }
+        Judged::Approved(widest) => {
+            let yes = [1, widest];
+            put_numbers(&yes, 2, result);
+            0
+        }
+    }
+}
+
+// The byte length goes into `result`.
+#[no_mangle]
+pub extern "C" fn tides_write(
+    numbers: &[u16],
+    distances: &[u32],
+    settings: &[u8],
+    file: &mut [u8],
+    result: &mut [u32],
+) -> u32
+    ensures code { λ r. ⌜ r ≡ code (writeVerdict (lent (now (numbers .entry)) (now (distances .entry)) (now (settings .entry))) (now (file .entry)) (now (result .entry))) ⌝ }
+    ensures file { λ _. ⌜ now (file .exit) ≡ writeFile (lent (now (numbers .entry)) (now (distances .entry)) (now (settings .entry))) (now (file .entry)) (now (result .entry)) ⌝ }
+    ensures length { λ _. ⌜ now (result .exit) ≡ writeLength (lent (now (numbers .entry)) (now (distances .entry)) (now (settings .entry))) (now (file .entry)) (now (result .entry)) ⌝ }
+{
+    if numbers.len() < 12 {
+        return 1;
+    }
+    if result.len() < 1 {
+        return 1;
+    }
+    let written = study_file::write(dataset_of(numbers), distances, settings, file);
+    match written {
+        Written::Refused(why) => refusal_code(why),
+        Written::Done(size) => {
+            result[0] = size as u32;
+            0
+        }
+    }
+}

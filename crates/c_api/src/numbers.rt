@@ -1,0 +1,124 @@
+// A dataset's record as 12 numbers of 16 bits, read and written.
+use crate::code::answer_code;
+use study::Answer;
+use study::Dataset;
+use study::Minima;
+use study::Outcome;
+ghost use mathlib.Core.Path.{_≡_};
+ghost use Prim.Native.Nat.{ℕ, _+_, _≤_, _<_};
+ghost use lib.ListN.{length, getD};
+ghost use Rattle.lists.specs.Lists.{tabulate};
+ghost use Rattle.study.specs.Refusals.{verdictOf, settled};
+ghost use Rattle.c_api.specs.Api.{minimaAt, numbersOf, over, code};
+ghost use Rattle.c_api.specs.RecordLaws.{cut, datasetBy};
+ghost use Rattle.c_api.specs.CallLaws.{Storable};
+
+// A number that must be a byte. Above 255 it is 255, which no dataset has in its place.
+fn byte(x: u16) -> u8
+    ensures { λ r. ⌜ r ≡ cut x ⌝ }
+{
+    if 255 < x {
+        return 255;
+    }
+    x as u8
+}
+
+// b0, b1 .. b8 of a record.
+fn minima_bytes(numbers: &[u16]) -> [u8; 9]
+    requires { ⌜ 12 ≤ length (now numbers) ⌝ }
+    ensures { λ r. ⌜ r ≡ tabulate 9 (λ (i : ℕ). cut (getD (now (numbers .entry)) (2 + i) 0)) ⌝ }
+{
+    let mut bytes = [0u8; 9];
+    let mut i: usize = 0;
+    while i < 9 {
+        bytes[i] = byte(numbers[2 + i]);
+        i += 1;
+    }
+    bytes
+}
+
+// The minima in 9 bytes: b0, b1 .. b8.
+pub fn minima_of(bytes: &[u8]) -> Minima
+    requires { ⌜ 9 ≤ length (now bytes) ⌝ }
+    ensures { λ r. ⌜ r ≡ minimaAt 0 (now (bytes .entry)) ⌝ }
+{
+    let b = [
+        bytes[1],
+        bytes[2],
+        bytes[3],
+        bytes[4],
+        bytes[5],
+        bytes[6],
+        bytes[7],
+        bytes[8],
+    ];
+    Minima { b0: bytes[0], b }
+}
+
+pub fn dataset_of(numbers: &[u16]) -> Dataset
+    requires { ⌜ 12 ≤ length (now numbers) ⌝ }
+    ensures { λ r. ⌜ r ≡ datasetBy cut (now (numbers .entry)) ⌝ }
+{
+    let bytes = minima_bytes(numbers);
+    let minima = minima_of(&bytes);
+    Dataset {
+        k: byte(numbers[0]),
+        n: numbers[1] as usize,
+        minima,
+        withdrawn: numbers[11],
+    }
+}
+
+fn wide(x: u8) -> u16
+    ensures { λ r. ⌜ r ≡ x ⌝ }
+{
+    x as u16
+}
+
+// The number at place i of a dataset's record.
+fn number_at(dataset: Dataset, i: usize) -> u16
+    requires { ⌜ (i < 12) × (dataset .n < 65536) ⌝ }
+    ensures { λ r. ⌜ r ≡ getD (numbersOf dataset) i 0 ⌝ }
+{
+    if i == 0 {
+        return wide(dataset.k);
+    }
+    if i == 1 {
+        return dataset.n as u16;
+    }
+    let minima = dataset.minima;
+    if i == 2 {
+        return wide(minima.b0);
+    }
+    if i == 11 {
+        return dataset.withdrawn;
+    }
+    let b = minima.b;
+    wide(b[i - 3])
+}
+
+fn put_dataset(numbers: &mut [u16], dataset: Dataset)
+    requires { ⌜ (12 ≤ length (now numbers)) × (dataset .n < 65536) ⌝ }
+    ensures { λ _. ⌜ now (numbers .exit) ≡ over (numbersOf dataset) (now (numbers .entry)) ⌝ }
+{
+    let mut i: usize = 0;
+    while i < 12 {
+        numbers[i] = number_at(dataset, i);
+        i += 1;
+    }
+}
+
+// The number that a call answers. An accepted call's record is written; a refused one writes nothing.
+pub fn settle(numbers: &mut [u16], outcome: Outcome) -> u32
+    requires { ⌜ Storable (now numbers) (verdictOf (outcome .answer)) (outcome .dataset) ⌝ }
+    ensures code { λ r. ⌜ r ≡ code (verdictOf (outcome .answer)) ⌝ }
+    ensures numbers { λ _. ⌜ now (numbers .exit) ≡ settled (verdictOf (outcome .answer)) (over (numbersOf (outcome .dataset)) (now (numbers .entry))) (now (numbers .entry)) ⌝ }
+{
+    let answer = outcome.answer;
+    let Answer::Done = answer else {
+        return answer_code(answer);
+    };
+    let dataset = outcome.dataset;
+    put_dataset(numbers, dataset);
+    0
+}

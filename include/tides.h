@@ -1,0 +1,91 @@
+/* Blocks of like tides: the calls of the library c_api for C. */
+#ifndef TIDES_H
+#define TIDES_H
+
+#include <stddef.h>
+#include <stdint.h>
+
+#ifdef __cplusplus
+extern "C" {
+#endif
+
+/*
+ * A dataset is a record of 12 numbers (k, n, b0, b1 .. b8, withdrawals) and lent memory: 14,400 distances in rows of 120, and 120
+ * settings. Longer lists keep what stands past these places. Tides are numbered from 1.
+ *
+ * Each list is a pointer that isn't null and a length in elements. Lists of one call don't overlap.
+ *
+ * Each call answers 0, or the number of the first reason that holds, in the order given. For 7 it answers 7 + 256 i + 65,536 j,
+ * where i < j is the first pair of tides with which the three-tide rule breaks. A refused call changes nothing.
+ *
+ *  1  record, memory, list or file too short        10  file's n above 120
+ *  2  k not 1 to 8                                  11  filling bits not zero
+ *  3  b0 not 1 to 120, the b's together above b0,   12  judged list's length differs from n
+ *     or a b above k not 0                          21  record and memory are no dataset
+ *  4  row length differs from the tides held        22  120 tides held already
+ *  5  setting not 1 to k                            23  no tide of that number
+ *  6  distance above 1,048,575                      24  no tides
+ *  7  three-tide rule broken                        25  fewer than b0 tides, or fewer of a setting than its b
+ *  8  file under 6 bytes, or not of its length      26  withdrawals already 65,535
+ *  9  mark wrong
+ */
+
+/* The dataset becomes empty: the given k, b0 = 1, every b = 0, no withdrawals. Any record and memory will do. Reasons: 1, 2. */
+uint32_t tides_open(uint16_t *record, size_t record_length, uint32_t *distances, size_t distances_length, uint8_t *settings,
+                    size_t settings_length, uint8_t k);
+
+/* Replaces the minima by 9 bytes: b0, b1 .. b8. Reasons: 1, 21, 3. */
+uint32_t tides_minima(uint16_t *record, size_t record_length, const uint32_t *distances, size_t distances_length,
+                      const uint8_t *settings, size_t settings_length, const uint8_t *minima, size_t minima_length);
+
+/* One more tide, at the row's distances from the tides held. Reasons: 1, 21, 22, 4, 5, 6, 7. */
+uint32_t tides_enter(uint16_t *record, size_t record_length, uint32_t *distances, size_t distances_length, uint8_t *settings,
+                     size_t settings_length, uint8_t setting, const uint32_t *row, size_t row_length);
+
+/* The named tide goes, and later tides move down by one. Reasons: 1, 21, 23, 26. */
+uint32_t tides_withdraw(uint16_t *record, size_t record_length, uint32_t *distances, size_t distances_length, uint8_t *settings,
+                        size_t settings_length, uint8_t tide);
+
+/*
+ * The centres at radius g, as tide numbers in the front of a list of at least n places; their number goes into count[0].
+ * Reasons: 1 (with count), 21, 24, 1 (list).
+ */
+uint32_t tides_centres(const uint16_t *record, size_t record_length, const uint32_t *distances, size_t distances_length,
+                       const uint8_t *settings, size_t settings_length, uint32_t g, uint8_t *list, size_t list_length,
+                       uint16_t *count, size_t count_length);
+
+/*
+ * Divides the tides into blocks. The list gets each tide's block number; for each block in order, centres, sizes and diameters get
+ * its centre's tide number, its number of tides and its greatest distance. Each has at least n places. result gets 3 numbers: how
+ * many blocks, the radius, the greatest diameter. Reasons: 1 (with result), 21, 24, 25, 1 (list, centres, sizes, diameters).
+ */
+uint32_t tides_block(const uint16_t *record, size_t record_length, const uint32_t *distances, size_t distances_length,
+                     const uint8_t *settings, size_t settings_length, uint8_t *list, size_t list_length, uint8_t *centres,
+                     size_t centres_length, uint8_t *sizes, size_t sizes_length, uint32_t *diameters, size_t diameters_length,
+                     uint32_t *result, size_t result_length);
+
+/*
+ * Judges a list of block numbers. result gets 2 numbers: 1 and the greatest diameter where each number is 1 to 255 and the tides
+ * under each number used meet the minima, else 0 and 0. Reasons: 1 (with result), 21, 24, 12.
+ */
+uint32_t tides_judge(const uint16_t *record, size_t record_length, const uint32_t *distances, size_t distances_length,
+                     const uint8_t *settings, size_t settings_length, const uint8_t *list, size_t list_length, uint32_t *result,
+                     size_t result_length);
+
+/*
+ * The dataset that a study file holds. Any record and memory will do. Reasons: 1, 8 (under 6 bytes), 9, 10, 2, 8, 3, 11; then for
+ * each tide 5, 7.
+ */
+uint32_t tides_read(uint16_t *record, size_t record_length, uint32_t *distances, size_t distances_length, uint8_t *settings,
+                    size_t settings_length, const uint8_t *file, size_t file_length);
+
+/* The study file of the dataset, in the front of the bytes; its length goes into result[0]. Reasons: 1 (with result), 21, 1 (file). */
+uint32_t tides_write(const uint16_t *record, size_t record_length, const uint32_t *distances, size_t distances_length,
+                     const uint8_t *settings, size_t settings_length, uint8_t *file, size_t file_length, uint32_t *result,
+                     size_t result_length);
+
+#ifdef __cplusplus
+}
+#endif
+
+#endif

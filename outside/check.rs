@@ -1,0 +1,1626 @@
+//! Compares the library's nine calls with the plain implementation in
+//! plain.rs, call by call over random runs: the answer and all memory, bit for
+//! bit, also the places past each lent length. Stops with status 1 at the
+//! first difference. Every run follows from fixed seeds.
+
+mod plain;
+
+use plain::{Study, FAR, PLACES, RECORD, ROW, TIDES};
+use std::process::exit;
+
+// ---- the library ----
+
+#[rustfmt::skip]
+extern "C" {
+    fn tides_open(
+        record: *mut u16, record_len: usize,
+        distances: *mut u32, distances_len: usize,
+        settings: *mut u8, settings_len: usize,
+        k: u8,
+    ) -> u32;
+    fn tides_minima(
+        record: *mut u16, record_len: usize,
+        distances: *const u32, distances_len: usize,
+        settings: *const u8, settings_len: usize,
+        minima: *const u8, minima_len: usize,
+    ) -> u32;
+    fn tides_enter(
+        record: *mut u16, record_len: usize,
+        distances: *mut u32, distances_len: usize,
+        settings: *mut u8, settings_len: usize,
+        setting: u8,
+        row: *const u32, row_len: usize,
+    ) -> u32;
+    fn tides_withdraw(
+        record: *mut u16, record_len: usize,
+        distances: *mut u32, distances_len: usize,
+        settings: *mut u8, settings_len: usize,
+        tide: u8,
+    ) -> u32;
+    fn tides_centres(
+        record: *const u16, record_len: usize,
+        distances: *const u32, distances_len: usize,
+        settings: *const u8, settings_len: usize,
+        g: u32,
+        list: *mut u8, list_len: usize,
+        count: *mut u16, count_len: usize,
+    ) -> u32;
+    fn tides_block(
+        record: *const u16, record_len: usize,
+        distances: *const u32, distances_len: usize,
+        settings: *const u8, settings_len: usize,
+        list: *mut u8, list_len: usize,
+        centres: *mut u8, centres_len: usize,
+        sizes: *mut u8, sizes_len: usize,
+        diameters: *mut u32, diameters_len: usize,
+        result: *mut u32, result_len: usize,
+    ) -> u32;
+    fn tides_judge(
+        record: *const u16, record_len: usize,
+        distances: *const u32, distances_len: usize,
+        settings: *const u8, settings_len: usize,
+        list: *const u8, list_len: usize,
+        result: *mut u32, result_len: usize,
+    ) -> u32;
+    fn tides_read(
+        record: *mut u16, record_len: usize,
+        distances: *mut u32, distances_len: usize,
+        settings: *mut u8, settings_len: usize,
+        file: *const u8, file_len: usize,
+    ) -> u32;
+    fn tides_write(
+        record: *const u16, record_len: usize,
+        distances: *const u32, distances_len: usize,
+        settings: *const u8, settings_len: usize,
+        file: *mut u8, file_len: usize,
+        result: *mut u32, result_len: usize,
+    ) -> u32;
+}
+
+// ---- lent memory ----
+
+/// Places of which the first `len` are lent; the rest must stay as they are.
+#[derive(Clone, PartialEq)]
+struct Lent<T> {
+    places: Vec<T>,
+    len: usize,
+}
+
+impl<T> Lent<T> {
+    fn ptr(&mut self) -> *mut T {
+        self.places.as_mut_ptr()
+    }
+    fn part(&mut self) -> &mut [T] {
+        &mut self.places[..self.len]
+    }
+}
+
+const GUARD: usize = 4; // places kept past each lent length
+
+/// The given values, all of them lent, with junk after them.
+fn exact<T: Copy + Junk>(rng: &mut Rng, values: &[T]) -> Lent<T> {
+    let mut places = values.to_vec();
+    places.extend((0..GUARD).map(|_| T::junk(rng)));
+    Lent { places, len: values.len() }
+}
+
+/// Junk in `need` places, lent with 0 to `more` further ones.
+fn room<T: Junk>(rng: &mut Rng, need: usize, more: usize) -> Lent<T> {
+    let len = need + rng.below(more + 1);
+    Lent { places: (0..len + GUARD).map(|_| T::junk(rng)).collect(), len }
+}
+
+trait Junk {
+    fn junk(rng: &mut Rng) -> Self;
+}
+impl Junk for u8 {
+    fn junk(rng: &mut Rng) -> u8 {
+        rng.next() as u8
+    }
+}
+impl Junk for u16 {
+    fn junk(rng: &mut Rng) -> u16 {
+        rng.next() as u16
+    }
+}
+impl Junk for u32 {
+    fn junk(rng: &mut Rng) -> u32 {
+        rng.next() as u32
+    }
+}
+
+/// Record and memory of a book.
+#[derive(Clone, PartialEq)]
+struct World {
+    record: Lent<u16>,
+    distances: Lent<u32>,
+    settings: Lent<u8>,
+}
+
+impl World {
+    fn junk(rng: &mut Rng) -> World {
+        World {
+            record: room(rng, RECORD, 3),
+            distances: room(rng, PLACES, 20),
+            settings: room(rng, TIDES, 9),
+        }
+    }
+    fn study(&self) -> Option<Study> {
+        plain::study(&self.record.places, &self.distances.places, &self.settings.places)
+    }
+    fn k(&self) -> usize {
+        self.record.places[0] as usize
+    }
+    fn n(&self) -> usize {
+        self.record.places[1] as usize
+    }
+}
+
+#[derive(Clone, PartialEq)]
+enum Call {
+    Open {
+        k: u8,
+    },
+    Minima {
+        minima: Lent<u8>,
+    },
+    Enter {
+        setting: u8,
+        row: Lent<u32>,
+    },
+    Withdraw {
+        tide: u8,
+    },
+    Centres {
+        g: u32,
+        list: Lent<u8>,
+        count: Lent<u16>,
+    },
+    Block {
+        list: Lent<u8>,
+        centres: Lent<u8>,
+        sizes: Lent<u8>,
+        diameters: Lent<u32>,
+        result: Lent<u32>,
+    },
+    Judge {
+        list: Lent<u8>,
+        result: Lent<u32>,
+    },
+    Read {
+        file: Lent<u8>,
+    },
+    Write {
+        file: Lent<u8>,
+        result: Lent<u32>,
+    },
+}
+
+const NAMES: [&str; 9] =
+    ["Open", "Minima", "Enter", "Withdraw", "Centres", "Block", "Judge", "Read", "Write"];
+
+/// The refusals that each call can give.
+const REASONS: [&[usize]; 9] = [
+    &[1, 2],
+    &[1, 3, 21],
+    &[1, 4, 5, 6, 7, 21, 22],
+    &[1, 21, 23, 26],
+    &[1, 21, 24],
+    &[1, 21, 24, 25],
+    &[1, 12, 21, 24],
+    &[1, 2, 3, 5, 7, 8, 9, 10, 11],
+    &[1, 21],
+];
+
+impl Call {
+    fn number(&self) -> usize {
+        match self {
+            Call::Open { .. } => 0,
+            Call::Minima { .. } => 1,
+            Call::Enter { .. } => 2,
+            Call::Withdraw { .. } => 3,
+            Call::Centres { .. } => 4,
+            Call::Block { .. } => 5,
+            Call::Judge { .. } => 6,
+            Call::Read { .. } => 7,
+            Call::Write { .. } => 8,
+        }
+    }
+
+    /// The lengths of the call's own lent places.
+    fn lengths(&mut self) -> Vec<&mut usize> {
+        match self {
+            Call::Open { .. } | Call::Withdraw { .. } => vec![],
+            Call::Minima { minima } => vec![&mut minima.len],
+            Call::Enter { row, .. } => vec![&mut row.len],
+            Call::Centres { list, count, .. } => vec![&mut list.len, &mut count.len],
+            Call::Block { list, centres, sizes, diameters, result } => vec![
+                &mut list.len,
+                &mut centres.len,
+                &mut sizes.len,
+                &mut diameters.len,
+                &mut result.len,
+            ],
+            Call::Judge { list, result } => vec![&mut list.len, &mut result.len],
+            Call::Read { file } => vec![&mut file.len],
+            Call::Write { file, result } => vec![&mut file.len, &mut result.len],
+        }
+    }
+}
+
+#[rustfmt::skip]
+fn ask_library(w: &mut World, call: &mut Call) -> u32 {
+    let (rp, rn) = (w.record.ptr(), w.record.len);
+    let (dp, dn) = (w.distances.ptr(), w.distances.len);
+    let (sp, sn) = (w.settings.ptr(), w.settings.len);
+    unsafe {
+        match call {
+            Call::Open { k } => tides_open(rp, rn, dp, dn, sp, sn, *k),
+            Call::Minima { minima } => {
+                tides_minima(rp, rn, dp, dn, sp, sn, minima.ptr(), minima.len)
+            }
+            Call::Enter { setting, row } => {
+                tides_enter(rp, rn, dp, dn, sp, sn, *setting, row.ptr(), row.len)
+            }
+            Call::Withdraw { tide } => tides_withdraw(rp, rn, dp, dn, sp, sn, *tide),
+            Call::Centres { g, list, count } => tides_centres(
+                rp, rn, dp, dn, sp, sn, *g, list.ptr(), list.len, count.ptr(), count.len,
+            ),
+            Call::Block { list, centres, sizes, diameters, result } => tides_block(
+                rp, rn, dp, dn, sp, sn,
+                list.ptr(), list.len,
+                centres.ptr(), centres.len,
+                sizes.ptr(), sizes.len,
+                diameters.ptr(), diameters.len,
+                result.ptr(), result.len,
+            ),
+            Call::Judge { list, result } => tides_judge(
+                rp, rn, dp, dn, sp, sn, list.ptr(), list.len, result.ptr(), result.len,
+            ),
+            Call::Read { file } => tides_read(rp, rn, dp, dn, sp, sn, file.ptr(), file.len),
+            Call::Write { file, result } => tides_write(
+                rp, rn, dp, dn, sp, sn, file.ptr(), file.len, result.ptr(), result.len,
+            ),
+        }
+    }
+}
+
+fn ask_plain(w: &mut World, call: &mut Call) -> u32 {
+    let (r, d, s) = (w.record.part(), w.distances.part(), w.settings.part());
+    match call {
+        Call::Open { k } => plain::open(r, d, s, *k),
+        Call::Minima { minima } => plain::minima(r, d, s, minima.part()),
+        Call::Enter { setting, row } => plain::enter(r, d, s, *setting, row.part()),
+        Call::Withdraw { tide } => plain::withdraw(r, d, s, *tide),
+        Call::Centres { g, list, count } => plain::centres(r, d, s, *g, list.part(), count.part()),
+        Call::Block { list, centres, sizes, diameters, result } => plain::block(
+            r,
+            d,
+            s,
+            list.part(),
+            centres.part(),
+            sizes.part(),
+            diameters.part(),
+            result.part(),
+        ),
+        Call::Judge { list, result } => plain::judge(r, d, s, list.part(), result.part()),
+        Call::Read { file } => plain::read(r, d, s, file.part()),
+        Call::Write { file, result } => plain::write(r, d, s, file.part(), result.part()),
+    }
+}
+
+// ---- comparing ----
+
+/// Counts of what was seen, and the comparison itself.
+struct Seen {
+    calls: u64,
+    group: String,
+    by_group: [u64; 27],     // answers in this group
+    by_call: [[u64; 27]; 9], // answers of each call
+    yes: u64,
+    no: u64,
+    enumerated: u64,
+}
+
+impl Seen {
+    fn new() -> Seen {
+        Seen {
+            calls: 0,
+            group: String::new(),
+            by_group: [0; 27],
+            by_call: [[0; 27]; 9],
+            yes: 0,
+            no: 0,
+            enumerated: 0,
+        }
+    }
+
+    fn begin(&mut self, group: &str) {
+        self.group = group.to_string();
+        self.by_group = [0; 27];
+    }
+
+    fn end(&self) {
+        let calls: u64 = self.by_group.iter().sum();
+        let mut line = format!(
+            "{:<22} {:>7} calls, {:>6} accepted, refused",
+            self.group, calls, self.by_group[0]
+        );
+        for r in 1..27 {
+            if self.by_group[r] > 0 {
+                line += &format!(" {}:{}", r, self.by_group[r]);
+            }
+        }
+        println!("{line}");
+    }
+
+    /// Makes one call on both sides. World and call are left as both left them.
+    fn call(&mut self, w: &mut World, call: &mut Call) -> u32 {
+        let (before_w, before_call) = (w.clone(), call.clone());
+        let (mut other_w, mut other_call) = (w.clone(), call.clone());
+        let answer = ask_library(w, call);
+        let expected = ask_plain(&mut other_w, &mut other_call);
+        if expected != 0 && (other_w != before_w || other_call != before_call) {
+            fail(
+                "the plain implementation changed something on a refusal",
+                &before_w,
+                &before_call,
+            );
+        }
+        if answer != expected || *w != other_w || *call != other_call {
+            println!("answers: library {}, plain {}", number(answer), number(expected));
+            say_worlds(w, &other_w);
+            say_calls(call, &other_call);
+            fail(
+                &format!("a difference in call {} ({})", self.calls + 1, self.group),
+                &before_w,
+                &before_call,
+            );
+        }
+        self.calls += 1;
+        let reason = (answer % 256) as usize;
+        let c = call.number();
+        if reason != 0 && !REASONS[c].contains(&reason) {
+            fail(&format!("{} has no refusal {}", NAMES[c], reason), &before_w, &before_call);
+        }
+        self.by_group[reason] += 1;
+        self.by_call[c][reason] += 1;
+        if let (Call::Judge { result, .. }, 0) = (&*call, answer) {
+            if result.places[0] == 1 {
+                self.yes += 1;
+            } else {
+                self.no += 1;
+            }
+        }
+        if let (Call::Block { list, result, .. }, 0) = (&*call, answer) {
+            if w.n() <= 7 {
+                self.enumerated += 1;
+                if let Err(what) = enumerate(&w.study().unwrap(), &list.places, &result.places) {
+                    fail(&what, &before_w, &before_call);
+                }
+            }
+        }
+        answer
+    }
+}
+
+fn number(answer: u32) -> String {
+    if answer % 256 == 7 {
+        format!("7 with pair {}, {}", answer / 256 % 256, answer / 65_536)
+    } else {
+        format!("{answer}")
+    }
+}
+
+fn say<T: PartialEq + std::fmt::Display>(name: &str, a: &Lent<T>, b: &Lent<T>) {
+    let different: Vec<usize> =
+        (0..a.places.len()).filter(|i| a.places[*i] != b.places[*i]).collect();
+    if let Some(i) = different.first() {
+        println!(
+            "{}: {} places differ; place {} (of {} lent): library {}, plain {}",
+            name,
+            different.len(),
+            i,
+            a.len,
+            a.places[*i],
+            b.places[*i]
+        );
+    }
+}
+
+fn say_worlds(a: &World, b: &World) {
+    say("record", &a.record, &b.record);
+    say("distances", &a.distances, &b.distances);
+    say("settings", &a.settings, &b.settings);
+}
+
+fn say_calls(a: &Call, b: &Call) {
+    match (a, b) {
+        (Call::Minima { minima: x }, Call::Minima { minima: y }) => say("minima", x, y),
+        (Call::Enter { row: x, .. }, Call::Enter { row: y, .. }) => say("row", x, y),
+        (Call::Centres { list: x, count: s, .. }, Call::Centres { list: y, count: t, .. }) => {
+            say("list", x, y);
+            say("count", s, t);
+        }
+        (
+            Call::Block { list, centres, sizes, diameters, result },
+            Call::Block { list: l, centres: c, sizes: s, diameters: d, result: r },
+        ) => {
+            say("list", list, l);
+            say("centres", centres, c);
+            say("sizes", sizes, s);
+            say("diameters", diameters, d);
+            say("result", result, r);
+        }
+        (Call::Judge { list: x, result: s }, Call::Judge { list: y, result: t }) => {
+            say("list", x, y);
+            say("result", s, t);
+        }
+        (Call::Read { file: x }, Call::Read { file: y }) => say("file", x, y),
+        (Call::Write { file: x, result: s }, Call::Write { file: y, result: t }) => {
+            say("file", x, y);
+            say("result", s, t);
+        }
+        _ => {}
+    }
+}
+
+/// Prints the call and the book before it, and ends the program.
+fn fail(what: &str, w: &World, call: &Call) -> ! {
+    let lent = |l: &Lent<u8>| format!("{:?}", &l.places[..l.len.min(l.places.len())]);
+    println!("FAILED: {what}");
+    print!("call {}: ", NAMES[call.number()]);
+    match call {
+        Call::Open { k } => println!("k {k}"),
+        Call::Minima { minima } => println!("minima {}", lent(minima)),
+        Call::Enter { setting, row } => {
+            println!("setting {setting}, row {:?}", &row.places[..row.len])
+        }
+        Call::Withdraw { tide } => println!("tide {tide}"),
+        Call::Centres { g, list, count } => {
+            println!("g {g}, list of {}, count of {}", list.len, count.len)
+        }
+        Call::Block { list, centres, sizes, diameters, result } => println!(
+            "list of {}, centres of {}, sizes of {}, diameters of {}, result of {}",
+            list.len, centres.len, sizes.len, diameters.len, result.len
+        ),
+        Call::Judge { list, result } => println!("list {}, result of {}", lent(list), result.len),
+        Call::Read { file } => {
+            let hex = |b: &u8| format!(" {b:02x}");
+            let start: String = file.places[..file.len].iter().take(200).map(hex).collect();
+            println!("file of {} bytes:{start}", file.len)
+        }
+        Call::Write { file, result } => println!("file of {}, result of {}", file.len, result.len),
+    }
+    println!(
+        "before: record of {} {:?}, distances of {}, settings of {}",
+        w.record.len, w.record.places, w.distances.len, w.settings.len
+    );
+    let n = w.n().min(TIDES);
+    println!("settings {:?}", &w.settings.places[..n]);
+    for i in 0..n {
+        println!("tide {}: {:?}", i + 1, &w.distances.places[ROW * i..ROW * i + n]);
+    }
+    exit(1);
+}
+
+// ---- full enumeration, up to seven tides ----
+
+/// Tries every list of every candidate in dictionary order, and every division.
+fn enumerate(s: &Study, list: &[u8], result: &[u32]) -> Result<(), String> {
+    let n = s.n();
+    for g in plain::candidates(s) {
+        let centres = plain::centres_at(s, g);
+        let near = plain::near(s, &centres, g);
+        let mut at = vec![0; n]; // an odometer over the blocks in reach, tide 1 slowest
+        loop {
+            let tried: Vec<usize> = (0..n).map(|t| near[t][at[t]]).collect();
+            if (0..centres.len()).all(|m| plain::meets(s, &tried, m)) {
+                let same = (0..n).all(|t| tried[t] + 1 == list[t] as usize);
+                if result[0] as usize != centres.len() || result[1] != g || !same {
+                    return Err(format!("enumeration finds reach {g}, blocks from 0 {tried:?}"));
+                }
+                return twice(s, result[2]);
+            }
+            let Some(t) = (0..n).rev().find(|t| at[*t] + 1 < near[*t].len()) else {
+                break;
+            };
+            at[t] += 1;
+            at[t + 1..].fill(0);
+        }
+    }
+    Err("enumeration finds no filling".to_string())
+}
+
+/// No division that meets the minima is less than half as wide.
+fn twice(s: &Study, widest: u32) -> Result<(), String> {
+    fn best(s: &Study, list: &mut Vec<usize>, used: usize) -> u32 {
+        if list.len() == s.n() {
+            let good = (0..used).all(|m| plain::meets(s, list, m));
+            let widest = (0..used).map(|m| plain::diameter(s, list, m)).max();
+            return if good { widest.unwrap() } else { u32::MAX };
+        }
+        let mut least = u32::MAX;
+        for m in 0..=used {
+            list.push(m);
+            least = least.min(best(s, list, used.max(m + 1)));
+            list.pop();
+        }
+        least
+    }
+    let least = best(s, &mut vec![], 0);
+    if widest as u64 > 2 * least as u64 {
+        return Err(format!("widest {widest}, but a division of widest {least} exists"));
+    }
+    Ok(())
+}
+
+// ---- random things ----
+
+struct Rng(u64);
+
+impl Rng {
+    fn next(&mut self) -> u64 {
+        self.0 ^= self.0 << 13;
+        self.0 ^= self.0 >> 7;
+        self.0 ^= self.0 << 17;
+        self.0.wrapping_mul(0x2545_F491_4F6C_DD1D) >> 16
+    }
+    fn below(&mut self, end: usize) -> usize {
+        (self.next() % end as u64) as usize
+    }
+    fn within(&mut self, low: usize, high: usize) -> usize {
+        low + self.below(high - low + 1)
+    }
+    fn one_in(&mut self, n: usize) -> bool {
+        self.below(n) == 0
+    }
+    fn pick<T: Copy>(&mut self, from: &[T]) -> T {
+        from[self.below(from.len())]
+    }
+}
+
+type Metric = Vec<Vec<u32>>;
+
+/// Distances between some points under which the three-tide rule holds.
+fn metric(rng: &mut Rng, points: usize) -> Metric {
+    let kind = rng.below(9);
+    let span = match kind {
+        0 => rng.within(1, 6),
+        1 => rng.within(6, 40),
+        2 => rng.within(1, 4),
+        3 => rng.within(5, 60),
+        4 => 524_287,
+        5 => FAR as usize,
+        _ => rng.pick(&[1, 2, 3, 10, 1000, 500_000]),
+    };
+    let table = |d: &dyn Fn(usize, usize) -> u32| -> Metric {
+        (0..points).map(|i| (0..points).map(|j| d(i, j)).collect()).collect()
+    };
+    match kind {
+        // on a line, the last one with its ends at the greatest distance
+        0 | 1 | 5 => {
+            let mut at: Vec<i64> = (0..points).map(|_| rng.below(span + 1) as i64).collect();
+            if kind == 5 && points > 1 {
+                at[0] = 0;
+                at[points - 1] = span as i64;
+            }
+            table(&|i, j| at[i].abs_diff(at[j]) as u32)
+        }
+        // in a plane, by streets
+        2 | 3 | 4 => {
+            let at: Vec<(i64, i64)> = (0..points)
+                .map(|_| (rng.below(span + 1) as i64, rng.below(span + 1) as i64))
+                .collect();
+            table(&|i, j| (at[i].0.abs_diff(at[j].0) + at[i].1.abs_diff(at[j].1)) as u32)
+        }
+        // anything from a span to twice the span
+        6 => {
+            let r: Metric = (0..points)
+                .map(|_| (0..points).map(|_| (span + rng.below(span + 1)) as u32).collect())
+                .collect();
+            table(&|i, j| if i == j { 0 } else { r[i.min(j)][i.max(j)] })
+        }
+        // heaps: near inside, far between
+        7 => {
+            let heaps = rng.within(1, 4);
+            let of: Vec<usize> = (0..points).map(|_| rng.below(heaps)).collect();
+            let inside = rng.below(3) as u32;
+            table(&|i, j| {
+                if i == j {
+                    0
+                } else if of[i] == of[j] {
+                    inside
+                } else {
+                    inside + 2 * span as u32 / 2 + (of[i] + of[j]) as u32 % 2
+                }
+            })
+        }
+        // shortest ways over random roads
+        _ => {
+            let mut d = vec![vec![0; points]; points];
+            for i in 0..points {
+                for j in 0..i {
+                    d[i][j] = rng.below(4 * span.min(200_000) + 1) as u32;
+                    d[j][i] = d[i][j];
+                }
+            }
+            for m in 0..points {
+                for i in 0..points {
+                    for j in 0..points {
+                        d[i][j] = d[i][j].min(d[i][m] + d[m][j]);
+                    }
+                }
+            }
+            d
+        }
+    }
+}
+
+/// Minima that fit a book; often tight for some number of blocks.
+fn minima_for(rng: &mut Rng, k: usize, settings: &[u8]) -> [u8; 9] {
+    let n = settings.len();
+    let mut m = [0u8; 9];
+    if n > 0 && !rng.one_in(4) {
+        let most = if rng.one_in(2) { n.min(3) } else { n };
+        let blocks = rng.within(1, most);
+        let slack = rng.below(3);
+        for j in 0..k {
+            let of = settings.iter().filter(|s| **s as usize == j + 1).count();
+            let least = (of / blocks).saturating_sub(if rng.one_in(3) { 1 } else { 0 });
+            m[1 + j] = if rng.one_in(4) { 0 } else { least as u8 };
+        }
+        let sum: usize = m[1..].iter().map(|x| *x as usize).sum();
+        m[0] = (n / blocks).saturating_sub(slack).max(sum).max(1) as u8;
+    } else {
+        m[0] = if rng.one_in(6) { rng.within(1, 120) } else { rng.within(1, 4) } as u8;
+        let mut left = m[0] as usize;
+        for j in 0..k {
+            if rng.one_in(2) {
+                m[1 + j] = rng.below(left.min(2) + 1) as u8;
+                left -= m[1 + j] as usize;
+            }
+        }
+    }
+    m
+}
+
+/// Sets a field of a file's bits where the file reaches that far.
+fn set_field(file: &mut [u8], at: usize, width: usize, value: usize) {
+    for i in 0..width {
+        let bit = at + i;
+        if bit / 8 < file.len() {
+            let mask = 0x80 >> (bit % 8);
+            if value >> (width - 1 - i) & 1 == 1 {
+                file[bit / 8] |= mask;
+            } else {
+                file[bit / 8] &= !mask;
+            }
+        }
+    }
+}
+
+fn get_field(file: &[u8], at: usize, width: usize) -> usize {
+    (at..at + width)
+        .fold(0, |v, i| 2 * v + file.get(i / 8).map_or(0, |b| (b >> (7 - i % 8) & 1) as usize))
+}
+
+/// Spoils a file in one way.
+fn spoil_file(rng: &mut Rng, file: &mut Vec<u8>) {
+    let n = get_field(file, 8, 7);
+    let k = get_field(file, 15, 4);
+    let tide = |t: usize| 42 + 7 * k + 3 * t + 10 * t * t.saturating_sub(1);
+    match rng.below(16) {
+        0 => {
+            if !file.is_empty() {
+                let i = rng.below(file.len());
+                file[i] ^= 1 << rng.below(8);
+            }
+        }
+        1 => set_field(file, 0, 8, rng.pick(&[0x53, 0x55, 0, 255, 0xD4, 0x45])),
+        2 => set_field(file, 8, 7, rng.pick(&[120, 121, 122, 127, n ^ 1, 0])),
+        3 => set_field(file, 15, 4, rng.pick(&[0, 1, 8, 9, 15, k ^ 1])),
+        4 => set_field(file, 19, 7, rng.pick(&[0, 1, 2, 120, 121, 127])),
+        5 => set_field(file, 26, 16, rng.pick(&[0, 1, 65_534, 65_535])),
+        6 | 7 => {
+            if k > 0 {
+                let j = rng.below(k);
+                set_field(file, 42 + 7 * j, 7, rng.pick(&[0, 1, 2, 64, 120, 127]));
+            }
+        }
+        8 => file.truncate(rng.below(file.len() + 1)),
+        9 => file.truncate(file.len().saturating_sub(1)),
+        10 => {
+            for _ in 0..rng.within(1, 3) {
+                file.push(if rng.one_in(2) { 0 } else { rng.next() as u8 });
+            }
+        }
+        11 => {
+            // the filling
+            let end = tide(n);
+            let fill = (8 * file.len()).saturating_sub(end);
+            if fill > 0 && fill < 8 {
+                let at = end + rng.below(fill);
+                set_field(file, at, 1, 1);
+            }
+        }
+        12 | 13 => {
+            if n > 0 {
+                let at = tide(rng.below(n));
+                set_field(file, at, 3, rng.pick(&[7, k, k.saturating_sub(1), 0]));
+            }
+        }
+        _ => {
+            if n > 1 {
+                let t = rng.within(1, n - 1);
+                let at = tide(t) + 3 + 20 * rng.below(t);
+                let old = get_field(file, at, 20);
+                let new = rng.pick(&[0, old + 1, old.saturating_sub(1), 2 * old + 1, FAR as usize]);
+                set_field(file, at, 20, new);
+            }
+        }
+    }
+}
+
+/// Changes record or memory in one way; the places past the book's count too.
+fn spoil_world(rng: &mut Rng, w: &mut World) {
+    let n = w.n().min(TIDES);
+    let k = w.k();
+    let both = |w: &mut World, i: usize, j: usize, d: u32| {
+        w.distances.places[ROW * i + j] = d;
+        w.distances.places[ROW * j + i] = d;
+    };
+    match rng.below(18) {
+        0 => {
+            let i = rng.below(RECORD);
+            w.record.places[i] = rng.pick(&[0, 1, 2, 8, 9, 119, 120, 121, 255, 256, 257, 65_535]);
+        }
+        1 => {
+            let i = rng.below(RECORD);
+            w.record.places[i] ^= 1 << rng.below(16);
+        }
+        // the same low byte
+        2 => {
+            let i = rng.below(RECORD);
+            w.record.places[i] = w.record.places[i].wrapping_add(256 * rng.within(1, 255) as u16);
+        }
+        3 => w.record.places[0] = (k as u16).wrapping_add(rng.pick(&[1, 65_535])),
+        4 => w.record.places[1] = (w.n() as u16).wrapping_add(rng.pick(&[1, 65_535])),
+        5 => w.record.places[2] = rng.pick(&[0, 1, 2, 120, 121]),
+        // minima whose sum comes round to 0 in 16 bits, or in 8
+        6 => {
+            let half = rng.pick(&[32_768, 128]);
+            w.record.places[3] = half;
+            w.record.places[3 + rng.below(8)] = half;
+        }
+        7 => {
+            let j = rng.below(8);
+            w.record.places[3 + j] = rng.within(0, 3) as u16;
+        }
+        8 => w.record.places[11] = rng.pick(&[0, 65_534, 65_535]),
+        9 => {
+            let i = rng.below(PLACES);
+            w.distances.places[i] ^= 1 << rng.below(32);
+        }
+        10 | 11 => {
+            if n > 1 {
+                let (i, j) = (rng.below(n), rng.below(n));
+                let old = w.distances.places[ROW * i + j];
+                let near = rng.pick(&[0, 1, old + 1, old.saturating_sub(1), 2 * old + 1]);
+                let new = rng.pick(&[near, near, FAR, FAR + 1, u32::MAX]);
+                if rng.one_in(3) {
+                    w.distances.places[ROW * i + j] = new;
+                } else {
+                    both(w, i, j, new);
+                }
+            }
+        }
+        12 => {
+            let i = rng.below(TIDES);
+            w.distances.places[(ROW + 1) * i] = rng.pick(&[1, FAR]);
+        }
+        13 => {
+            // just past the tides held
+            if n < TIDES {
+                let i = rng.below(n + 1);
+                if rng.one_in(2) {
+                    w.distances.places[ROW * i + n] = 1;
+                } else {
+                    both(w, i, n, 1);
+                }
+            }
+        }
+        14 => {
+            let i = rng.below(TIDES);
+            w.settings.places[i] = rng.pick(&[0, 1, k as u8, k as u8 + 1, 8, 9, 255]);
+        }
+        15 => {
+            if n > 0 {
+                let i = rng.below(n);
+                w.settings.places[i] = rng.pick(&[0, 1, k as u8, k as u8 + 1, 9]);
+            }
+        }
+        16 => {
+            if n < TIDES {
+                w.settings.places[rng.pick(&[n, TIDES - 1])] = 1;
+            }
+        }
+        // what is past the book's places doesn't matter
+        _ => {
+            for i in PLACES..w.distances.places.len() {
+                w.distances.places[i] = u32::junk(rng);
+            }
+            for i in TIDES..w.settings.places.len() {
+                w.settings.places[i] = u8::junk(rng);
+            }
+            for i in RECORD..w.record.places.len() {
+                w.record.places[i] = u16::junk(rng);
+            }
+        }
+    }
+}
+
+// ---- runs ----
+
+/// A book with the points that its tides stand for.
+#[derive(Clone)]
+struct Run {
+    w: World,
+    metric: Metric,
+    held: Vec<usize>,
+    files: Vec<(Vec<u8>, Vec<usize>)>, // files written so far and their points
+    list: Vec<u8>,                     // the last list of Block
+}
+
+impl Run {
+    /// Starts from junk, or from an opened book.
+    fn new(rng: &mut Rng, points: usize) -> Run {
+        let mut w = World::junk(rng);
+        if rng.one_in(10) {
+            w.record.places[..RECORD].fill(0);
+            w.distances.places[..PLACES].fill(0);
+            w.settings.places[..TIDES].fill(0);
+        }
+        Run { w, metric: metric(rng, points), held: vec![], files: vec![], list: vec![] }
+    }
+
+    /// The distances from a point; of a book without known points, those of
+    /// one of its tides and a little more, which keeps the three-tide rule too.
+    fn row(&self, rng: &mut Rng, point: usize) -> Vec<u32> {
+        let n = self.w.n().min(TIDES);
+        if self.held.len() == n {
+            self.held.iter().map(|p| self.metric[*p][point]).collect()
+        } else {
+            let (like, more) = (rng.below(n.max(1)), rng.below(3) as u32);
+            (0..n).map(|e| self.w.distances.places[ROW * like + e].saturating_add(more)).collect()
+        }
+    }
+
+    /// Makes a call and keeps the notes of the run in step.
+    fn make(&mut self, seen: &mut Seen, call: &mut Call, point: usize) -> u32 {
+        let answer = seen.call(&mut self.w, call);
+        if answer == 0 {
+            match call {
+                Call::Open { .. } => self.held.clear(),
+                Call::Enter { .. } => self.held.push(point),
+                Call::Withdraw { tide } => {
+                    if *tide as usize <= self.held.len() {
+                        self.held.remove(*tide as usize - 1);
+                    }
+                }
+                Call::Block { list, .. } => self.list = list.places[..self.w.n()].to_vec(),
+                Call::Write { file, result } => {
+                    let bytes = file.places[..result.places[0] as usize].to_vec();
+                    self.files.push((bytes, self.held.clone()));
+                }
+                Call::Read { file } => {
+                    let same = self.files.iter().find(|f| f.0 == file.places[..file.len]);
+                    self.held = same.map_or(vec![], |f| f.1.clone());
+                }
+                _ => {}
+            }
+        }
+        answer
+    }
+
+    /// A call that would be accepted of a book, and the point that it enters.
+    fn propose(&self, rng: &mut Rng, target: usize) -> (Call, usize) {
+        let n = self.w.n().min(TIDES);
+        let k = self.w.k().clamp(1, 8);
+        let entering = if n >= target {
+            0
+        } else if 2 * n < target {
+            24
+        } else {
+            10
+        };
+        let what = match rng.below(24 + entering) {
+            0..=6 => 5,
+            7..=9 => 1,
+            10..=12 => 4,
+            13..=16 => 6,
+            17..=18 => 8,
+            19 => 7,
+            20..=23 => 3,
+            _ => 2,
+        };
+        let what = if rng.one_in(150) { 0 } else { what };
+        self.propose_call(rng, what, n, k)
+    }
+
+    fn propose_call(&self, rng: &mut Rng, what: usize, n: usize, k: usize) -> (Call, usize) {
+        let mut point = 0;
+        let call = match what {
+            0 => Call::Open { k: rng.within(1, 8) as u8 },
+            1 => {
+                let m = minima_for(rng, k, &self.w.settings.places[..n]);
+                let mut minima = room(rng, 9, 2);
+                minima.places[..9].copy_from_slice(&m);
+                Call::Minima { minima }
+            }
+            2 => {
+                point = rng.below(self.metric.len());
+                let row = self.row(rng, point);
+                let setting = if rng.one_in(3) { 1 } else { rng.within(1, k) };
+                Call::Enter { setting: setting as u8, row: exact(rng, &row) }
+            }
+            3 => Call::Withdraw { tide: rng.within(1, n.max(1)) as u8 },
+            4 => {
+                let g = match rng.below(6) {
+                    0 => 0,
+                    1 => rng.pick(&[FAR, FAR + 1, u32::MAX]),
+                    _ if n > 0 => {
+                        let d = self.w.distances.places[ROW * rng.below(n) + rng.below(n)];
+                        rng.pick(&[d, d, d.saturating_sub(1), d.saturating_add(1)])
+                    }
+                    _ => rng.next() as u32,
+                };
+                Call::Centres { g, list: room(rng, n, 3), count: room(rng, 1, 1) }
+            }
+            5 => Call::Block {
+                list: room(rng, n, 3),
+                centres: room(rng, n, 3),
+                sizes: room(rng, n, 3),
+                diameters: room(rng, n, 3),
+                result: room(rng, 3, 1),
+            },
+            6 => {
+                let list = self.some_list(rng, n);
+                Call::Judge { list: exact(rng, &list), result: room(rng, 2, 1) }
+            }
+            7 => {
+                let file = if self.files.is_empty() {
+                    some_file(rng)
+                } else {
+                    self.files[rng.below(self.files.len())].0.clone()
+                };
+                Call::Read { file: exact(rng, &file) }
+            }
+            _ => {
+                let need = plain::byte_length(k, n);
+                Call::Write { file: room(rng, need, 5), result: room(rng, 1, 1) }
+            }
+        };
+        (call, point)
+    }
+
+    /// A list for Judge: Block's own, renumbered, disturbed, or any.
+    fn some_list(&self, rng: &mut Rng, n: usize) -> Vec<u8> {
+        if self.list.len() != n || rng.one_in(5) {
+            let high = rng.within(1, 3);
+            return (0..n).map(|_| rng.within(1, high) as u8).collect();
+        }
+        let mut list = self.list.clone();
+        if rng.one_in(3) {
+            let mut names: Vec<u8> = (1..=255).collect();
+            for i in 0..255 {
+                names.swap(i, rng.within(i, 254));
+            }
+            list = list.iter().map(|m| names[*m as usize - 1]).collect();
+        }
+        if n > 0 && rng.one_in(2) {
+            let (i, j) = (rng.below(n), rng.below(n));
+            match rng.below(4) {
+                0 => list[i] = list[j],
+                1 => list.swap(i, j),
+                2 => list[i] = rng.pick(&[0, 1, 255]),
+                _ => list.iter_mut().for_each(|m| *m = if *m == 2 { 1 } else { *m }),
+            }
+        }
+        list
+    }
+
+    /// One accepted or refused call of an undamaged run.
+    fn step(&mut self, seen: &mut Seen, rng: &mut Rng, target: usize) {
+        let (mut call, point) = self.propose(rng, target);
+        self.make(seen, &mut call, point);
+    }
+
+    /// A call with wrong arguments, lengths or memory; what was damaged is then restored.
+    fn bad_step(&mut self, seen: &mut Seen, rng: &mut Rng, target: usize, faults: [usize; 3]) {
+        let (mut call, point) = if rng.one_in(2) {
+            self.propose(rng, target)
+        } else {
+            let what = rng.below(9);
+            self.propose_call(rng, what, self.w.n().min(TIDES), self.w.k().clamp(1, 8))
+        };
+        let before = self.clone();
+        for _ in 0..faults[0] {
+            spoil_call(rng, &mut call, &self.w);
+        }
+        for _ in 0..faults[1] {
+            spoil_world(rng, &mut self.w);
+        }
+        for _ in 0..faults[2] {
+            shorten(rng, &mut self.w, &mut call);
+        }
+        let answer = self.make(seen, &mut call, point);
+        let replaced = answer == 0 && matches!(call, Call::Open { .. } | Call::Read { .. });
+        if (faults[1] > 0 || faults[2] > 0) && !replaced {
+            *self = before;
+        }
+    }
+}
+
+/// A file made without a book: a study of its own.
+fn some_file(rng: &mut Rng) -> Vec<u8> {
+    let n = if rng.one_in(10) { 0 } else { rng.within(1, 9) };
+    plain::file_of(&some_study(rng, n))
+}
+
+fn some_study(rng: &mut Rng, n: usize) -> Study {
+    let k = rng.within(1, 8);
+    let distances = metric(rng, n);
+    let settings: Vec<u8> = (0..n).map(|_| rng.within(1, k) as u8).collect();
+    let m = minima_for(rng, k, &settings);
+    let mut b = [0; 8];
+    for j in 0..8 {
+        b[j] = m[1 + j] as usize;
+    }
+    Study {
+        k,
+        b0: m[0] as usize,
+        b,
+        withdrawals: rng.pick(&[0, 1, 7, 300, 65_534, 65_535]),
+        settings: settings.iter().map(|s| *s as usize).collect(),
+        distances,
+    }
+}
+
+/// Makes one argument of a call wrong.
+fn spoil_call(rng: &mut Rng, call: &mut Call, w: &World) {
+    let k = w.k().clamp(1, 8);
+    match call {
+        Call::Open { k } => *k = rng.pick(&[0, 9, 10, 16, 128, 255]),
+        Call::Minima { minima } => match rng.below(6) {
+            0 => minima.places[0] = rng.pick(&[0, 121, 128, 255]),
+            1 => minima.places[rng.within(1, 8)] = 1,
+            2 if k < 8 => minima.places[rng.within(k + 1, 8)] = rng.within(1, 2) as u8,
+            3 => {
+                // the sum comes round to 0 in eight bits
+                minima.places[1] = 128;
+                minima.places[rng.within(1, 8)] = 128;
+            }
+            4 => minima.places[rng.within(1, k)] = minima.places[0].wrapping_add(1),
+            _ => minima.places[rng.below(9)] = rng.next() as u8,
+        },
+        Call::Enter { setting, row } => match rng.below(8) {
+            0 => *setting = rng.pick(&[0, k as u8 + 1, 9, 255]),
+            1 => row.len += rng.within(1, 2).min(row.places.len() - row.len),
+            2 => row.len -= rng.within(0, 2.min(row.len)),
+            3 if row.len > 0 => {
+                let i = rng.below(row.len);
+                row.places[i] = rng.pick(&[FAR, FAR + 1, 1 << 31, u32::MAX]);
+            }
+            _ if row.len > 0 => {
+                let i = rng.below(row.len);
+                let old = row.places[i];
+                row.places[i] = match rng.below(5) {
+                    0 => 0,
+                    1 => old.wrapping_add(1),
+                    2 => old.saturating_sub(1),
+                    3 => 2 * (old % (1 << 20)) + 1,
+                    _ => rng.within(0, 10) as u32,
+                };
+            }
+            _ => *setting = 0,
+        },
+        Call::Withdraw { tide } => {
+            *tide = rng.pick(&[0, (w.n() as u8).wrapping_add(1), 121, 255]);
+        }
+        Call::Centres { g, .. } => *g = rng.next() as u32,
+        Call::Block { .. } => {}
+        Call::Judge { list, .. } => match rng.below(4) {
+            0 => list.len += rng.within(1, 2).min(list.places.len() - list.len),
+            1 => list.len -= rng.within(0, 2.min(list.len)),
+            _ if list.len > 0 => {
+                let i = rng.below(list.len);
+                list.places[i] = rng.pick(&[0, 1, 2, 255]);
+            }
+            _ => list.len = 1,
+        },
+        Call::Read { file } => {
+            let mut bytes = file.part().to_vec();
+            spoil_file(rng, &mut bytes);
+            if rng.one_in(12) {
+                bytes = (0..rng.within(0, 60)).map(|_| rng.next() as u8).collect();
+                if !bytes.is_empty() && rng.one_in(2) {
+                    bytes[0] = 0x54;
+                }
+            }
+            *file = exact(rng, &bytes);
+        }
+        Call::Write { .. } => {}
+    }
+}
+
+/// Makes one lent length shorter.
+fn shorten(rng: &mut Rng, w: &mut World, call: &mut Call) {
+    let mut lengths = call.lengths();
+    let own = lengths.len();
+    lengths.push(&mut w.record.len);
+    lengths.push(&mut w.distances.len);
+    lengths.push(&mut w.settings.len);
+    let i = if own > 0 && rng.one_in(2) { rng.below(own) } else { own + rng.below(3) };
+    let need = [RECORD, PLACES, TIDES];
+    let most = if i < own { *lengths[i] } else { need[i - own] };
+    *lengths[i] = match rng.below(3) {
+        0 => 0,
+        1 => most.saturating_sub(1),
+        _ => rng.below(most.max(1)),
+    };
+}
+
+// ---- the groups ----
+
+fn open(rng: &mut Rng, seen: &mut Seen, run: &mut Run) {
+    let k = if rng.one_in(3) { 1 } else { rng.within(1, 8) };
+    let mut call = Call::Open { k: k as u8 };
+    run.make(seen, &mut call, 0);
+}
+
+/// How many tides a run aims at; seldom none.
+fn some_size(rng: &mut Rng, most: usize) -> usize {
+    if rng.one_in(25) {
+        0
+    } else {
+        rng.within(1 + most / 4, most)
+    }
+}
+
+/// Undamaged runs of books up to some size.
+fn sound(seen: &mut Seen, rng: &mut Rng, runs: usize, most: usize, calls: usize) {
+    for _ in 0..runs {
+        let target = some_size(rng, most);
+        let points = rng.within(1, 2 * most);
+        let mut run = Run::new(rng, points);
+        if rng.one_in(8) {
+            run.step(seen, rng, target); // junk memory first
+        }
+        open(rng, seen, &mut run);
+        for _ in 0..calls {
+            run.step(seen, rng, target);
+        }
+    }
+}
+
+/// Runs in which some calls have faults of the given kinds.
+fn faulty(
+    seen: &mut Seen,
+    rng: &mut Rng,
+    runs: usize,
+    most: usize,
+    calls: usize,
+    kinds: [usize; 3],
+) {
+    for _ in 0..runs {
+        let target = some_size(rng, most);
+        let points = rng.within(1, 2 * most);
+        let mut run = Run::new(rng, points);
+        open(rng, seen, &mut run);
+        for _ in 0..2 * target {
+            run.step(seen, rng, target);
+        }
+        for _ in 0..calls {
+            if rng.one_in(3) {
+                run.step(seen, rng, target);
+            } else {
+                let faults = kinds.map(|most| rng.below(most + 1));
+                run.bad_step(seen, rng, target, faults);
+            }
+        }
+    }
+}
+
+/// Damaged books that stay damaged for a while.
+fn lasting(seen: &mut Seen, rng: &mut Rng, runs: usize) {
+    for _ in 0..runs {
+        let target = some_size(rng, 8);
+        let mut run = Run::new(rng, 10);
+        open(rng, seen, &mut run);
+        for _ in 0..3 * target {
+            run.step(seen, rng, target);
+        }
+        spoil_world(rng, &mut run.w);
+        for _ in 0..6 {
+            run.step(seen, rng, target);
+        }
+        let renew = rng.pick(&[0, 7]); // Open or Read
+        let (mut call, point) = run.propose_call(rng, renew, 0, 1);
+        run.make(seen, &mut call, point);
+        for _ in 0..6 {
+            run.step(seen, rng, target);
+        }
+    }
+}
+
+/// Files of any kind, read into junk or into a book.
+fn files(seen: &mut Seen, rng: &mut Rng, count: usize) {
+    let mut run = Run::new(rng, 10);
+    for i in 0..count {
+        if i % 50 == 0 {
+            run = Run::new(rng, 10);
+        }
+        let mut file = some_file(rng);
+        for _ in 0..rng.pick(&[0, 1, 1, 1, 2, 2, 3]) {
+            spoil_file(rng, &mut file);
+        }
+        let mut call = Call::Read { file: exact(rng, &file) };
+        let answer = run.make(seen, &mut call, 0);
+        if answer == 0 {
+            for what in [8, 5, 3] {
+                let (mut call, point) = run.propose_call(rng, what, run.w.n(), run.w.k());
+                run.make(seen, &mut call, point);
+            }
+        }
+    }
+}
+
+/// Each lent slice of each call too short in turn, all else being right.
+fn short(seen: &mut Seen, rng: &mut Rng) {
+    let file = plain::file_of(&known_study());
+    for what in 0..9 {
+        let mut run = Run::new(rng, 4);
+        let mut read = Call::Read { file: exact(rng, &file) };
+        expect(run.make(seen, &mut read, 0), 0, "the known file is read");
+        let (mut call, _) = run.propose_call(rng, what, 5, 2);
+        if let Call::Enter { row, .. } = &mut call {
+            *row = exact(rng, &[5, 2, 0, 1, 5]);
+        }
+        if let Call::Read { file: f } = &mut call {
+            *f = exact(rng, &file);
+        }
+        if let Call::Judge { list, .. } = &mut call {
+            *list = exact(rng, &[1, 1, 1, 1, 1]);
+        }
+        let own = call.clone().lengths().len();
+        for i in 0..own + 3 {
+            let mut trial = (run.w.clone(), call.clone());
+            let full = match i {
+                _ if i < own => *trial.1.lengths()[i],
+                _ => [RECORD, PLACES, TIDES][i - own],
+            };
+            // list, centres, sizes and diameters need 5 places, other outputs their own
+            let need = match (&trial.1, i) {
+                (Call::Centres { .. }, 0) => 5,
+                (Call::Centres { .. }, 1) => 1,
+                (Call::Block { .. }, 0..=3) => 5,
+                (Call::Block { .. }, 4) => 3,
+                (Call::Judge { .. }, 1) => 2,
+                (Call::Write { .. }, 0) => file.len(),
+                (Call::Write { .. }, 1) => 1,
+                (Call::Minima { .. }, 0) => 9,
+                _ => full,
+            };
+            for len in 0..=need {
+                if need > 200 && len > 20 && len + 20 < need {
+                    continue;
+                }
+                let mut w = trial.0.clone();
+                let mut c = trial.1.clone();
+                match i - i.min(own) {
+                    0 if i < own => *c.lengths()[i] = len,
+                    0 => w.record.len = len,
+                    1 => w.distances.len = len,
+                    _ => w.settings.len = len,
+                }
+                let expected = match &c {
+                    _ if len == need => 0,
+                    Call::Enter { .. } if i < own => 4,
+                    Call::Judge { .. } if i == 0 => 12,
+                    Call::Read { .. } if i == 0 => 8,
+                    _ => 1,
+                };
+                let what = format!("{} with slice {} of {}", NAMES[c.number()], i, len);
+                expect(seen.call(&mut w, &mut c), expected, &what);
+            }
+        }
+    }
+}
+
+/// Five tides on a line at 0, 3, 5, 6 and 10 with two settings.
+fn known_study() -> Study {
+    let at = [0i32, 3, 5, 6, 10];
+    Study {
+        k: 2,
+        b0: 2,
+        b: [1, 1, 0, 0, 0, 0, 0, 0],
+        withdrawals: 9,
+        settings: vec![1, 2, 2, 1, 2],
+        distances: at.iter().map(|x| at.iter().map(|y| x.abs_diff(*y)).collect()).collect(),
+    }
+}
+
+/// Every place of the memory and every number of the record wrong in turn.
+fn every_place(seen: &mut Seen, rng: &mut Rng) {
+    let file = plain::file_of(&known_study());
+    let mut run = Run::new(rng, 4);
+    let mut read = Call::Read { file: exact(rng, &file) };
+    expect(run.make(seen, &mut read, 0), 0, "the known file is read");
+    let looks = [1, 2, 3, 4, 5, 6, 8];
+    let mut turn = 0;
+    for i in 0..PLACES + TIDES {
+        let mut w = run.w.clone();
+        if i < PLACES {
+            let more = rng.pick(&[1, 2, FAR, 1 << 20, 1 << 31]);
+            w.distances.places[i] = w.distances.places[i].wrapping_add(more);
+        } else {
+            let s = &mut w.settings.places[i - PLACES];
+            *s = if *s == 0 { rng.pick(&[1, 2, 255]) } else { rng.pick(&[0, 3, 8, 255]) };
+        }
+        turn += 1;
+        let (mut call, _) = run.propose_call(rng, looks[turn % 7], 5, 2);
+        expect(seen.call(&mut w, &mut call), 21, "one place of the memory changed");
+    }
+    for i in 0..RECORD {
+        for value in (0..=300).chain([511, 512, 32_768, 65_279, 65_534, 65_535]) {
+            let mut w = run.w.clone();
+            w.record.places[i] = value;
+            turn += 1;
+            let (mut call, _) = run.propose_call(rng, looks[turn % 7], 5, 2);
+            seen.call(&mut w, &mut call);
+        }
+    }
+    // one distance of the book changed both ways, through the values near it
+    for i in 0..5 {
+        for j in 0..i {
+            for d in (0..=25).chain([FAR - 1, FAR, FAR + 1, u32::MAX]) {
+                let mut w = run.w.clone();
+                w.distances.places[ROW * i + j] = d;
+                w.distances.places[ROW * j + i] = d;
+                turn += 1;
+                let (mut call, _) = run.propose_call(rng, looks[turn % 7], 5, 2);
+                seen.call(&mut w, &mut call);
+            }
+        }
+    }
+}
+
+/// Books of 120 tides, and nearly so.
+fn large(seen: &mut Seen, rng: &mut Rng, runs: usize) {
+    for turn in 0..runs {
+        let mut run = Run::new(rng, 120);
+        let n = if turn % 3 == 2 { rng.within(100, 119) } else { 120 };
+        if turn == 0 {
+            open(rng, seen, &mut run);
+            for t in 0..n {
+                let row = run.row(rng, t);
+                let setting = rng.within(1, run.w.k()) as u8;
+                let mut call = Call::Enter { setting, row: exact(rng, &row) };
+                run.make(seen, &mut call, t);
+            }
+        } else {
+            let mut s = some_study(rng, n);
+            if turn % 4 == 1 {
+                s.withdrawals = 65_535;
+            }
+            run.metric = s.distances.clone();
+            run.files = vec![(plain::file_of(&s), (0..n).collect())];
+            let (mut call, _) = run.propose_call(rng, 7, 0, 1);
+            expect(run.make(seen, &mut call, 0), 0, "a large file is read");
+        }
+        for what in [5, 6, 6, 4, 4, 8, 2, 3, 2, 1, 5, 6, 3, 7, 2] {
+            let (n, k) = (run.w.n(), run.w.k());
+            let (mut call, point) = run.propose_call(rng, what, n, k);
+            run.make(seen, &mut call, point);
+        }
+        for _ in 0..10 {
+            run.bad_step(seen, rng, 120, [1, 0, 0]);
+        }
+        for _ in 0..10 {
+            run.bad_step(seen, rng, 120, [1, 1, 1]);
+        }
+        // the last tide's places: one side only, the diagonal, both sides, its setting
+        let last = run.w.n() - 1;
+        for turn in 0..8 {
+            let mut w = run.w.clone();
+            let other = rng.below(last);
+            let (to, from) = (ROW * last + other, ROW * other + last);
+            let d = &mut w.distances.places;
+            match turn {
+                0 => d[to] += 1,
+                1 => d[from] += 1,
+                2 => d[(ROW + 1) * last] = 1,
+                3 => (d[to], d[from]) = (FAR + 1, FAR + 1),
+                4 => (d[to], d[from]) = (2 * d[to] + 1, 2 * d[from] + 1),
+                5 => w.settings.places[last] = 0,
+                6 => w.settings.places[last] = w.record.places[0] as u8 + 1,
+                _ => w.record.places[1] = last as u16,
+            }
+            let what = rng.pick(&[1, 2, 3, 4, 5, 6, 8]);
+            let (mut call, _) = run.propose_call(rng, what, last + 1, run.w.k());
+            seen.call(&mut w, &mut call);
+        }
+        // pairs with high numbers: a row that breaks the rule at one or two places
+        let before = run.clone();
+        if run.w.n() == TIDES {
+            run.make(seen, &mut Call::Withdraw { tide: rng.within(1, 120) as u8 }, 0);
+        }
+        for _ in 0..8 {
+            let n = run.w.n();
+            let mut row = run.row(rng, 0);
+            for at in [rng.pick(&[0, n / 2, n - 2, n - 1]), rng.below(n)] {
+                row[at] = rng.pick(&[0, row[at], row[at] + 1, FAR, FAR]);
+            }
+            let mut call = Call::Enter { setting: 1, row: exact(rng, &row) };
+            seen.call(&mut run.w.clone(), &mut call);
+        }
+        run = before;
+        // 22 before all that is wrong with the tide
+        for setting in [0, 1, 9] {
+            for len in [0, 1, 119, 120, 121] {
+                let row = vec![rng.pick(&[0, 7, FAR, FAR + 1]); len];
+                let mut call = Call::Enter { setting, row: exact(rng, &row) };
+                let before = run.clone();
+                run.make(seen, &mut call, 0);
+                run = before;
+            }
+        }
+    }
+}
+
+fn expect(answer: u32, expected: u32, what: &str) {
+    if answer != expected {
+        println!("FAILED: {what}: answer {}, document 01 has {}", number(answer), number(expected));
+        exit(1);
+    }
+}
+
+/// The cases that document 01 works out, with its own numbers.
+fn worked(seen: &mut Seen, rng: &mut Rng) {
+    // positions, settings, k, minima; reach, list, diameters
+    let cases: [(&[i32], &[u8], u8, &[u8], u32, &[u8], &[u32]); 7] = [
+        (&[2, 5, 0, 1, 3, 7], &[1; 6], 1, &[3], 2, &[1, 2, 1, 1, 2, 2], &[2, 4]),
+        (&[0, 1, 10, 11], &[1, 2, 1, 2], 2, &[2, 1, 1], 1, &[1, 1, 2, 2], &[1, 1]),
+        (&[2, 0, 2, 4], &[1; 4], 1, &[2], 2, &[1, 1, 1, 1], &[4]),
+        (&[0, 10, 5, 5, 5], &[1; 5], 1, &[2], 5, &[1, 2, 1, 1, 2], &[5, 5]),
+        (&[0, 0, 0], &[1; 3], 1, &[1], 0, &[1, 1, 1], &[0]),
+        (&[0, 5], &[1; 2], 1, &[1], 0, &[1, 2], &[0, 0]),
+        (&[0, 5], &[1; 2], 1, &[2], 5, &[1, 1], &[5]),
+    ];
+    let line = |seen: &mut Seen, rng: &mut Rng, at: &[i32], settings: &[u8], k: u8| -> Run {
+        let mut run = Run::new(rng, 1);
+        expect(run.make(seen, &mut Call::Open { k }, 0), 0, "Open");
+        for t in 0..at.len() {
+            let row: Vec<u32> = (0..t).map(|e| at[t].abs_diff(at[e])).collect();
+            let mut call = Call::Enter { setting: settings[t], row: exact(rng, &row) };
+            expect(run.make(seen, &mut call, 0), 0, "Enter");
+        }
+        run
+    };
+    let put_minima = |seen: &mut Seen, rng: &mut Rng, run: &mut Run, given: &[u8]| {
+        let mut m = [0; 9];
+        m[..given.len()].copy_from_slice(given);
+        let mut call = Call::Minima { minima: exact(rng, &m) };
+        expect(run.make(seen, &mut call, 0), 0, "Minima");
+    };
+    for (at, settings, k, m, reach, list, diameters) in cases {
+        let mut run = line(seen, rng, at, settings, k);
+        put_minima(seen, rng, &mut run, m);
+        let (mut call, _) = run.propose_call(rng, 5, at.len(), k as usize);
+        expect(run.make(seen, &mut call, 0), 0, "Block");
+        let Call::Block { list: l, diameters: d, result: r, .. } = &call else { unreachable!() };
+        let blocks = diameters.len();
+        let widest = *diameters.iter().max().unwrap();
+        if &l.places[..at.len()] != list
+            || &d.places[..blocks] != diameters
+            || r.places[..3] != [blocks as u32, reach, widest]
+        {
+            fail("a worked case of document 01", &run.w, &call);
+        }
+    }
+    // case 6, b0 = 3
+    let mut run = line(seen, rng, &[0, 5], &[1, 1], 1);
+    put_minima(seen, rng, &mut run, &[3]);
+    let (mut call, _) = run.propose_call(rng, 5, 2, 1);
+    expect(run.make(seen, &mut call, 0), 25, "case 6");
+    // case 7
+    let seven = 7 + 256 + 2 * 65_536;
+    for (row, answer) in [([1, 2], 0), ([1, 4], 0), ([1, 1], seven), ([1, 5], seven)] {
+        let mut run = line(seen, rng, &[0, 3], &[1, 1], 1);
+        let mut call = Call::Enter { setting: 1, row: exact(rng, &row) };
+        expect(run.make(seen, &mut call, 0), answer, "case 7");
+    }
+    // case 8, and the file of the printed sheet
+    let empty = [0x54, 0x00, 0x20, 0x40, 0, 0, 0];
+    let one = [0x54, 0x02, 0x20, 0x40, 0, 0, 0];
+    let mut run = line(seen, rng, &[], &[], 1);
+    let (mut call, _) = run.propose_call(rng, 8, 0, 1);
+    expect(run.make(seen, &mut call, 0), 0, "Write");
+    if run.files[0].0 != empty {
+        fail("the empty book's file", &run.w, &call);
+    }
+    for (file, answer) in [
+        (empty.to_vec(), 0),
+        (one.to_vec(), 0),
+        (vec![0x54, 0x00, 0x20, 0x40, 0, 0, 1], 11),
+        (vec![0x54, 0x00, 0x20, 0x40, 0, 0], 8),
+        (vec![0x54, 0x00, 0x20, 0x40, 0, 0, 0, 0], 8),
+        (vec![0x54, 0x00, 0x20, 0x40, 0], 8),
+        (vec![0x55, 0x00, 0x20, 0x40, 0], 8),
+        (vec![0x55, 0x00, 0x20, 0x40, 0, 0], 9),
+        (vec![0x54, 0xF2, 0x00, 0x40, 0, 0], 10),
+        (vec![0x54, 0x00, 0x00, 0x40, 0, 0], 2),
+        (vec![0x54, 0x00, 0x20, 0x00, 0, 0, 1], 3),
+    ] {
+        let mut call = Call::Read { file: exact(rng, &file) };
+        expect(run.make(seen, &mut call, 0), answer, &format!("Read of {file:02x?}"));
+    }
+    // case 9
+    let at: Vec<i32> = (0..120).collect();
+    let mut run = line(seen, rng, &at, &[1; 120], 1);
+    let row = vec![60; 120];
+    let mut call = Call::Enter { setting: 1, row: exact(rng, &row) };
+    expect(run.make(seen, &mut call, 0), 22, "case 9");
+    expect(run.make(seen, &mut Call::Withdraw { tide: 120 }, 0), 0, "case 9");
+    let mut call = Call::Enter { setting: 1, row: exact(rng, &row[..119]) };
+    expect(run.make(seen, &mut call, 0), 0, "case 9");
+}
+
+fn main() {
+    let mut seen = Seen::new();
+    let mut rng = Rng(0x1D5_7EA5_0F_71DE);
+    type Group = (&'static str, Box<dyn Fn(&mut Seen, &mut Rng)>);
+    let groups: Vec<Group> = vec![
+        ("worked cases", Box::new(worked)),
+        ("each slice short", Box::new(short)),
+        ("every place", Box::new(every_place)),
+        ("to 9 tides", Box::new(|s, r| sound(s, r, 2500, 9, 40))),
+        ("to 14 tides", Box::new(|s, r| sound(s, r, 500, 14, 60))),
+        ("to 30 tides", Box::new(|s, r| sound(s, r, 60, 30, 100))),
+        ("wrong arguments", Box::new(|s, r| faulty(s, r, 700, 8, 50, [2, 0, 0]))),
+        ("damaged memory", Box::new(|s, r| faulty(s, r, 500, 8, 50, [0, 2, 0]))),
+        ("short slices", Box::new(|s, r| faulty(s, r, 400, 8, 50, [0, 0, 2]))),
+        ("several at once", Box::new(|s, r| faulty(s, r, 500, 8, 50, [2, 2, 1]))),
+        ("lasting damage", Box::new(|s, r| lasting(s, r, 800))),
+        ("files", Box::new(|s, r| files(s, r, 25_000))),
+        ("to 120 tides", Box::new(|s, r| large(s, r, 12))),
+    ];
+    for (name, group) in &groups {
+        seen.begin(name);
+        group(&mut seen, &mut rng);
+        seen.end();
+    }
+    let mut whole = true;
+    for c in 0..9 {
+        let mut line = format!("{:<9} accepted {}, refused", NAMES[c], seen.by_call[c][0]);
+        for r in REASONS[c] {
+            line += &format!(" {}:{}", r, seen.by_call[c][*r]);
+            whole &= seen.by_call[c][*r] > 0;
+        }
+        whole &= seen.by_call[c][0] > 0;
+        println!("{line}");
+    }
+    whole &= seen.yes > 0 && seen.no > 0;
+    println!("Judge said yes {} times and no {} times", seen.yes, seen.no);
+    println!(
+        "{} blockings of up to 7 tides also by full enumeration, none wider than twice the least",
+        seen.enumerated
+    );
+    if !whole {
+        println!("FAILED: a refusal or an acceptance of the table above was never seen");
+        exit(1);
+    }
+    println!("every refusal seen through every call that can give it");
+    println!("outside: {} calls compared, 0 differences", seen.calls);
+}
