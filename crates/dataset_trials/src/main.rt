@@ -1,30 +1,32 @@
 // Trials of the dataset's calls. Most refusals are tried where a later reason holds too, so that the order shows.
 // Each group prints how many of its answers and places came out as expected.
-use crate::tally::Tally;
 use study::Minima;
 use study::Outcome;
+use trial_tools::samples::nonsense;
+use trial_tools::samples::two_tides;
+use trial_tools::tally;
+use trial_tools::tally::Tally;
 
 mod samples;
 mod spoiled;
-mod tally;
 
 // Memory one distance and one setting too short.
 fn open_short(k: u8) -> Outcome {
     let mut distances = [7u32; 14399];
     let mut settings = [9u8; 120];
-    dataset::open(samples::nonsense(), &mut distances, &mut settings, k)
+    dataset::open(nonsense(), &mut distances, &mut settings, k)
 }
 
 fn open_narrow(k: u8) -> Outcome {
     let mut distances = [7u32; 14400];
     let mut settings = [9u8; 119];
-    dataset::open(samples::nonsense(), &mut distances, &mut settings, k)
+    dataset::open(nonsense(), &mut distances, &mut settings, k)
 }
 
 fn open_long(k: u8) -> Outcome {
     let mut distances = [7u32; 14403];
     let mut settings = [9u8; 123];
-    dataset::open(samples::nonsense(), &mut distances, &mut settings, k)
+    dataset::open(nonsense(), &mut distances, &mut settings, k)
 }
 
 fn open_answers(so_far: Tally) -> Tally {
@@ -52,10 +54,10 @@ fn places(so_far: Tally, distances: &[u32], settings: &[u8], distance: u32, sett
 fn open_places(so_far: Tally) -> Tally {
     let mut distances = [7u32; 14403];
     let mut settings = [9u8; 123];
-    let refused = dataset::open(samples::nonsense(), &mut distances, &mut settings, 9);
+    let refused = dataset::open(nonsense(), &mut distances, &mut settings, 9);
     let kept = refused.dataset;
     let t = places(so_far.see(kept.n == 300), &distances, &settings, 7, 9);
-    let opened = dataset::open(samples::nonsense(), &mut distances, &mut settings, 8);
+    let opened = dataset::open(nonsense(), &mut distances, &mut settings, 8);
     let empty = opened.dataset;
     places(t.see(empty.n == 0), &distances, &settings, 0, 0)
 }
@@ -64,7 +66,7 @@ fn open_places(so_far: Tally) -> Tally {
 fn short_memory(so_far: Tally) -> Tally {
     let mut distances = [7u32; 14399];
     let mut settings = [9u8; 123];
-    let none = samples::nonsense();
+    let none = nonsense();
     let mut t = so_far;
     t = t.outcome(
         dataset::set_minima(none, &distances, &settings, samples::minima(0, 0, 0)),
@@ -80,7 +82,7 @@ fn short_memory(so_far: Tally) -> Tally {
 fn no_dataset(so_far: Tally) -> Tally {
     let mut distances = [7u32; 14403];
     let mut settings = [9u8; 123];
-    let none = samples::nonsense();
+    let none = nonsense();
     let mut t = so_far;
     t = t.outcome(
         dataset::set_minima(none, &distances, &settings, samples::minima(0, 0, 0)),
@@ -100,7 +102,7 @@ fn no_dataset(so_far: Tally) -> Tally {
 fn set_of_two(minima: Minima) -> Outcome {
     let mut distances = [7u32; 14403];
     let mut settings = [9u8; 123];
-    let two = samples::two_tides(&mut distances, &mut settings);
+    let two = two_tides(&mut distances, &mut settings);
     dataset::set_minima(two, &distances, &settings, minima)
 }
 
@@ -129,7 +131,7 @@ fn minima(so_far: Tally) -> Tally {
 fn enter_third(setting: u8, row: &[u32]) -> Outcome {
     let mut distances = [7u32; 14403];
     let mut settings = [9u8; 123];
-    let two = samples::two_tides(&mut distances, &mut settings);
+    let two = two_tides(&mut distances, &mut settings);
     dataset::enter(two, &mut distances, &mut settings, setting, row)
 }
 
@@ -166,7 +168,7 @@ fn enter_refused(so_far: Tally) -> Tally {
 fn enter_done(so_far: Tally) -> Tally {
     let mut distances = [7u32; 14403];
     let mut settings = [9u8; 123];
-    let two = samples::two_tides(&mut distances, &mut settings);
+    let two = two_tides(&mut distances, &mut settings);
     let third = dataset::enter(two, &mut distances, &mut settings, 2, &[1, 4]);
     let three = third.dataset;
     let mut t = so_far.outcome(third, 0);

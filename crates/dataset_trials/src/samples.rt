@@ -1,17 +1,8 @@
 // Records and datasets to try the calls on.
 use study::Dataset;
 use study::Minima;
-
-// A record that is no dataset's.
-pub fn nonsense() -> Dataset {
-    let minima = Minima { b0: 0, b: [9; 8] };
-    Dataset {
-        k: 0,
-        n: 300,
-        minima,
-        withdrawn: 7,
-    }
-}
+use trial_tools::samples::nonsense;
+use trial_tools::samples::two_tides;
 
 pub fn minima(b0: u8, first: u8, third: u8) -> Minima {
     Minima {
@@ -30,17 +21,7 @@ pub fn counted(dataset: Dataset, withdrawn: u16) -> Dataset {
     }
 }
 
-// k = 2, and two tides at 3, of settings 1 and 2.
-pub fn two_tides(distances: &mut [u32], settings: &mut [u8]) -> Dataset {
-    let opened = dataset::open(nonsense(), distances, settings, 2);
-    let empty = opened.dataset;
-    let first = dataset::enter(empty, distances, settings, 1, &[]);
-    let one = first.dataset;
-    let second = dataset::enter(one, distances, settings, 2, &[3]);
-    second.dataset
-}
-
-// A third at 1 and 4, of setting 2.
+// Two tides at 3, and a third at 1 and 4, of setting 2.
 pub fn three_tides(distances: &mut [u32], settings: &mut [u8]) -> Dataset {
     let two = two_tides(distances, settings);
     let third = dataset::enter(two, distances, settings, 2, &[1, 4]);

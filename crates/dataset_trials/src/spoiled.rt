@@ -1,9 +1,9 @@
 // Three tides in memory with one wrong place of each kind, or a record with one wrong field.
 use crate::samples;
-use crate::tally::Tally;
 use study::Answer;
 use study::Dataset;
 use study::Minima;
+use trial_tools::tally::Tally;
 
 fn record(k: u8, n: usize, b0: u8) -> Dataset {
     let minima = Minima { b0, b: [0; 8] };

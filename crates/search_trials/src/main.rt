@@ -9,25 +9,13 @@ use crate::plain::is_assignment;
 use matching::search;
 use std::num::wrapping_add_u64;
 use study::Minima;
+use trial_tools::draws::draw;
+use trial_tools::draws::next;
 ghost use mathlib.Core.Path.{_≡_};
 ghost use mathlib.Core.Bool.{true};
 ghost use Prim.Native.Nat.{ℕ, _<_, _≤_};
 ghost use lib.ListN.{getD};
 ghost use Rattle.search_trials.specs.Ranges.{Between};
-
-// The next state of a multiplicative generator modulo the prime 2^31 - 1.
-fn next(seed: u64) -> u64 {
-    seed % 2147483647 * 48271 % 2147483647
-}
-
-// A number below k, which is at most 256.
-fn draw(seed: u64, k: u64) -> u8
-    requires { ⌜ 0 < k ⌝ }
-    requires { ⌜ k ≤ 256 ⌝ }
-    ensures { λ r. ⌜ r < k ⌝ }
-{
-    (seed / 1024 % k) as u8
-}
 
 // Fills bytes with numbers from low to high.
 fn fill(seed: u64, bytes: &mut [u8], low: u8, high: u8) -> u64

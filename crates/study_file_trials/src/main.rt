@@ -6,25 +6,18 @@ use crate::reading::number;
 use crate::reading::same_front;
 use crate::samples::flip;
 use crate::samples::four_tides;
-use crate::samples::front;
-use crate::samples::nonsense;
 use crate::samples::small_file;
 use crate::samples::spoiled;
-use crate::tally::Tally;
-use study::Answer;
 use study::Dataset;
 use study_file::Written;
+use trial_tools::samples::nonsense;
+use trial_tools::slices::front;
+use trial_tools::tally;
+use trial_tools::tally::Tally;
+use trial_tools::tally::answer_number;
 
 mod reading;
 mod samples;
-mod tally;
-
-fn answer_number(answer: Answer) -> u32 {
-    match answer {
-        Answer::Done => 0,
-        Answer::Refused(why) => tally::number_of(why),
-    }
-}
 
 // The number of a refused Write; 0 where it is done.
 fn written_number(written: Written) -> u32 {

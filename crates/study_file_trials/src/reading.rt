@@ -1,10 +1,10 @@
 // Reading bytes, and writing what was read.
-use crate::samples::front;
-use crate::samples::nonsense;
-use crate::tally::number_of;
 use study::Answer;
 use study::Refusal;
 use study_file::Written;
+use trial_tools::samples::nonsense;
+use trial_tools::slices::front;
+use trial_tools::tally::number_of;
 
 // Whether b begins with a.
 pub fn same_front(a: &[u32], b: &[u32]) -> bool {

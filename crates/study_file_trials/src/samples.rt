@@ -1,27 +1,7 @@
 // Records, datasets and files to try the calls on.
 use study::Dataset;
 use study::Minima;
-
-// A record that is no dataset's.
-pub fn nonsense() -> Dataset {
-    let minima = Minima { b0: 0, b: [9; 8] };
-    Dataset {
-        k: 0,
-        n: 300,
-        minima,
-        withdrawn: 7,
-    }
-}
-
-// k = 2, and two tides at 3.
-fn two_tides(distances: &mut [u32], settings: &mut [u8]) -> Dataset {
-    let opened = dataset::open(nonsense(), distances, settings, 2);
-    let empty = opened.dataset;
-    let first = dataset::enter(empty, distances, settings, 1, &[]);
-    let one = first.dataset;
-    let second = dataset::enter(one, distances, settings, 2, &[3]);
-    second.dataset
-}
+use trial_tools::samples::two_tides;
 
 // Four tides on a line at 0, 3, 7 and 12, with minima that they meet.
 pub fn four_tides(distances: &mut [u32], settings: &mut [u8]) -> Dataset {
@@ -108,14 +88,6 @@ pub fn flip(file: &mut [u8; 64], p: usize) {
     if i < 64 {
         file[i] = file[i] ^ (128 >> j);
     }
-}
-
-// The first n bytes, or all where there are fewer.
-pub fn front(bytes: &[u8], n: usize) -> &[u8] {
-    if n <= bytes.len() {
-        return &bytes[..n];
-    }
-    bytes
 }
 
 // The file with up to five other bits.

@@ -13,7 +13,7 @@ pub fn new() -> Tally {
 }
 
 // Document 01's number of a refusal.
-fn number_of(why: Refusal) -> u32 {
+pub fn number_of(why: Refusal) -> u32 {
     match why {
         Refusal::ShortMemory => 1,
         Refusal::SettingCount => 2,
@@ -22,11 +22,25 @@ fn number_of(why: Refusal) -> u32 {
         Refusal::Setting => 5,
         Refusal::Distance => 6,
         Refusal::ThreeTideRule(_, _) => 7,
+        Refusal::FileLength => 8,
+        Refusal::Mark => 9,
+        Refusal::TideCount => 10,
+        Refusal::FillBits => 11,
+        Refusal::ListLength => 12,
         Refusal::NotDataset => 21,
         Refusal::Full => 22,
         Refusal::NoSuchTide => 23,
+        Refusal::NoTides => 24,
+        Refusal::TooFewTides => 25,
         Refusal::WithdrawalLimit => 26,
-        _ => 99,
+    }
+}
+
+// An answer by its number; 0 is done.
+pub fn answer_number(answer: Answer) -> u32 {
+    match answer {
+        Answer::Done => 0,
+        Answer::Refused(why) => number_of(why),
     }
 }
 
@@ -38,12 +52,12 @@ fn is_pair(why: Refusal, i: usize, j: usize) -> bool {
 }
 
 impl Tally {
-    // One more trial. No group has a thousand.
+    // One more trial. No group has a million.
     pub fn see(self, right: bool) -> Tally {
-        if 1000 <= self.tried {
+        if 1000000 <= self.tried {
             return self;
         }
-        if 1000 <= self.right {
+        if 1000000 <= self.right {
             return self;
         }
         if right {
@@ -58,12 +72,8 @@ impl Tally {
         }
     }
 
-    // An answer by its number; 0 is done.
     pub fn answer(self, answer: Answer, expected: u32) -> Tally {
-        match answer {
-            Answer::Done => self.see(expected == 0),
-            Answer::Refused(why) => self.see(number_of(why) == expected),
-        }
+        self.see(answer_number(answer) == expected)
     }
 
     pub fn outcome(self, outcome: Outcome, expected: u32) -> Tally {

@@ -1,10 +1,10 @@
--- `front` is safe. Assumes nothing.
+-- `front_row` is safe. Assumes nothing.
 use native.Mathlib.Omega.{arith}
 use lib.Seq.{length-take-le}
 use mathlib.Core.Path.{sym}
 use borrow.Author.Needs.{needs}
-use Rattle.study_file_trials.proofs.samples.front.Statement.{statement}
-use Rattle.study_file_trials.proofs.samples.front.Tie as tie
+use Rattle.trial_tools.proofs.slices.front_row.Statement.{statement}
+use Rattle.trial_tools.proofs.slices.front_row.Tie as tie
 
 slice-aggregate-result : tie.Need-slice-aggregate-result
 slice-aggregate-result c = sym (length-take-le _ _ (omega arith))
@@ -15,5 +15,5 @@ returns c = search needs
 returns-2 : tie.Need-returns-2
 returns-2 c = search needs
 
-pub front-spec : {M : Type 1} → statement M
-front-spec = tie.close (tie.spec slice-aggregate-result returns returns-2)
+pub front-row-spec : {M : Type 1} → statement M
+front-row-spec = tie.close (tie.spec slice-aggregate-result returns returns-2)

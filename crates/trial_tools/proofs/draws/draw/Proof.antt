@@ -3,8 +3,8 @@ use native.Mathlib.Omega.{arith}
 use native.Mathlib.Nat.{mod-lt}
 use Prim.Native.Nat.{_/_}
 use borrow.Author.Needs.{needs}
-use Rattle.search_trials.proofs.draw.Statement.{statement}
-use Rattle.search_trials.proofs.draw.Tie as tie
+use Rattle.trial_tools.proofs.draws.draw.Statement.{statement}
+use Rattle.trial_tools.proofs.draws.draw.Tie as tie
 
 rem-result : tie.Need-rem-result
 rem-result c = search needs
