@@ -1,0 +1,72 @@
+-- `next_tide` meets its contract: a tide, the end, or no number. Assumes nothing.
+use Rattle.packing.specs.WordLaws.{next-within}
+use mathlib.Core.Path.{refl, sym, _∙_}
+use Rattle.packing.specs.Turns.{turn-goes, turn-ends, turn-stops}
+use borrow.Author.Needs.{needs}
+use Rattle.packing.proofs.calls.next_tide.Statement.{statement}
+use Rattle.packing.proofs.calls.next_tide.Tie as tie
+
+next-requires : tie.Need-next-requires
+next-requires c κs = search needs
+
+enum-known-word : tie.Need-enum-known-word
+enum-known-word c = search needs
+
+read-tide-requires : tie.Need-read-tide-requires
+read-tide-requires c κs = (next-within (c .before .before .before .before .before .before .before .before .before .before .before .pre .0) (sym (c .before .before .before .before .before .before .next .ensures) ∙ c .before .before .before .before .word .given .1), c .before .before .before .before .before .before .before .before .before .before .before .pre .1, c .before .before .before .before .before .before .before .before .before .before .before .pre .2)
+
+enum-known-word-2 : tie.Need-enum-known-word-2
+enum-known-word-2 c = search needs
+
+enum-known-word-3 : tie.Need-enum-known-word-3
+enum-known-word-3 c = search needs
+
+stopped-requires : tie.Need-stopped-requires
+stopped-requires c κs = search needs
+
+enum-known-word-4 : tie.Need-enum-known-word-4
+enum-known-word-4 c = search needs
+
+stopped-requires-2 : tie.Need-stopped-requires-2
+stopped-requires-2 c κs = search needs
+
+same-length : tie.Need-same-length
+same-length c = search needs
+
+same-length-2 : tie.Need-same-length-2
+same-length-2 c = search needs
+
+same-length-3 : tie.Need-same-length-3
+same-length-3 c = search needs
+
+returns : tie.Need-returns
+returns c = turn-goes (c .before .before .before .before .before .before .before .before .before .before .before .before .before .before .before .before .before .before .args .text .now) (c .before .before .before .before .before .before .before .before .before .before .before .before .before .before .before .before .before .before .args .from) (c .before .before .before .before .before .before .before .before .before .before .before .before .before .next .ensures) _ (c .before .before .before .before .before .before .before .before .before .before .before .word .given .1) (c .before .before .before .before .before .before .read-tide .ensures)
+
+returns-2 : tie.Need-returns-2
+returns-2 c = turn-ends (c .before .before .before .before .before .before .before .before .args .text .now) (c .before .before .before .before .before .before .before .before .args .from) (c .before .before .before .next .ensures) (c .before .before .before .before .before .before .before .before .pre .0) (c .before .before .before .before .before .before .before .before .pre .1) (c .before .word2 .given .1)
+
+returns-3 : tie.Need-returns-3
+returns-3 c = turn-stops (c .before .before .before .before .before .before .before .before .before .args .text .now) (c .before .before .before .before .before .before .before .before .before .args .from) (c .before .before .before .before .next .ensures) (c .before .before .before .before .before .before .before .before .before .pre .0) (c .before .before .before .before .before .before .before .before .before .pre .1) (c .before .before .word3 .given .1) refl (c .stopped .ensures)
+
+returns-4 : tie.Need-returns-4
+returns-4 c = turn-stops (c .before .before .before .before .before .before .before .before .before .args .text .now) (c .before .before .before .before .before .before .before .before .before .args .from) (c .before .before .before .before .next .ensures) (c .before .before .before .before .before .before .before .before .before .pre .0) (c .before .before .before .before .before .before .before .before .before .pre .1) (c .before .before .word4 .given .1) refl (c .stopped2 .ensures)
+
+pub next-tide-spec : {M : Type 1} → statement M
+next-tide-spec =
+    tie.close
+    (tie.spec
+    next-requires
+    enum-known-word
+    read-tide-requires
+    enum-known-word-2
+    enum-known-word-3
+    stopped-requires
+    enum-known-word-4
+    stopped-requires-2
+    same-length
+    same-length-2
+    same-length-3
+    returns
+    returns-2
+    returns-3
+    returns-4)

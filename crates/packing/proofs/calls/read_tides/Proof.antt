@@ -1,0 +1,62 @@
+-- `read_tides` meets its contract: the loop's invariant: after as many turns as tides are held, the text stands at this place. Assumes nothing.
+use borrow.Author.Needs.{needs}
+use native.Mathlib.Omega.{arith}
+use mathlib.Core.Path.{_≡_, refl}
+use lib.ListN.{length}
+use Prim.Native.Nat.{_-_, _≤_}
+use Rattle.packing.specs.Turns.{Midway, midway-size, midway-more, midway-ends}
+use Rattle.packing.proofs.calls.read_tides.Statement.{statement}
+use Rattle.packing.proofs.calls.read_tides.Tie as tie
+
+abbrev Inv-loop : tie.InvT-loop
+Inv-loop text distances₀ settings₀ row₀ dataset₀ cursor₀ distances settings row dataset cursor = Midway text dataset distances settings cursor × (120 ≤ length row) × (length distances ≡ length distances₀) × (length settings ≡ length settings₀) × (length row ≡ length row₀)
+
+abbrev μ-loop : tie.MeasureT-loop
+μ-loop text distances₀ settings₀ row₀ dataset₀ cursor₀ distances settings row dataset cursor = 121 - dataset .n
+
+loop-holds : tie.Need-loop-holds Inv-loop μ-loop
+loop-holds c = (record { within = c .before .before .before .before .pre .0 .0; passed = c .before .before .before .before .pre .0 .1; turns = c .before .before .before .before .pre .1 }, c .before .before .before .before .pre .0 .2, refl, refl, refl)
+
+next-tide-requires : tie.Need-next-tide-requires Inv-loop μ-loop
+next-tide-requires c κs = let m = c .before .before .before .loop .inv .0 in (m .within, m .passed, c .before .before .before .loop .inv .1)
+
+enum-known-step : tie.Need-enum-known-step Inv-loop μ-loop
+enum-known-step c = search needs
+
+same-length : tie.Need-same-length Inv-loop μ-loop
+same-length c = omega arith
+
+same-length-2 : tie.Need-same-length-2 Inv-loop μ-loop
+same-length-2 c = omega arith
+
+same-length-3 : tie.Need-same-length-3 Inv-loop μ-loop
+same-length-3 c = omega arith
+
+returns : tie.Need-returns Inv-loop μ-loop
+returns c = midway-ends (c .before .before .before .before .before .before .before .before .before .before .before .before .before .before .loop .inv .0) (c .before .before .before .before .before .before .before .before .before .before .next-tide .ensures) (c .before .before .step .given .1)
+
+enum-told : tie.Need-enum-told Inv-loop μ-loop
+enum-told c = search needs
+
+loop-less : tie.Need-loop-less Inv-loop μ-loop
+loop-less c = omega (arith, midway-size (c .before .before .before .before .before .before .before .before .before .before .before .before .before .before .loop .inv .0) (c .before .before .before .before .before .before .before .before .before .before .next-tide .ensures) (c .before .before .enum-told .given .1), c .before .before .before .before .before .before .before .before .before .before .before .before .before .before .loop .inv .0 .passed .dataset .few)
+
+loop-again : tie.Need-loop-again Inv-loop μ-loop
+loop-again c = (midway-more (c .before .before .before .before .before .before .before .before .before .before .before .before .before .before .loop .inv .0) (c .before .before .before .before .before .before .before .before .before .before .next-tide .ensures) (c .before .before .enum-told .given .1), omega arith, omega arith, omega arith, omega arith)
+
+pub read-tides-spec : {M : Type 1} → statement M
+read-tides-spec =
+    tie.close
+    (tie.spec
+    Inv-loop
+    μ-loop
+    loop-holds
+    next-tide-requires
+    enum-known-step
+    same-length
+    same-length-2
+    same-length-3
+    returns
+    enum-told
+    loop-less
+    loop-again)

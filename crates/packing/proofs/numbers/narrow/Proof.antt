@@ -1,0 +1,20 @@
+-- `narrow` meets its contract: below 256, or 255. Assumes nothing.
+use Rattle.packing.specs.Narrowing.{narrowed}
+use borrow.Author.Tests.{lt-ltb, le-ltb}
+use borrow.Author.Needs.{needs}
+use Rattle.packing.proofs.numbers.narrow.Statement.{statement}
+use Rattle.packing.proofs.numbers.narrow.Tie as tie
+
+cast-result : tie.Need-cast-result
+cast-result c = search needs
+
+returns : tie.Need-returns
+unfolding narrowed
+returns c = rw (lt-ltb _ 256 (c .if1 .taken))
+
+returns-2 : tie.Need-returns-2
+unfolding narrowed
+returns-2 c = rw (le-ltb _ 256 (c .if1 .left))
+
+pub narrow-spec : {M : Type 1} → statement M
+narrow-spec = tie.close (tie.spec cast-result returns returns-2)

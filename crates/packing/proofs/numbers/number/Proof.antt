@@ -1,0 +1,47 @@
+-- `number` meets its contract: each word is a number or stops. Assumes nothing.
+use Rattle.packing.specs.Steps.{number-is}
+use mathlib.Core.Path.{refl}
+use borrow.Author.Needs.{needs}
+use Rattle.packing.proofs.numbers.number.Statement.{statement}
+use Rattle.packing.proofs.numbers.number.Tie as tie
+
+next-requires : tie.Need-next-requires
+next-requires c κs = search needs
+
+enum-known-word : tie.Need-enum-known-word
+enum-known-word c = search needs
+
+enum-known-word-2 : tie.Need-enum-known-word-2
+enum-known-word-2 c = search needs
+
+enum-known-word-3 : tie.Need-enum-known-word-3
+enum-known-word-3 c = search needs
+
+enum-known-word-4 : tie.Need-enum-known-word-4
+enum-known-word-4 c = search needs
+
+returns : tie.Need-returns
+returns c = number-is (c .before .before .before .before .before .args .text .now) (c .before .before .before .before .before .args .from) (c .before .before .before .next .ensures) (c .before .word .given .1) refl
+
+returns-2 : tie.Need-returns-2
+returns-2 c = number-is (c .before .before .before .before .before .args .text .now) (c .before .before .before .before .before .args .from) (c .before .before .before .next .ensures) (c .before .word2 .given .1) refl
+
+returns-3 : tie.Need-returns-3
+returns-3 c = number-is (c .before .before .before .before .before .args .text .now) (c .before .before .before .before .before .args .from) (c .before .before .before .next .ensures) (c .before .word3 .given .1) refl
+
+returns-4 : tie.Need-returns-4
+returns-4 c = number-is (c .before .before .before .before .before .args .text .now) (c .before .before .before .before .before .args .from) (c .before .before .before .next .ensures) (c .before .word4 .given .1) refl
+
+pub number-spec : {M : Type 1} → statement M
+number-spec =
+    tie.close
+    (tie.spec
+    next-requires
+    enum-known-word
+    enum-known-word-2
+    enum-known-word-3
+    enum-known-word-4
+    returns
+    returns-2
+    returns-3
+    returns-4)

@@ -1,0 +1,74 @@
+-- `read_row` meets its contract: the loop's invariant: the first i numbers stand in the row. Assumes nothing.
+use borrow.Author.Needs.{needs}
+use native.Mathlib.Omega.{arith}
+use Rattle.packing.specs.Steps.{ReadTo, row-none, row-more, row-stops, row-read}
+use lib.ListN.{length, length-set}
+use Prim.Native.Nat.{_-_, _≤_}
+use mathlib.Core.Path.{_≡_, refl}
+use Rattle.packing.proofs.numbers.read_row.Statement.{statement}
+use Rattle.packing.proofs.numbers.read_row.Tie as tie
+
+abbrev Inv-loop : tie.InvT-loop
+Inv-loop text row₀ cursor₀ i₀ row cursor i = (i ≤ length row) × (length row ≡ length row₀) × ReadTo text cursor₀ i row cursor
+
+abbrev μ-loop : tie.MeasureT-loop
+μ-loop text row₀ cursor₀ i₀ row cursor i = length row - i
+
+loop-holds : tie.Need-loop-holds Inv-loop μ-loop
+loop-holds c = (omega arith, refl, row-none (c .before .before .pre))
+
+number-requires : tie.Need-number-requires Inv-loop μ-loop
+number-requires c κs = c .before .loop .inv .2 .within
+
+enum-known-given : tie.Need-enum-known-given Inv-loop μ-loop
+enum-known-given c = search needs
+
+same-length : tie.Need-same-length Inv-loop μ-loop
+same-length c = c .before .before .before .before .before .loop .inv .1
+
+returns : tie.Need-returns Inv-loop μ-loop
+returns c = row-stops _ (c .before .before .before .before .before .loop .inv .2) (c .before .before .before .number .ensures) (c .before .given .given .1) (omega arith)
+
+enum-known-given-2 : tie.Need-enum-known-given-2 Inv-loop μ-loop
+enum-known-given-2 c = search needs
+
+mul-row : tie.Need-mul-row Inv-loop μ-loop
+mul-row c = omega arith
+
+slice-write-row : tie.Need-slice-write-row Inv-loop μ-loop
+slice-write-row c = omega arith
+
+add-i : tie.Need-add-i Inv-loop μ-loop
+add-i c = omega arith
+
+loop-less : tie.Need-loop-less Inv-loop μ-loop
+loop-less c = simp length-set (omega arith)
+
+loop-again : tie.Need-loop-again Inv-loop μ-loop
+loop-again c = (simp length-set (omega arith), simp length-set (c .before .before .before .before .before .loop .inv .1), row-more (c .before .before .before .before .before .loop .inv .2) (c .before .before .before .number .ensures) (c .before .given2 .given .1) (omega arith))
+
+same-length-2 : tie.Need-same-length-2 Inv-loop μ-loop
+same-length-2 c = c .before .loop .inv .1
+
+returns-2 : tie.Need-returns-2 Inv-loop μ-loop
+returns-2 c = row-read (c .before .loop .inv .2) (omega arith) (c .before .loop .inv .1)
+
+pub read-row-spec : {M : Type 1} → statement M
+read-row-spec =
+    tie.close
+    (tie.spec
+    Inv-loop
+    μ-loop
+    loop-holds
+    number-requires
+    enum-known-given
+    same-length
+    returns
+    enum-known-given-2
+    mul-row
+    slice-write-row
+    add-i
+    loop-less
+    loop-again
+    same-length-2
+    returns-2)

@@ -1,0 +1,67 @@
+-- `skip` meets its contract: the loop's invariant: from here the next word begins where it begins from the start. Assumes nothing.
+use borrow.Author.Needs.{needs}
+use native.Mathlib.Omega.{arith}
+use lib.ListN.{length, drop, getD}
+use mathlib.Core.Path.{_≡_, refl, sym, _∙_}
+use Prim.Native.Nat.{_+_, _-_, _≤_}
+use Rattle.packing.specs.Words.{startOf}
+use Rattle.packing.specs.WordLaws.{newline-small, start-goes, start-here, start-end}
+use Rattle.packing.proofs.words.skip.Statement.{statement}
+use Rattle.packing.proofs.words.skip.Tie as tie
+
+abbrev Inv-loop : tie.InvT-loop
+Inv-loop text at₀ line₀ comment₀ at line comment = (at ≤ length text) × (line ≤ at + 1) × (length text ≤ 131072) × (startOf comment (record { at = at; line = line }) (drop at text) ≡ startOf comment₀ (record { at = at₀; line = line₀ }) (drop at₀ text))
+
+abbrev μ-loop : tie.MeasureT-loop
+μ-loop text at₀ line₀ comment₀ at line comment = length text - at
+
+loop-holds : tie.Need-loop-holds Inv-loop μ-loop
+loop-holds c = let w = c .before .pre in (w .inside, w .line-low, w .short, refl)
+
+shared-slice-read-b : tie.Need-shared-slice-read-b Inv-loop μ-loop
+shared-slice-read-b c = omega arith
+
+begins-requires : tie.Need-begins-requires Inv-loop μ-loop
+begins-requires c κs = search needs
+
+returns : tie.Need-returns Inv-loop μ-loop
+returns c = start-here (c .before .before .before .before .before .before .args .text .now) (c .before .before .before .before .loop .comment) (c .before .before .before .before .loop .at) (c .before .before .before .before .loop .line) (c .before .before .before .loop-test .taken) (sym (c .before .begins .ensures) ∙ c .if1 .taken) (c .before .before .before .before .loop .inv .3)
+
+comment-after-requires : tie.Need-comment-after-requires Inv-loop μ-loop
+comment-after-requires c κs = search needs
+
+newline-requires : tie.Need-newline-requires Inv-loop μ-loop
+newline-requires c κs = search needs
+
+add-line : tie.Need-add-line Inv-loop μ-loop
+add-line c = omega (arith, newline-small (getD (c .before .before .before .before .before .before .before .before .args .text .now) (c .before .before .before .before .before .before .loop .at) 0))
+
+add-at : tie.Need-add-at Inv-loop μ-loop
+add-at c = omega arith
+
+loop-less : tie.Need-loop-less Inv-loop μ-loop
+loop-less c = omega arith
+
+loop-again : tie.Need-loop-again Inv-loop μ-loop
+loop-again c = let h = newline-small (getD (c .before .before .before .before .before .before .before .before .args .text .now) (c .before .before .before .before .before .before .loop .at) 0) in (omega arith, omega arith, c .before .before .before .before .before .before .loop .inv .2, start-goes (c .before .before .before .before .before .before .before .before .args .text .now) (c .before .before .before .before .before .before .loop .comment) (c .before .before .before .before .before .before .loop .at) (c .before .before .before .before .before .before .loop .line) (c .before .before .before .before .before .loop-test .taken) (sym (c .before .before .before .begins .ensures) ∙ c .before .before .if1 .left) (c .before .comment-after .ensures) (c .newline .ensures) (c .before .before .before .before .before .before .loop .inv .3))
+
+returns-2 : tie.Need-returns-2 Inv-loop μ-loop
+returns-2 c = start-end (c .before .before .before .args .text .now) (c .before .loop .comment) (c .before .loop .at) (c .before .loop .line) (omega arith) (c .before .loop .inv .3)
+
+pub skip-spec : {M : Type 1} → statement M
+skip-spec =
+    tie.close
+    (tie.spec
+    Inv-loop
+    μ-loop
+    loop-holds
+    shared-slice-read-b
+    begins-requires
+    returns
+    comment-after-requires
+    newline-requires
+    add-line
+    add-at
+    loop-less
+    loop-again
+    returns-2)

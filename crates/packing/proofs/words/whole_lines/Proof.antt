@@ -1,0 +1,55 @@
+-- `whole_lines` meets its contract: the loop's invariant: the lines counted and those to come are all. Assumes nothing.
+use borrow.Author.Needs.{needs}
+use native.Mathlib.Omega.{arith}
+use lib.ListN.{length, drop, getD}
+use mathlib.Core.Path.{_≡_}
+use Prim.Native.Nat.{_+_, _-_, _≤_}
+use Rattle.packing.specs.Words.{newlines}
+use Rattle.packing.specs.WordLaws.{newline-small, lines-more, lines-all}
+use Rattle.packing.proofs.words.whole_lines.Statement.{statement}
+use Rattle.packing.proofs.words.whole_lines.Tie as tie
+
+abbrev Inv-loop : tie.InvT-loop
+Inv-loop text lines₀ i₀ lines i = (i ≤ length text) × (lines ≤ i) × (lines + newlines (drop i text) ≡ newlines text)
+
+abbrev μ-loop : tie.MeasureT-loop
+μ-loop text lines₀ i₀ lines i = length text - i
+
+loop-holds : tie.Need-loop-holds Inv-loop μ-loop
+loop-holds c = (omega arith, omega arith, omega arith)
+
+shared-slice-read-newline : tie.Need-shared-slice-read-newline Inv-loop μ-loop
+shared-slice-read-newline c = omega arith
+
+newline-requires : tie.Need-newline-requires Inv-loop μ-loop
+newline-requires c κs = search needs
+
+add-lines : tie.Need-add-lines Inv-loop μ-loop
+add-lines c = omega (arith, newline-small (getD (c .before .before .before .before .before .args .text .now) (c .before .before .before .loop .i) 0))
+
+add-i : tie.Need-add-i Inv-loop μ-loop
+add-i c = omega arith
+
+loop-less : tie.Need-loop-less Inv-loop μ-loop
+loop-less c = omega arith
+
+loop-again : tie.Need-loop-again Inv-loop μ-loop
+loop-again c = (omega arith, omega (arith, newline-small (getD (c .before .before .before .before .before .args .text .now) (c .before .before .before .loop .i) 0)), lines-more (c .before .before .before .before .before .args .text .now) (c .before .before .before .loop .lines) (c .before .before .before .loop .i) (c .before .before .loop-test .taken) (c .newline .ensures) (c .before .before .before .loop .inv .2))
+
+returns : tie.Need-returns Inv-loop μ-loop
+returns c = lines-all (c .before .before .before .args .text .now) (c .before .loop .lines) (c .before .loop .i) (omega arith) (c .before .loop .inv .2)
+
+pub whole-lines-spec : {M : Type 1} → statement M
+whole-lines-spec =
+    tie.close
+    (tie.spec
+    Inv-loop
+    μ-loop
+    loop-holds
+    shared-slice-read-newline
+    newline-requires
+    add-lines
+    add-i
+    loop-less
+    loop-again
+    returns)

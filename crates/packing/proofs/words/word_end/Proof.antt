@@ -1,0 +1,55 @@
+-- `word_end` meets its contract: the loop's invariant: what is passed and what is left of the word make it up. Assumes nothing.
+use borrow.Author.Needs.{needs}
+use native.Mathlib.Omega.{arith}
+use lib.ListN.{length, drop}
+use mathlib.Core.Path.{_≡_, refl, sym, _∙_}
+use Prim.Native.Nat.{_+_, _-_, _≤_}
+use Rattle.packing.specs.Words.{wordOf}
+use Rattle.packing.specs.WordLaws.{word-more, word-ends, word-none}
+use Rattle.packing.proofs.words.word_end.Statement.{statement}
+use Rattle.packing.proofs.words.word_end.Tie as tie
+
+abbrev Inv-loop : tie.InvT-loop
+Inv-loop text at end₀ end = (end ≤ length text) × (at ≤ end) × (end + length (wordOf (drop end text)) ≡ at + length (wordOf (drop at text)))
+
+abbrev μ-loop : tie.MeasureT-loop
+μ-loop text at end₀ end = length text - end
+
+loop-holds : tie.Need-loop-holds Inv-loop μ-loop
+loop-holds c = (c .before .pre, omega arith, refl)
+
+shared-slice-read-ends-word : tie.Need-shared-slice-read-ends-word Inv-loop μ-loop
+shared-slice-read-ends-word c = omega arith
+
+ends-word-requires : tie.Need-ends-word-requires Inv-loop μ-loop
+ends-word-requires c κs = search needs
+
+returns : tie.Need-returns Inv-loop μ-loop
+returns c = let w = word-ends (c .before .before .before .before .before .before .args .text .now) (c .before .before .before .before .loop .end) (c .before .before .before .loop-test .taken) (sym (c .before .ends-word .ensures) ∙ c .if1 .taken) in (omega arith, omega arith)
+
+add-end : tie.Need-add-end Inv-loop μ-loop
+add-end c = omega arith
+
+loop-less : tie.Need-loop-less Inv-loop μ-loop
+loop-less c = omega arith
+
+loop-again : tie.Need-loop-again Inv-loop μ-loop
+loop-again c = let w = word-more (c .before .before .before .before .before .before .args .text .now) (c .before .before .before .before .loop .end) (c .before .before .before .loop-test .taken) (sym (c .before .ends-word .ensures) ∙ c .if1 .left) in (omega arith, omega arith, omega arith)
+
+returns-2 : tie.Need-returns-2 Inv-loop μ-loop
+returns-2 c = let w = word-none (c .before .before .before .args .text .now) (c .before .loop .end) (omega arith) in (omega arith, omega arith)
+
+pub word-end-spec : {M : Type 1} → statement M
+word-end-spec =
+    tie.close
+    (tie.spec
+    Inv-loop
+    μ-loop
+    loop-holds
+    shared-slice-read-ends-word
+    ends-word-requires
+    returns
+    add-end
+    loop-less
+    loop-again
+    returns-2)

@@ -1,0 +1,56 @@
+-- Texts and what is said of them, by computation. Assumes nothing.
+use Prim.Native.String.{String}
+use mathlib.Core.Path.{_≡_, refl}
+use mathlib.Core.List.{List, [], _∷_, map, flatMap}
+use lib.ListN.{replicate}
+use Rattle.lists.specs.Lists.{every, sum, tabulate}
+use Rattle.study.specs.Study.{noTide, tide, distance, validMinima}
+use Rattle.study.specs.Refusals.{number, seven, firstOf}
+use Rattle.study.specs.Calls.{openReasons, opened, opening, minimaReasons, withMinima, settingMinima, triangle, breaking, enterReasons, entered, entering}
+use Rattle.file_format.specs.Bits.{binary, allBits, pack, packed}
+use Rattle.file_format.specs.File.{tideFields, fields, fileOf}
+use Rattle.sheet_text.specs.Text.{ascii}
+use Rattle.packing.specs.Words.{newlines, endsWord, begins, commentAfter, past, startOf, wordOf, digit, withDigit, valueFrom, numeralOf, wordAt, nextOf}
+use Rattle.packing.specs.Packing.{Told, done, refusedAt, notNumber, tooLarge, missing, numberOf, numbersOf, minimaFrom, openingOf, minimaOf, headOf, tideOf, turnOf, turnsOf, textOf, packAnswer, packLeaves}
+
+pub record Case : Type 0 where
+  pub text : String
+  pub told : Told
+
+infix 10 _gives_
+abbrev pub _gives_ : String → Told → Case
+t gives a = record { text = t; told = a }
+
+-- lent 8 bytes
+unfoldable pub cases : List Case
+cases =
+    -- no tide, and one
+    ("1\n1 0\n" gives done 7)
+    ∷ ("1 # settings\n1 0\t#\r\n1#" gives done 7)
+    -- what is no number, too large, missing
+    ∷ ("1\n1 0\n1\n1 x\n" gives notNumber 4)
+    ∷ ("1\n1 0\n1\n1 4294967296x\n" gives notNumber 4)
+    ∷ ("1\n1 0\n1\n1 4294967296\n" gives tooLarge 4)
+    ∷ ("1\n1 0\n1\n1 4294967295\n" gives refusedAt 4 (number 6))
+    ∷ ("" gives missing 1)
+    ∷ ("1\n1" gives missing 2)
+    ∷ ("1\n1 0\n1\n1\n" gives missing 5)
+    -- refused; numbers above 255 too
+    ∷ ("9" gives refusedAt 1 (number 2))
+    ∷ ("257" gives refusedAt 1 (number 2))
+    ∷ ("1\n257 0" gives refusedAt 2 (number 3))
+    ∷ ("1\n1\n257" gives refusedAt 3 (number 3))
+    ∷ ("1\n1 0\n257" gives refusedAt 3 (number 5))
+    ∷ ("1 1 0\n1\n1 3\n1 1\n1\n" gives refusedAt 5 (seven 1 2))
+    -- no room for the file
+    ∷ ("1 1 0\n1\n1 3\n" gives refusedAt 4 (number 1))
+    ∷ []
+
+pub worked-cases : map (λ (c : Case). packAnswer (ascii (c .text)) 8) cases ≡ map (λ (c : Case). c .told) cases
+unfolding cases packAnswer textOf turnsOf turnOf tideOf headOf minimaOf openingOf minimaFrom numbersOf numberOf nextOf wordAt numeralOf valueFrom withDigit digit wordOf startOf past commentAfter begins endsWord newlines openReasons opening opened minimaReasons settingMinima withMinima validMinima enterReasons entering entered breaking triangle distance tide noTide firstOf every sum tabulate flatMap fileOf fields tideFields packed pack allBits binary
+worked-cases = refl
+
+-- the file of one tide, and a byte past it
+pub one-tide : packLeaves (ascii "1 1 0 1\n") (replicate 8 170) ≡ 0x54 ∷ 0x02 ∷ 0x20 ∷ 0x40 ∷ 0x00 ∷ 0x00 ∷ 0x00 ∷ 170 ∷ []
+unfolding packLeaves textOf turnsOf turnOf tideOf headOf minimaOf openingOf minimaFrom numbersOf numberOf nextOf wordAt numeralOf valueFrom withDigit digit wordOf startOf past commentAfter begins endsWord newlines openReasons opening opened minimaReasons settingMinima withMinima validMinima enterReasons entering entered breaking triangle distance tide noTide firstOf every sum tabulate flatMap fileOf fields tideFields packed pack allBits binary
+one-tide = refl

@@ -1,0 +1,11 @@
+-- Statements: Words, Packing, Cases. Laws for the code and proofs: the rest.
+pub mod Words
+pub mod Packing
+pub mod Cases
+pub mod WordLaws
+pub mod Steps
+pub mod Narrowing
+pub mod Reached
+pub mod Calls
+pub mod Turns
+pub mod Writing
