@@ -77,13 +77,13 @@ def plane(n):
         lambda t, e: abs(at[t][0] - at[e][0]) + abs(at[t][1] - at[e][1]), 12)
 
 
-def rooms(n, k, b0, b, seed, moving=False):
+def rooms(n, k, b0, b, seed, near=None):
     """Two rooms. In the first, m centres share one tide too few between them
     at every reach from R to 2R - 1; in the second, one centre has enough. All
     distances inside a room are from R to 2R and mostly different, so that
-    nearly each of them is a candidate. The rooms are 3R apart. Moving: each
-    tide of the first room is at R from one centre only, and one more tide is
-    near one more centre at each of a thousand candidates."""
+    nearly each of them is a candidate. The rooms are 3R apart. With near, each
+    tide of the first room is at R from that many centres only, and one more
+    tide is near one more centre at each of the next candidates."""
     r = Random(seed)
     R = 100_000
     m = (n - b0 - 1) // b0
@@ -96,7 +96,7 @@ def rooms(n, k, b0, b, seed, moving=False):
                 d = 3 * R
             elif t < m:
                 d = 2 * R  # both are centres of the first room
-            elif e < m and (not moving or t % m == e) or e == first:
+            elif e < m and (near is None or (e - t) % m < near) or e == first:
                 d = R  # one of them is a centre
             else:
                 d = free.pop()
@@ -118,7 +118,34 @@ def settings(n):
 
 def moving(n):
     """As before, with tides that come near one by one."""
-    return rooms(n, 8, 8, [1] * 8, n + 6, moving=True)
+    return rooms(n, 8, 8, [1] * 8, n + 6, near=1)
+
+
+def chain(n):
+    """Blocks of two: the first room lacks one tide, each tide of it is near
+    two centres from the start, and thousands of candidates bring one more
+    tide near one more centre."""
+    return rooms(n, 1, 2, [0], n + 7, near=2)
+
+
+def growing(n):
+    """Blocks of two, each of a centre and a later tide, where tides prefer the
+    first centres: at nearly every candidate that changes anything, one more
+    block gets its tide."""
+    r = Random(n + 8)
+    R = 100_000
+    centres = n // 2
+    table = {}
+    for t in range(n):
+        for e in range(t):
+            if t < centres:
+                d = 2 * R
+            elif e < centres:
+                d = R + (t - centres + 1) * (e + 1) * 40_000 // (centres * centres) + r.below(20)
+            else:
+                d = 2 * R - 1 - r.below(1000)
+            table[t, e] = d
+    return study_file(1, 2, [0], [1] * n, lambda t, e: table[t, e])
 
 
 def ties(n):
@@ -168,7 +195,8 @@ def spread(n):
 
 KINDS = [
     ("easy", line), ("easy", plane),
-    ("hard", count), ("hard", settings), ("hard", moving), ("hard", ties), ("hard", spread),
+    ("hard", count), ("hard", settings), ("hard", moving), ("hard", chain),
+    ("hard", growing), ("hard", ties), ("hard", spread),
 ]
 
 

@@ -35,7 +35,7 @@ module _ {d s : List ℕ} {n : ℕ} {M : Minima} (Q : Proper d s n M) {g count�
   listed = L .centres .front
 
   assignment : Assignment P g xs
-  assignment = assigns Q g count₁ cs allowed listed (L .table .here) (labels list) (F .assigned)
+  assignment = assigns Q g count₁ cs listed allowed (L .table .here) (labels list) (F .assigned)
 
   pub radius-is : radius P ≡ g
   radius-is = lowest-radius P g (L .lowest) xs assignment
@@ -59,7 +59,7 @@ module _ {d s : List ℕ} {n : ℕ} {M : Minima} (Q : Proper d s n M) {g count�
               choice-before P g (centres P g) t (labels xs t) c m b,
               numbered-at n (labels list) t l,
               A .low t l,
-              F .least (λ x. labels ys x - 1) (allowed-by Q g count₁ cs allowed listed (L .table .here) ys A) t l (agrees t l ys e),
+              F .least (λ x. labels ys x - 1) (allowed-by Q g count₁ cs listed allowed (L .table .here) ys A) t l (agrees t l ys e),
             );
       }
 

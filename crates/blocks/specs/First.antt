@@ -14,7 +14,7 @@ use Rattle.lists.specs.Tables.{getD-overwrite, length-overwrite, drop-overwrite
 use Rattle.study.specs.declared.Minima.{Minima}
 use Rattle.study.specs.Problem.{block, labels}
 use Rattle.study.specs.StudyLaws.{meets-along}
-use Rattle.matching.specs.Promise.{allows, Assigned, Asked, Promise}
+use Rattle.matching.specs.Promise.{allows, Assigning, Assigned, Asked, Promise}
 use Rattle.radius.specs.Attempts.{Kept, kept-same, kept-on}
 use Rattle.blocks.specs.Narrowed.{Narrowed, narrowed-on, narrowed-pin, narrowed-keeps, narrowed-sound, narrowed-complete}
 
@@ -28,12 +28,13 @@ pub record First (n blocks : ℕ) (M : Minima) (s allowed list : List ℕ) : Typ
   pub least : (E : ℕ → ℕ) → Assigned n blocks M s allowed E → (t : ℕ) → t < n → Agree t (labels list) E → labels list t ≤ E t
 
 -- an assignment is one by what it gives the tides
-pub assigned-same : {n blocks : ℕ} {M : Minima} {s allowed : List ℕ} (D E : ℕ → ℕ) → ((t : ℕ) → t < n → D t ≡ E t) → Assigned n blocks M s allowed D → Assigned n blocks M s allowed E
+pub assigned-same : {n blocks : ℕ} {M : Minima} {s : List ℕ} {May : ℕ → ℕ → Type 0} (D E : ℕ → ℕ) → ((t : ℕ) → t < n → D t ≡ E t) → Assigning n blocks M s May D
+    → Assigning n blocks M s May E
 unfolding block
-assigned-same {n} {blocks} {M} {s} {allowed} D E e A =
+assigned-same {n} {blocks} {M} {s} {May} D E e A =
     record {
       below = λ t l. subst (λ z. z < blocks) (e t l) (A .below t l);
-      may = λ t l. subst (λ z. T (allows allowed t z)) (e t l) (A .may t l);
+      may = λ t l. subst (May t) (e t l) (A .may t l);
       enough = λ m l.
           meets-along M n n (λ t. getD s t 0) (λ t. getD s t 0) (block D m) (block E m) (λ t. t) (λ t k u. k)
           (λ t k u. eq→eqb (E t) m (sym (e t k) ∙ eqb→eq (D t) m u)) (λ t k. refl) (λ t u k j q. q) (A .enough m l);

@@ -2,6 +2,7 @@
 pub mod Pairs
 pub mod Laying
 pub mod Hall
+pub mod Violators
 pub mod Push
 pub mod Shift
 pub mod Turns

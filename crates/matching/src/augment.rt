@@ -4,8 +4,8 @@ ghost use mathlib.Core.Path.{_≡_};
 ghost use mathlib.Core.Bool.{true, false};
 ghost use Prim.Native.Nat.{_+_, _*_, _<_, _≤_};
 ghost use lib.ListN.{length, set};
-ghost use Rattle.matching.specs.Matching.{at, Matching, Tree, Path, Unsaturable, freed};
-ghost use Rattle.matching.specs.Graph.{EdgeAt, Edge, Decides, Sized, Wanted, Scanning, Marked, Passed, Free, Searched, Augmented, Saturated};
+ghost use Rattle.matching.specs.Matching.{at, Matching, Tree, Path, freed};
+ghost use Rattle.matching.specs.Graph.{EdgeAt, Edge, Decides, Sized, Wanted, Scanning, Marked, Passed, Free, Searched, Violator, Augmented, Saturated};
 
 // The length of the queue after a scan, and the free tide that was met, or 120.
 pub struct Scanned {
@@ -17,6 +17,15 @@ pub struct Scanned {
 pub struct Grown {
     pub slot: usize,
     pub tide: usize,
+}
+
+// Whether a search found what it was for. If not, the tides seen have a slot in from, 120 where they
+// are not seen, and mark has 1 at m * 9 + k where slots of block m and kind k are scanned: together a
+// Hall violator.
+pub struct Outcome {
+    pub found: bool,
+    pub from: [usize; 120],
+    pub mark: [u8; 1080],
 }
 
 // Whether a slot of block m and kind k can hold the tide t.
@@ -179,7 +188,7 @@ fn visit(
     requires { ⌜ Marked (now allowed) (now settings) slots tides (now mark) (now from) ⌝ }
     ensures { λ r. ⌜ Scanning (Edge (now (allowed .entry)) (now (settings .entry)) (now (owner .entry)) (now (kind .entry))) slots tides s start (r .free) (r .tail) (now (tide .entry)) (now (slot .entry)) (now (from .entry)) (now (rank .entry)) (now (queue .entry)) (now (from .exit)) (now (rank .exit)) (now (queue .exit)) ⌝ }
     ensures { λ r. ⌜ (r .free < tides → Free (Edge (now (allowed .entry)) (now (settings .entry)) (now (owner .entry)) (now (kind .entry))) slots s (r .free) (now (slot .entry))) ⌝ }
-    ensures { λ r. ⌜ (tides ≤ r .free → Passed (now (allowed .entry)) (now (settings .entry)) slots tides (r .free) (now (mark .exit)) (now (from .exit))) ⌝ }
+    ensures { λ r. ⌜ (tides ≤ r .free → Passed (now (allowed .entry)) (now (settings .entry)) slots tides (at (now (owner .entry)) s) (at (now (kind .entry)) s) (r .free) (now (mark .entry)) (now (mark .exit)) (now (from .exit))) ⌝ }
 {
     let any = owner[s] * 9;
     if mark[any] != 0 {
@@ -234,6 +243,7 @@ fn grow(
     requires { ⌜ Tree (Edge (now allowed) (now settings) (now owner) (now kind)) slots tides 1 (now tide) (now slot) (now from) (now rank) (now queue) ⌝ }
     requires { ⌜ Marked (now allowed) (now settings) slots tides (now mark) (now from) ⌝ }
     ensures { λ r. ⌜ Searched (Edge (now (allowed .entry)) (now (settings .entry)) (now (owner .entry)) (now (kind .entry))) slots tides (at (now (queue .entry)) 0) (r .slot) (r .tide) (now (tide .entry)) (now (slot .entry)) (now (from .exit)) (now (rank .exit)) ⌝ }
+    ensures { λ r. ⌜ (tides ≤ r .tide → Violator (now (allowed .entry)) (now (settings .entry)) (now (owner .entry)) (now (kind .entry)) slots tides (now (from .exit)) (now (mark .exit))) ⌝ }
 {
     let mut head = 0;
     let mut tail = 1;
@@ -307,8 +317,7 @@ fn shift(
     }
 }
 
-// Gives the free slot root a tide, and leaves every slot that has one with one. False where no
-// matching gives every slot a tide.
+// Gives the free slot root a tide, and leaves every slot that has one with one; or a Hall violator.
 fn improve(
     allowed: &[u8],
     settings: &[u8],
@@ -319,13 +328,13 @@ fn improve(
     tide: &mut [usize; 120],
     slot: &mut [usize; 120],
     root: usize,
-) -> bool
+) -> Outcome
     requires { ⌜ Sized (now allowed) (now settings) (now owner) (now kind) slots tides ⌝ }
     requires { ⌜ Matching (Edge (now allowed) (now settings) (now owner) (now kind)) slots tides (now tide) (now slot) ⌝ }
     requires { ⌜ root < slots ⌝ }
     requires { ⌜ tides ≤ at (now tide) root ⌝ }
-    ensures { λ r. ⌜ (r ≡ true → Augmented (Edge (now (allowed .entry)) (now (settings .entry)) (now (owner .entry)) (now (kind .entry))) slots tides root (now (tide .entry)) (now (tide .exit)) (now (slot .exit))) ⌝ }
-    ensures { λ r. ⌜ (r ≡ false → Unsaturable (Edge (now (allowed .entry)) (now (settings .entry)) (now (owner .entry)) (now (kind .entry))) slots tides) ⌝ }
+    ensures { λ r. ⌜ (r .found ≡ true → Augmented (Edge (now (allowed .entry)) (now (settings .entry)) (now (owner .entry)) (now (kind .entry))) slots tides root (now (tide .entry)) (now (tide .exit)) (now (slot .exit))) ⌝ }
+    ensures { λ r. ⌜ (r .found ≡ false → Violator (now (allowed .entry)) (now (settings .entry)) (now (owner .entry)) (now (kind .entry)) slots tides (r .from) (r .mark)) ⌝ }
 {
     let mut from: [usize; 120] = [120; 120];
     let mut rank: [usize; 120] = [120; 120];
@@ -350,7 +359,11 @@ fn improve(
     let s = r.slot;
     let t = r.tide;
     if t >= tides {
-        return false;
+        return Outcome {
+            found: false,
+            from: from,
+            mark: mark,
+        };
     }
     shift(
         allowed,
@@ -367,10 +380,14 @@ fn improve(
         s,
         t,
     );
-    true
+    Outcome {
+        found: true,
+        from: from,
+        mark: mark,
+    }
 }
 
-// Gives every slot a tide, starting from any matching. False where no matching does.
+// Gives every slot a tide, starting from any matching; or a Hall violator.
 pub fn saturate(
     allowed: &[u8],
     settings: &[u8],
@@ -380,22 +397,27 @@ pub fn saturate(
     tides: usize,
     tide: &mut [usize; 120],
     slot: &mut [usize; 120],
-) -> bool
+) -> Outcome
     requires { ⌜ Sized (now allowed) (now settings) (now owner) (now kind) slots tides ⌝ }
     requires { ⌜ Matching (Edge (now allowed) (now settings) (now owner) (now kind)) slots tides (now tide) (now slot) ⌝ }
-    ensures { λ r. ⌜ (r ≡ true → Saturated (Edge (now (allowed .entry)) (now (settings .entry)) (now (owner .entry)) (now (kind .entry))) slots tides slots (now (tide .exit)) (now (slot .exit))) ⌝ }
-    ensures { λ r. ⌜ (r ≡ false → Unsaturable (Edge (now (allowed .entry)) (now (settings .entry)) (now (owner .entry)) (now (kind .entry))) slots tides) ⌝ }
+    ensures { λ r. ⌜ (r .found ≡ true → Saturated (Edge (now (allowed .entry)) (now (settings .entry)) (now (owner .entry)) (now (kind .entry))) slots tides slots (now (tide .exit)) (now (slot .exit))) ⌝ }
+    ensures { λ r. ⌜ (r .found ≡ false → Violator (now (allowed .entry)) (now (settings .entry)) (now (owner .entry)) (now (kind .entry)) slots tides (r .from) (r .mark)) ⌝ }
 {
     // How many slots are still to be looked at.
     let mut left = slots;
     while left > 0 {
         let s = slots - left;
         if tide[s] >= tides {
-            if !improve(allowed, settings, owner, kind, slots, tides, tide, slot, s) {
-                return false;
+            let r = improve(allowed, settings, owner, kind, slots, tides, tide, slot, s);
+            if !r.found {
+                return r;
             }
         }
         left -= 1;
     }
-    true
+    Outcome {
+        found: true,
+        from: [120; 120],
+        mark: [0; 1080],
+    }
 }

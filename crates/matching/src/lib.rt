@@ -2,18 +2,20 @@
 // assignment. The minima of all blocks are laid out as slots; each slot gets a tide of its own by
 // augmenting paths; the other tides go to any block that they may go to.
 mod assign;
-mod augment;
+pub mod augment;
 mod slots;
 mod start;
+pub mod violator;
 
 use crate::assign::write_list;
 use crate::assign::write_partial;
+use crate::augment::Outcome;
 use crate::augment::saturate;
 use crate::slots::lay_out;
 use crate::start::adopt;
 use study::Minima;
 ghost use Prim.Native.Nat.{_*_, _≤_};
-ghost use Rattle.matching.specs.Promise.{Asked, Promise};
+ghost use Rattle.matching.specs.Promise.{Asked, Promise, PromiseOrViolator};
 ghost use Rattle.matching.specs.Slots.{Slots};
 
 // Whether there is an assignment, which is then left in the first n places of list. What list holds
@@ -30,9 +32,30 @@ pub fn search(
     requires { ⌜ Asked n blocks minima (now settings) (now allowed) (now list) ⌝ }
     ensures { λ r. ⌜ Promise n blocks minima (now (settings .entry)) (now (allowed .entry)) (now (list .entry)) (now (list .exit)) r ⌝ }
 {
+    let r = search_or_violator(n, blocks, minima, settings, allowed, list);
+    r.found
+}
+
+// The same, and on no a Hall violator, which tells what would have to be allowed too.
+pub fn search_or_violator(
+    n: usize,
+    blocks: usize,
+    minima: Minima,
+    settings: &[u8],
+    allowed: &[u8],
+    list: &mut [u8],
+) -> Outcome
+    requires { ⌜ Asked n blocks minima (now settings) (now allowed) (now list) ⌝ }
+    ensures { λ r. ⌜ PromiseOrViolator n blocks minima (now (settings .entry)) (now (allowed .entry)) (now (list .entry)) (now (list .exit)) (r .from) (r .mark) (r .found) ⌝ }
+{
     let b0 = minima.b0 as usize;
     if blocks * b0 > n {
-        return false;
+        // Nothing helps.
+        return Outcome {
+            found: false,
+            from: [120; 120],
+            mark: [0; 1080],
+        };
     }
     let b = minima.b;
     let mut owner: [usize; 120] = [0; 120];
@@ -63,11 +86,11 @@ fn match_slots(
     kind: &[u8; 120],
     next: &mut [u8; 1080],
     list: &mut [u8],
-) -> bool
+) -> Outcome
     requires { ⌜ Asked n blocks minima (now settings) (now allowed) (now list) ⌝ }
     requires { ⌜ blocks * minima .b0 ≤ n ⌝ }
     requires { ⌜ Slots blocks (minima .b0) (minima .b) (now owner) (now kind) ⌝ }
-    ensures { λ r. ⌜ Promise n blocks minima (now (settings .entry)) (now (allowed .entry)) (now (list .entry)) (now (list .exit)) r ⌝ }
+    ensures { λ r. ⌜ PromiseOrViolator n blocks minima (now (settings .entry)) (now (allowed .entry)) (now (list .entry)) (now (list .exit)) (r .from) (r .mark) (r .found) ⌝ }
 {
     let slots = blocks * (minima.b0 as usize);
     let mut tide: [usize; 120] = [120; 120];
@@ -84,7 +107,7 @@ fn match_slots(
         next,
         list,
     );
-    if !saturate(
+    let r = saturate(
         allowed,
         settings,
         owner,
@@ -93,13 +116,19 @@ fn match_slots(
         n,
         &mut tide,
         &mut slot,
-    ) {
+    );
+    if !r.found {
         write_partial(n, owner, slots, &slot, list);
-        return false;
+        return r;
     }
     if !write_list(allowed, n, blocks, owner, slots, &slot, list) {
         write_partial(n, owner, slots, &slot, list);
-        return false;
+        // A tide may go nowhere: anything could help.
+        return Outcome {
+            found: false,
+            from: [120; 120],
+            mark: [1; 1080],
+        };
     }
-    true
+    r
 }

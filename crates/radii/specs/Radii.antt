@@ -1,25 +1,23 @@
 -- The radius, by steps: no candidate below the present one has an assignment; and how far a rejection reaches. "None" ranges over all
 -- radii of an interval, not over candidates, so that a jump needs no list of candidates. Assumes nothing.
-use Prim.Native.Nat.{ℕ, suc, _-_, _*_, _≤_, _<_}
+use Prim.Native.Nat.{ℕ, _-_, _≤_, _<_}
 use native.Mathlib.Omega.{arith}
 use native.Mathlib.Nat.{le-trans}
 use mathlib.Core.Path.{_≡_, refl, sym, ap, _∙_, subst}
 use mathlib.Core.Logic.{_⊎_, inl, inr, ⊎-elim}
 use mathlib.Core.List.{List, [], headD, Memᴰ·cast}
 use mathlib.Core.List.{List·Memᴰ·head as here, List·Memᴰ·tail as there}
-use lib.Dec.{T, eqb, leb→le, le→leb}
-use lib.ListN.{length, getD}
-use Rattle.lists.specs.Lists.{_∈_, at, range, count, tabulate}
+use Rattle.lists.specs.Lists.{_∈_, at, range, tabulate}
 use Rattle.lists.specs.Tests.{split}
 use Rattle.lists.specs.Members.{mem-flatMap, flatMap-mem, mem-range, range-mem}
 use Rattle.lists.specs.Tables.{mem-tabulate, tabulate-mem}
 use Rattle.study.specs.declared.Minima.{Minima}
 use Rattle.study.specs.Problem.{Problem, centres, centreOf, assignments, candidates, radius}
 use Rattle.study.specs.Theorems.{Assignment}
-use Rattle.study.specs.ProblemLaws.{centre-below, assignable-by, first-assignment, is-radius}
+use Rattle.study.specs.ProblemLaws.{assignable-by, first-assignment, is-radius}
 use Rattle.study.specs.Approximation.{assignable-exactly}
 use Rattle.radii.specs.Posed.{Posed, ball, Full}
-use Rattle.radii.specs.Gaps.{Empty, same-centres, gap-assignment, whole-bound, setting-bound, ball-full, near-full}
+use Rattle.radii.specs.Gaps.{Empty, same-centres, first-centre, ball-full}
 
 -- g is a candidate, and no candidate below it has an assignment
 pub record Lowest (P : Problem) (g : ℕ) : Type 0 where
@@ -33,10 +31,6 @@ Ahead P r = (r ≡ 1048576) ⊎ (r ∈ candidates P)
 -- no radius from g up to r has an assignment
 abbrev pub NoneTo : Problem → ℕ → ℕ → Type 0
 NoneTo P g r = (h : ℕ) → g ≤ h → h < r → Empty P h
-
--- the tides, or those of a setting, are not enough for k blocks
-abbrev pub TooMany : List ℕ → ℕ → Minima → ℕ → Type 0
-TooMany s n M k = (n < k * M .b0) ⊎ ((j : ℕ) × (j < 8) × (count n (λ t. eqb (getD s t 0) (suc j)) < k * getD (M .b) j 0))
 
 pub lowest-radius : (P : Problem) (g : ℕ) → Lowest P g → (xs : List ℕ) → Assignment P g xs → radius P ≡ g
 lowest-radius P g L xs A =
@@ -105,58 +99,19 @@ module _ {d s : List ℕ} {n : ℕ} {M : Minima} {P : Problem} (Q : Posed d s n 
   lowest-next pos g r L none (inr m) =
       record { held = m; below = λ h k l. ⊎-elim (λ q. L .below h k q) (λ q. none h q l) (split h g) }
 
-  -- ---- three ways to see that there is none, and how far each reaches
+  -- ---- ways to see that there is none, and how far each reaches
 
   -- any two centres at g are at least r apart
   abbrev pub Spread : ℕ → ℕ → Type 0
   Spread g r = (c t : ℕ) → c ∈ centres P g → t ∈ centres P g → c < t → r ≤ P .dist c t
 
-  stays : (g h r : ℕ) → g ≤ h → h < r → Spread g r → centres P h ≡ centres P g
+  -- until two centres come within the radius they stay
+  pub stays : (g h r : ℕ) → g ≤ h → h < r → Spread g r → centres P h ≡ centres P g
   stays g h r up low w = same-centres P g h up (λ c t m k l. le-trans low (w c t m k l))
 
-  -- too many centres: until two of them come within the radius
-  pub none-many : (g r : ℕ) → TooMany s n M (length (centres P g)) → Spread g r → NoneTo P g r
-  none-many g r T w h up low xs A = by (subst (TooMany s n M) (sym (ap length (stays g h r up low w))) T)
-    where
-      by : TooMany s n M (length (centres P h)) → ⊥
-      by (inl q) = omega (arith, whole-bound Q h xs A)
-      by (inr q) = omega (arith, setting-bound Q h xs A (q .0) (q .1), q .2)
-
-  -- a centre whose ball falls short: until two centres come within the radius, or a tide comes to the ball
-  pub none-short : (g r m : ℕ) → 1 ≤ m → m ≤ length (centres P g) → (Full d s n M (centreOf (centres P g) m) g → ⊥) → Spread g r
-      → ((t : ℕ) → t < n → g < at d (centreOf (centres P g) m) t → r ≤ at d (centreOf (centres P g) m) t) → NoneTo P g r
-  none-short g r m a k short w row h up low xs A =
-      short (Q .enough (ball d c g) .0
-      (Q .lawful .upward (ball d c h) (ball d c g)
-      (λ t l u. ⊎-elim
-      (λ q. absurd (omega (arith, leb→le (at d c t) h u, row t (omega (arith, Q .size)) q)))
-      (λ q. le→leb (at d c t) g q)
-      (split g (at d c t)))
-      (Q .enough (ball d c h) .1 full)))
-    where
-      c : ℕ
-      c = centreOf (centres P g) m
-
-      same : centres P h ≡ centres P g
-      same = stays g h r up low w
-
-      full : Full d s n M c h
-      full =
-          subst (λ (cs : List ℕ). Full d s n M (centreOf cs m) h) same
-          (ball-full Q h xs A h (omega arith) m a (subst (λ (cs : List ℕ). m ≤ length cs) (sym same) k))
-
-  -- no assignment at g: until a tide comes within the radius of a centre
-  pub none-gap : (g r : ℕ) → Empty P g → ((c t : ℕ) → c ∈ centres P g → t < n → g < at d c t → r ≤ at d c t) → NoneTo P g r
-  none-gap g r E w h up low xs A =
-      E xs
-      (gap-assignment P g h up
-      (λ c t m l q.
-      let z : t < n = omega (arith, Q .size) in
-      let e = Q .dist c t (omega (arith, Q .size, centre-below P g m)) z in
-      let k = w c t m z (omega arith) in
-      omega arith)
-      (Q .lawful) xs A)
-
-  -- the lower bound: a tide that no sufficient ball of radius g covers
-  pub none-covered : (g t : ℕ) → t < n → ((c : ℕ) → c < n → at d t c ≤ g → Full d s n M c g → ⊥) → (h : ℕ) → h ≤ g → Empty P h
-  none-covered g t l bare h up xs A = let r = near-full Q h xs A g up t l in bare (r .0) (r .1) (r .2) (r .3)
+  -- the first tide is always a centre: none where its ball falls short
+  pub none-first : 0 < n → (g : ℕ) → (Full d s n M 0 g → ⊥) → (h : ℕ) → h ≤ g → Empty P h
+  unfolding centreOf
+  none-first pos g short h up xs A =
+      let l : 0 < P .size = omega (arith, Q .size) in
+      short (subst (λ c. Full d s n M c g) (first-centre P h l) (ball-full Q h xs A g up 1 (omega arith) (omega (arith, A .low 0 l, A .high 0 l))))

@@ -14,9 +14,8 @@ use Rattle.study.specs.declared.Minima.{Minima}
 use Rattle.study.specs.Problem.{Problem, centres, centreOf, block, labels}
 use Rattle.study.specs.Theorems.{Assignment}
 use Rattle.study.specs.ProblemLaws.{centre-below}
-use Rattle.matching.specs.Promise.{allows, Assigned}
+use Rattle.matching.specs.Promise.{allows, Assigning, Assigned}
 use Rattle.radii.specs.Posed.{posed, Proper}
-use Rattle.radii.specs.Gaps.{Empty}
 use Rattle.radius.specs.Front.{Front, front-at}
 use Rattle.radius.specs.Table.{entry}
 
@@ -28,8 +27,7 @@ pub numbered-at : (n : ℕ) (D : ℕ → ℕ) (t : ℕ) → t < n → labels (nu
 unfolding numbered labels
 numbered-at n D t l = getD-tabulate n (λ t. suc (D t)) t 0 l
 
-module _ {d s : List ℕ} {n : ℕ} {M : Minima} (Q : Proper d s n M) (g count : ℕ) (cs allowed : List ℕ)
-    (F : Front cs count (centres (posed d s n M) g)) (A : (t m : ℕ) → t < n → m < count → at allowed t m ≡ entry d cs g t m) where
+module _ {d s : List ℕ} {n : ℕ} {M : Minima} (Q : Proper d s n M) (g count : ℕ) (cs : List ℕ) (F : Front cs count (centres (posed d s n M) g)) where
   abbrev P : Problem
   P = posed d s n M
 
@@ -41,26 +39,14 @@ module _ {d s : List ℕ} {n : ℕ} {M : Minima} (Q : Proper d s n M) (g count :
   centre-dist : (m t : ℕ) → m < count → t < n → P .dist (getD (centres P g) m 0) t ≡ at d (getD cs m 0) t
   centre-dist m t l k = ap (λ z. P .dist z t) (sym (front-at F m l)) ∙ Q .dist (getD cs m 0) t (centre-lt m l) k
 
-  near-allows : (t m : ℕ) → t < n → m < count → at d (getD cs m 0) t ≤ g → T (allows allowed t m)
-  unfolding allows
-  near-allows t m l k h =
-      subst (λ z. T (not (eqb z 0))) (sym (A t m l k ∙ ap bit (T-true (leb (at d (getD cs m 0) t) g) (le→leb (at d (getD cs m 0) t) g h)))) tt
-
-  allows-near : (t m : ℕ) → t < n → m < count → T (allows allowed t m) → at d (getD cs m 0) t ≤ g
-  unfolding allows
-  allows-near t m l k h = leb→le (at d (getD cs m 0) t) g (set (leb (at d (getD cs m 0) t) g) (subst (λ z. T (not (eqb z 0))) (A t m l k) h))
-    where
-      set : (b : Bool) → T (not (eqb (bit b) 0)) → T b
-      set true u = tt
-      set false u = u
-
-  -- an assignment at g is one that the table allows
-  pub allowed-by : (xs : List ℕ) → Assignment P g xs → Assigned n count M s allowed (λ t. labels xs t - 1)
+  -- an assignment at g is one by every relation that holds of the tides near a centre
+  pub assigning-by : (May : ℕ → ℕ → Type 0) → ((t m : ℕ) → t < n → m < count → at d (getD cs m 0) t ≤ g → May t m)
+      → (xs : List ℕ) → Assignment P g xs → Assigning n count M s May (λ t. labels xs t - 1)
   unfolding posed centreOf block
-  allowed-by xs B =
+  assigning-by May near xs B =
       record {
         below = below;
-        may = λ t l. near-allows t (labels xs t - 1) l (below t l) (rw (centre-dist (labels xs t - 1) t (below t l) l) at (B .near t l));
+        may = λ t l. near t (labels xs t - 1) l (below t l) (rw (centre-dist (labels xs t - 1) t (below t l) l) at (B .near t l));
         enough = λ m l.
             Q .lawful .upward (block (labels xs) (suc m)) (block (λ t. labels xs t - 1) m)
             (λ t k u. eq→eqb (labels xs t - 1) m (let e = eqb→eq (labels xs t) (suc m) u in omega arith))
@@ -70,23 +56,37 @@ module _ {d s : List ℕ} {n : ℕ} {M : Minima} (Q : Proper d s n M) (g count :
       below : (t : ℕ) → t < n → labels xs t - 1 < count
       below t l = omega (arith, B .low t l, B .high t l, F .long)
 
-  -- and back
-  pub assigns : (D : ℕ → ℕ) → Assigned n count M s allowed D → Assignment P g (numbered n D)
-  unfolding posed numbered centreOf block
-  assigns D B =
-      record {
-        long = length-tabulate n (λ t. suc (D t));
-        low = λ t l. omega (arith, numbered-at n D t l);
-        high = λ t l. omega (arith, numbered-at n D t l, B .below t l, F .long);
-        near = λ t l.
-            let e : labels (numbered n D) t - 1 ≡ D t = omega (arith, numbered-at n D t l) in
-            rw (e, centre-dist (D t) t (B .below t l) l) (allows-near t (D t) l (B .below t l) (B .may t l));
-        enough = λ m a k.
-            Q .lawful .upward (block D (m - 1)) (block (labels (numbered n D)) m)
-            (λ t l u. eq→eqb (labels (numbered n D) t) m (let e = eqb→eq (D t) (m - 1) u in omega (arith, numbered-at n D t l)))
-            (B .enough (m - 1) (omega (arith, F .long)));
-      }
+  module _ (allowed : List ℕ) (A : (t m : ℕ) → t < n → m < count → at allowed t m ≡ entry d cs g t m) where
+    pub near-allows : (t m : ℕ) → t < n → m < count → at d (getD cs m 0) t ≤ g → T (allows allowed t m)
+    unfolding allows
+    near-allows t m l k h =
+        subst (λ z. T (not (eqb z 0))) (sym (A t m l k ∙ ap bit (T-true (leb (at d (getD cs m 0) t) g) (le→leb (at d (getD cs m 0) t) g h)))) tt
 
-  -- where the search finds none, there is none
-  pub none-assigned : ((D : ℕ → ℕ) → Assigned n count M s allowed D → ⊥) → Empty P g
-  none-assigned none xs B = none (λ t. labels xs t - 1) (allowed-by xs B)
+    allows-near : (t m : ℕ) → t < n → m < count → T (allows allowed t m) → at d (getD cs m 0) t ≤ g
+    unfolding allows
+    allows-near t m l k h = leb→le (at d (getD cs m 0) t) g (set (leb (at d (getD cs m 0) t) g) (subst (λ z. T (not (eqb z 0))) (A t m l k) h))
+      where
+        set : (b : Bool) → T (not (eqb (bit b) 0)) → T b
+        set true u = tt
+        set false u = u
+
+    -- so it is one that the table of g allows
+    pub allowed-by : (xs : List ℕ) → Assignment P g xs → Assigned n count M s allowed (λ t. labels xs t - 1)
+    allowed-by = assigning-by (λ t m. T (allows allowed t m)) near-allows
+
+    -- and back
+    pub assigns : (D : ℕ → ℕ) → Assigned n count M s allowed D → Assignment P g (numbered n D)
+    unfolding posed numbered centreOf block
+    assigns D B =
+        record {
+          long = length-tabulate n (λ t. suc (D t));
+          low = λ t l. omega (arith, numbered-at n D t l);
+          high = λ t l. omega (arith, numbered-at n D t l, B .below t l, F .long);
+          near = λ t l.
+              let e : labels (numbered n D) t - 1 ≡ D t = omega (arith, numbered-at n D t l) in
+              rw (e, centre-dist (D t) t (B .below t l) l) (allows-near t (D t) l (B .below t l) (B .may t l));
+          enough = λ m a k.
+              Q .lawful .upward (block D (m - 1)) (block (labels (numbered n D)) m)
+              (λ t l u. eq→eqb (labels (numbered n D) t) m (let e = eqb→eq (D t) (m - 1) u in omega (arith, numbered-at n D t l)))
+              (B .enough (m - 1) (omega (arith, F .long)));
+        }

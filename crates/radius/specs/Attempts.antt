@@ -1,25 +1,25 @@
 -- One turn of the search for the radius. Assumes nothing.
-use Prim.Native.Nat.{ℕ, _+_, _-_, _≤_, _<_}
+use Prim.Native.Nat.{ℕ, _-_, _≤_, _<_}
 use native.Mathlib.Omega.{arith}
 use native.Mathlib.Nat.{le-trans}
 use mathlib.Core.Path.{_≡_, refl, sym, ap, _∙_, subst}
 use mathlib.Core.Logic.{_⊎_, inl, inr, ⊎-elim}
 use mathlib.Core.List.{List, Memᴰ·cast}
-use lib.Dec.{T}
+use lib.Dec.{not-T}
 use lib.ListN.{length, drop, getD}
 use Rattle.lists.specs.Lists.{_∈_, at, count}
 use Rattle.lists.specs.Tests.{split}
 use Rattle.lists.specs.Members.{place}
 use Rattle.study.specs.declared.Minima.{Minima}
-use Rattle.study.specs.Problem.{Problem, centres, centreOf, centresAmong, labels}
-use Rattle.matching.specs.Promise.{Assigned}
-use Rattle.radii.specs.Posed.{within, posed, Proper, Full}
+use Rattle.study.specs.Problem.{Problem, centres, centresAmong, labels}
+use Rattle.matching.specs.Promise.{Assigning, Assigned, helps, Idle}
+use Rattle.radii.specs.Posed.{within, posed, Proper}
 use Rattle.radii.specs.Gaps.{apart-mem}
-use Rattle.radii.specs.Radii.{Lowest, Ahead, NoneTo, TooMany, Spread, lowest-start, lowest-next, dist-candidate, zero-candidate, candidate-is, candidate-small, none-many, none-short, none-gap}
+use Rattle.radii.specs.Radii.{Lowest, Ahead, NoneTo, Spread, lowest-start, lowest-next, dist-candidate, zero-candidate, candidate-is, candidate-small, stays}
 use Rattle.radius.specs.Front.{Front, front-at, centres-below, CentresAt}
-use Rattle.radius.specs.Next.{Next, InRow, InRows, InPairs, FirstFrom}
+use Rattle.radius.specs.Next.{Next, InBlocks, InPairs, FirstFrom}
 use Rattle.radius.specs.Table.{Table}
-use Rattle.radius.specs.Assigning.{none-assigned}
+use Rattle.radius.specs.Assigning.{assigning-by, near-allows}
 use Rattle.radius.specs.Bounds.{Bounded}
 
 -- places from n on stay
@@ -118,31 +118,27 @@ module _ {d s : List ℕ} {n : ℕ} {M : Minima} (Q : Proper d s n M) (g count :
           ahead = λ h. ahead;
         }
 
-    pub attempt-many : (r : ℕ) → TooMany s n M count → Next (InPairs d cs count count) g 1048576 r → Attempt d s n M cs count g r old allowed list
-    attempt-many r T N =
-        jump r (farther (InPairs d cs count count) 1048576 r small N) (none-many Q g r (subst (TooMany s n M) (sym (listed .long)) T) (spread r N)) (pairs-ahead r N)
+    -- no assignment in the table of g, even where tides may also go wherever that would not help: until two centres come within the
+    -- radius, or a tide comes within it where it could help
+    pub attempt-none : (from mark : List ℕ) (pair r : ℕ) → Table d cs g count n old allowed → ((D : ℕ → ℕ) → Assigning n count M s (Idle s allowed from mark) D → ⊥)
+        → Next (InPairs d cs count count) g 1048576 pair → Next (InBlocks d s from mark cs n count) g pair r → Attempt d s n M cs count g r old allowed list
+    attempt-none from mark pair r A none N R =
+        jump r (farther (InBlocks d s from mark cs n count) pair r (farther (InPairs d cs count count) 1048576 pair small N) R) empty
+        (⊎-elim (λ e. subst (Ahead P) (sym e) (pairs-ahead pair N))
+        (λ q. let v = q .0 in inr (Memᴰ·cast (v .2 .3) (dist-candidate Q (getD cs (v .0) 0) (v .2 .0) (below (v .0) (v .1)) (v .2 .1)))) (R .is))
+      where
+        empty : NoneTo P g r
+        empty h up low xs B = none (λ t. labels xs t - 1) (assigning-by Q h count cs (subst (Front cs count) (sym stay) listed) (Idle s allowed from mark) idle xs B)
+          where
+            stay : centres P h ≡ centres P g
+            stay = stays Q g h r up low (λ c t m k l. le-trans (R .most) (spread pair N c t m k l))
 
-    pub attempt-short : (m pair r : ℕ) → m < count → (Full d s n M (getD cs m 0) g → ⊥) → Next (InPairs d cs count count) g 1048576 pair → Next (InRow d (getD cs m 0) n) g pair r
-        → Attempt d s n M cs count g r old allowed list
-    unfolding centreOf
-    attempt-short m pair r l short N R =
-        let e : getD cs m 0 ≡ getD (centres P g) (m + 1 - 1) 0 = front-at listed m l ∙ ap (λ z. getD (centres P g) z 0) (omega arith) in
-        jump r (farther (InRow d (getD cs m 0) n) pair r (farther (InPairs d cs count count) 1048576 pair small N) R)
-        (none-short Q g r (m + 1) (omega arith) (omega (arith, listed .long)) (subst (λ z. Full d s n M z g → ⊥) e short)
-        (λ c t p q w. le-trans (R .most) (spread pair N c t p q w))
-        (λ t h k. subst (λ z. r ≤ at d z t) e (R .least (at d (getD cs m 0) t) (t, h, refl) (subst (λ z. g < at d z t) (sym e) k))))
-        (⊎-elim (λ f. subst (Ahead P) (sym f) (pairs-ahead pair N))
-        (λ q. inr (Memᴰ·cast (q .0 .2) (dist-candidate Q (getD cs m 0) (q .0 .0) (below m l) (q .0 .1)))) (R .is))
-
-    pub attempt-none : (r : ℕ) → Table d cs g count n old allowed → ((D : ℕ → ℕ) → Assigned n count M s allowed D → ⊥) → Next (InRows d n (λ i. getD cs i 0) count) g 1048576 r
-        → Attempt d s n M cs count g r old allowed list
-    attempt-none r A none N =
-        jump r (farther (InRows d n (λ i. getD cs i 0) count) 1048576 r small N)
-        (none-gap Q g r (none-assigned Q g count cs allowed listed (A .here) none)
-        (λ c t m l k. let p = placed c m in
-        N .least (at d c t) (p .index, p .inside, (t, l, ap (λ z. at d z t) (sym (p .is)))) k))
-        (⊎-elim (λ e. inl e)
-        (λ q. let v = q .0 in inr (Memᴰ·cast (v .2 .2) (dist-candidate Q (getD cs (v .0) 0) (v .2 .0) (below (v .0) (v .1)) (v .2 .1)))) (N .is))
+            idle : (t m : ℕ) → t < n → m < count → at d (getD cs m 0) t ≤ h → Idle s allowed from mark t m
+            idle t m tl ml l =
+                ⊎-elim
+                (λ far. inr (not-T (helps s from mark t m) (λ u. let k = R .least (at d (getD cs m 0) t) (m, ml, (t, tl, u, refl)) far in omega arith)))
+                (λ near. inl (near-allows Q g count cs listed allowed (A .here) t m tl ml near))
+                (split g (at d (getD cs m 0) t))
 
     pub attempt-found : Table d cs g count n old allowed → Assigned n count M s allowed (labels list) → Attempt d s n M cs count g g old allowed list
     attempt-found A B =

@@ -1,31 +1,24 @@
 // The least radius with an assignment, through the promise of the matching search alone. Radii are tried upwards; each is tried, or
-// lies between two others where nothing changes.
+// lies between two others where nothing that could help changes.
 pub mod bound;
 pub mod centres;
 pub mod counts;
-mod limits;
 mod next;
 mod table;
 
-use crate::bound::ball_meets;
 use crate::bound::lower_bound;
 use crate::centres::find_centres;
-use crate::limits::count_settings;
-use crate::limits::first_short;
-use crate::limits::too_many;
 use crate::next::first_from;
+use crate::next::next_in_blocks;
 use crate::next::next_in_pairs;
-use crate::next::next_in_row;
-use crate::next::next_in_rows;
 use crate::table::allow;
-use matching::search;
+use matching::search_or_violator;
 use study::Minima;
 ghost use mathlib.Core.Path.{_≡_};
 ghost use Prim.Native.Nat.{_*_, _<_, _≤_};
 ghost use lib.ListN.{length};
 ghost use Rattle.radii.specs.Posed.{Proper, Sized};
 ghost use Rattle.radius.specs.Front.{CentresAt};
-ghost use Rattle.radius.specs.Limits.{Totals};
 ghost use Rattle.radius.specs.Attempts.{Attempt, Least, Kept};
 
 // Whether there is an assignment at g: then g, and list is one. Else the next radius to look at.
@@ -34,7 +27,6 @@ fn attempt(
     settings: &[u8],
     n: usize,
     minima: Minima,
-    totals: &[usize; 8],
     centres: &[usize; 120],
     count: usize,
     g: u32,
@@ -43,25 +35,31 @@ fn attempt(
 ) -> u32
     requires { ⌜ Sized (now distances) (now settings) n minima ⌝ }
     requires { ⌜ Proper (now distances) (now settings) n minima ⌝ }
-    requires { ⌜ Totals (now settings) n 8 (now totals) ⌝ }
     requires { ⌜ CentresAt (now distances) n g count (now centres) ⌝ }
     requires { ⌜ (g < 1048576) × (n * 120 ≤ length (now allowed)) × (n ≤ length (now list)) ⌝ }
     ensures { λ r. ⌜ Attempt (now (distances .entry)) (now (settings .entry)) n minima (now (centres .entry)) count g r (now (allowed .entry)) (now (allowed .exit)) (now (list .exit)) ⌝ }
     ensures { λ _. ⌜ Kept n (now (list .entry)) (now (list .exit)) ⌝ }
 {
-    if too_many(settings, n, minima, totals, count) {
-        return next_in_pairs(distances, n, centres, count, g);
-    }
-    let m = first_short(distances, settings, n, minima, centres, count, g);
-    if m < count {
-        let pair = next_in_pairs(distances, n, centres, count, g);
-        return next_in_row(distances, n, centres[m], g, pair);
-    }
     allow(distances, n, centres, count, g, allowed);
-    if search(n, count, minima, settings, allowed, list) {
+    let r = search_or_violator(n, count, minima, settings, allowed, list);
+    if r.found {
         return g;
     }
-    next_in_rows(distances, n, centres, count, g)
+    let from = r.from;
+    let mark = r.mark;
+    let pair = next_in_pairs(distances, n, centres, count, g);
+    next_in_blocks(
+        distances,
+        settings,
+        n,
+        minima,
+        centres,
+        count,
+        &from,
+        &mark,
+        g,
+        pair,
+    )
 }
 
 pub struct Found {
@@ -85,8 +83,6 @@ pub fn least_radius(
     ensures { λ r. ⌜ Least (now (distances .entry)) (now (settings .entry)) n minima (r .radius) (r .count) (now (centres .exit)) (now (allowed .entry)) (now (allowed .exit)) (now (list .exit)) ⌝ }
     ensures { λ _. ⌜ Kept n (now (list .entry)) (now (list .exit)) ⌝ }
 {
-    let mut totals: [usize; 8] = [0; 8];
-    count_settings(settings, n, &mut totals);
     let low = lower_bound(distances, settings, n, minima);
     let mut g = first_from(distances, n, low);
     loop {
@@ -96,7 +92,6 @@ pub fn least_radius(
             settings,
             n,
             minima,
-            &totals,
             centres,
             count,
             g,

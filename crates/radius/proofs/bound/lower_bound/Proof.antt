@@ -21,8 +21,8 @@ sub-mid c = omega arith
 add-mid : tie.Need-add-mid Inv-loop μ-loop
 add-mid c = omega arith
 
-covered-requires : tie.Need-covered-requires Inv-loop μ-loop
-covered-requires c κs = c .before .before .before .before .pre
+ball-meets-requires : tie.Need-ball-meets-requires Inv-loop μ-loop
+ball-meets-requires c κs = c .before .before .before .before .pre
 
 loop-less : tie.Need-loop-less Inv-loop μ-loop
 loop-less c = omega arith
@@ -37,7 +37,7 @@ loop-less-2 : tie.Need-loop-less-2 Inv-loop μ-loop
 loop-less-2 c = omega arith
 
 loop-again-2 : tie.Need-loop-again-2 Inv-loop μ-loop
-loop-again-2 c = (omega arith, omega arith, bounded-more _ _ _ _ _ (sym (c .before .covered .ensures) ∙ c .if1 .left))
+loop-again-2 c = (omega arith, omega arith, bounded-more _ _ _ _ _ (c .before .before .before .before .before .before .pre .1) (sym (c .before .ball-meets .ensures) ∙ c .if1 .left))
 
 returns : tie.Need-returns Inv-loop μ-loop
 returns c = c .before .loop .inv .2
@@ -51,7 +51,7 @@ lower-bound-spec =
     loop-holds
     sub-mid
     add-mid
-    covered-requires
+    ball-meets-requires
     loop-less
     loop-again
     add-low
