@@ -9,12 +9,13 @@ use lib.Dec.{T}
 use lib.ListN.{replicate, getD-replicate}
 use Rattle.study.specs.declared.Minima.{Minima}
 use Rattle.matching.specs.Promise.{helps, Idle, Asked, Promise, PromiseOrViolator}
+use Rattle.matching.specs.Enough.{enough-tides}
 use Rattle.matching.specs.Matching.{at}
 use Rattle.matching.specs.Graph.{Edge, Violator, Saturated}
 use Rattle.matching.specs.Slots.{Slots}
 use Rattle.matching.specs.Steps.{Nowhere, Rest, Written}
 use Rattle.matching.proofs.Violators.{not-both, helps-by}
-use Rattle.matching.proofs.Correspondence.{enough-tides, no-assignment, written-assigned}
+use Rattle.matching.proofs.Correspondence.{no-assignment, written-assigned}
 
 module _ (n blocks : ℕ) (M : Minima) (settings allowed list : List ℕ) where
   -- more slots than tides

@@ -1,7 +1,7 @@
 -- An assignment gives each slot a tide of its own, and a matching that does, written out as a list, is an assignment. Assumes nothing.
 use mathlib.Core.Path.{_≡_, refl, sym, ap, _∙_, subst, subst₂}
 use mathlib.Core.List.{List}
-use mathlib.Core.Bool.{Bool, true, false, cond, _&&_}
+use mathlib.Core.Bool.{Bool, false, cond, _&&_}
 use mathlib.Core.Logic.{_⊎_, inl, inr, ⊎-elim}
 use Prim.Native.Nat.{ℕ, zero, suc, _+_, _*_, _-_, _≤_, _<_}
 use native.Mathlib.Omega.{arith}
@@ -10,12 +10,12 @@ use lib.ListN.{getD}
 use borrow.Author.Tests.{eq-eqb, ne-eqb, lt-leb}
 use Rattle.lists.specs.Lists.{count}
 use Rattle.lists.specs.Tests.{and-T, T-left, T-right, eq→eqb}
-use Rattle.lists.specs.Counts.{sum-same, sum-le, count-all, count-into}
+use Rattle.lists.specs.Counts.{sum-same, count-into}
 use Rattle.study.specs.declared.Minima.{Minima}
 use Rattle.study.specs.Problem.{block, labels}
 use Rattle.study.specs.StudyLaws.{Meets, meets-T}
 use Rattle.matching.specs.Promise.{Assigning, Assigned, Asked}
-use Rattle.matching.specs.Counting.{sum-none, sum-one, sum-const, count-before, count-apart, count-none, nth, Nth, nth-is, firsts, count-classes}
+use Rattle.matching.specs.Counting.{sum-none, sum-one, count-before, count-apart, count-none, nth, Nth, nth-is, firsts}
 use Rattle.matching.specs.Surplus.{ofSetting, surplus, own-needed, own-setting, own-in, surplus-in, surplus-not, count-own, count-surplus}
 use Rattle.matching.specs.Matching.{at, Unsaturable}
 use Rattle.matching.specs.Graph.{Edge, EdgeBy, Saturated}
@@ -194,18 +194,6 @@ module _ (n blocks : ℕ) (M : Minima) (settings allowed list owner kind : List 
   -- where no matching gives every slot a tide, there is no assignment
   pub no-assignment : Unsaturable (EdgeBy May settings owner kind) slots n → ⊥
   no-assignment un = un give (record { below = λ s l. gives s l .below; edge = give-edge; apart = give-apart })
-
--- an assignment has as many tides as there are slots
-pub enough-tides : (n blocks : ℕ) (M : Minima) (settings : List ℕ) (May : ℕ → ℕ → Type 0) (D : ℕ → ℕ) → Assigning n blocks M settings May D → blocks * M .b0 ≤ n
-unfolding block
-enough-tides n blocks M settings May D asg =
-    omega (
-      arith,
-      sum-const blocks (M .b0),
-      sum-le blocks (λ m. M .b0) (λ m. count n (λ t. eqb (D t) m)) (λ m l. meets-T M n (λ t. getD settings t 0) (block D m) .0 (asg .enough m l) .whole),
-      count-classes blocks n (λ t. true) D (asg .below),
-      count-all n,
-    )
 
 -- ---- from a matching that gives every slot a tide, written out, to an assignment
 

@@ -5,9 +5,9 @@ use mathlib.Core.Bool.{Bool, true, false, not, _||_}
 use mathlib.Core.List.{List}
 use Prim.Native.Nat.{ℕ, _+_, _*_, _≤_, _<_}
 use native.Mathlib.Omega.{arith}
-use lib.Dec.{T, eqb, leb, le→leb, eqb→eq, not-T}
+use lib.Dec.{T, eqb, leb, le→leb, eqb→eq, not-T, T-not}
 use borrow.Author.Tests.{lt-leb, le-leb, ne-eqb, eq-eqb}
-use Rattle.lists.specs.Tests.{and-T}
+use Rattle.lists.specs.Tests.{and-T, T-right, eq→eqb}
 use Rattle.matching.specs.Promise.{helps, marked}
 use Rattle.matching.specs.Matching.{at}
 use Rattle.matching.specs.Graph.{Covered}
@@ -49,3 +49,17 @@ module _ (settings from mark : List ℕ) (t m : ℕ) where
     pub setting-is : at mark (m * 9) ≡ 0 → not (eqb (at mark (m * 9 + at settings t)) 0) ≡ helps settings from mark t m
     unfolding helps
     setting-is z = rw (le-leb 120 (at from t) l, any-at, eq-eqb (at mark (m * 9)) 0 z)
+
+-- where block m has no mark, nothing helps there
+pub not-involved : (mark : List ℕ) (m : ℕ) → ((k : ℕ) → k < 9 → at mark (m * 9 + k) ≡ 0) → (settings from : List ℕ) (t : ℕ) → at settings t ≤ 8 → T (helps settings from mark t m) → ⊥
+unfolding helps
+not-involved mark m none settings from t l h =
+    ⊎-elim (λ u. no-mark 0 (omega arith) u) (λ u. no-mark (at settings t) (omega arith) u)
+    (T-or (marked mark m 0) (marked mark m (at settings t)) (T-right (leb 120 (at from t)) (marked mark m 0 || marked mark m (at settings t)) h))
+  where
+    no-mark : (k : ℕ) → k < 9 → T (marked mark m k) → ⊥
+    no-mark k l u = T-not (eqb (at mark (m * 9 + k)) 0) u (eq→eqb (at mark (m * 9 + k)) 0 (none k l))
+
+    T-or : (a b : Bool) → T (a || b) → T a ⊎ T b
+    T-or true b u = inl tt
+    T-or false b u = inr u

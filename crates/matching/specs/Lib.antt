@@ -1,7 +1,8 @@
--- What a caller reads: Promise, PartialSolution. The rest serves the contracts of private functions and the proofs.
+-- What a caller reads: Promise, PartialSolution, Enough. The rest serves the contracts of private functions and the proofs.
 pub mod Promise
 pub mod PartialSolution
 pub mod Counting
+pub mod Enough
 pub mod Surplus
 pub mod PartialSolutionProof
 pub mod Matching

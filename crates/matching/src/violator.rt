@@ -1,6 +1,9 @@
 // What a Hall violator says of a pair that is not allowed.
 ghost use mathlib.Core.Path.{_≡_};
-ghost use Prim.Native.Nat.{_<_, _≤_};
+ghost use mathlib.Core.Bool.{false};
+ghost use mathlib.Core.List.{List};
+ghost use Prim.Native.Nat.{ℕ, _<_, _≤_};
+ghost use lib.Dec.{T};
 ghost use lib.ListN.{length, getD};
 ghost use Rattle.matching.specs.Promise.{helps};
 
@@ -17,4 +20,19 @@ pub fn helps(settings: &[u8], from: &[usize; 120], mark: &[u8; 1080], t: usize, 
     }
     let k = settings[t] as usize;
     mark[m * 9 + k] != 0
+}
+
+// Whether block m has slots in the violator. If not, it helps no tide to go there.
+pub fn involved(mark: &[u8; 1080], m: usize) -> bool
+    requires { ⌜ m < 120 ⌝ }
+    ensures { λ r. ⌜ (r ≡ false → (settings from : List ℕ) (t : ℕ) → getD settings t 0 ≤ 8 → T (helps settings from (now (mark .entry)) t m) → ⊥) ⌝ }
+{
+    let mut k: usize = 0;
+    while k < 9 {
+        if mark[m * 9 + k] != 0 {
+            return true;
+        }
+        k += 1;
+    }
+    false
 }

@@ -18,6 +18,9 @@ pub record Next (Of : ℕ → Type 0) (g start r : ℕ) : Type 0 where
 pub next-none : (Of : ℕ → Type 0) (g start : ℕ) → ((x : ℕ) → Of x → ⊥) → Next Of g start start
 next-none Of g start f = record { most = omega arith; least = λ x v. absurd (f x v); is = inl refl }
 
+pub next-up : {Of : ℕ → Type 0} {g start r : ℕ} → g < start → Next Of g start r → g < r
+next-up l N = ⊎-elim (λ e. omega arith) (λ q. q .1) (N .is)
+
 -- from those of Of to those of Any: each of Any is one of Of or of Also, and back
 pub next-more : (Of Also Any : ℕ → Type 0) (g start best r : ℕ) → ((x : ℕ) → Any x → Of x ⊎ Also x) → ((x : ℕ) → Of x → Any x) → ((x : ℕ) → Also x → Any x)
     → Next Of g start best → Next Also g best r → Next Any g start r

@@ -17,11 +17,11 @@ use study::Minima;
 ghost use mathlib.Core.Path.{_≡_};
 ghost use Prim.Native.Nat.{_*_, _<_, _≤_};
 ghost use lib.ListN.{length};
-ghost use Rattle.radii.specs.Posed.{Proper, Sized};
-ghost use Rattle.radius.specs.Front.{CentresAt};
-ghost use Rattle.radius.specs.Attempts.{Attempt, Least, Kept};
+ghost use Rattle.radii.specs.Posed.{posed, Proper, Sized};
+ghost use Rattle.radii.specs.Radii.{Lowest, Ahead};
+ghost use Rattle.radius.specs.Attempts.{Steady, Attempt, Ascent, Least, Kept};
 
-// Whether there is an assignment at g: then g, and list is one. Else the next radius to look at.
+// Whether there is an assignment at g: then g, and list is one. Else the next radius to look at, up to limit.
 fn attempt(
     distances: &[u32],
     settings: &[u8],
@@ -30,14 +30,15 @@ fn attempt(
     centres: &[usize; 120],
     count: usize,
     g: u32,
+    limit: u32,
     allowed: &mut [u8],
     list: &mut [u8],
 ) -> u32
     requires { ⌜ Sized (now distances) (now settings) n minima ⌝ }
     requires { ⌜ Proper (now distances) (now settings) n minima ⌝ }
-    requires { ⌜ CentresAt (now distances) n g count (now centres) ⌝ }
-    requires { ⌜ (g < 1048576) × (n * 120 ≤ length (now allowed)) × (n ≤ length (now list)) ⌝ }
-    ensures { λ r. ⌜ Attempt (now (distances .entry)) (now (settings .entry)) n minima (now (centres .entry)) count g r (now (allowed .entry)) (now (allowed .exit)) (now (list .exit)) ⌝ }
+    requires { ⌜ Steady (now distances) n g limit count (now centres) ⌝ }
+    requires { ⌜ (g < limit) × (n * 120 ≤ length (now allowed)) × (n ≤ length (now list)) ⌝ }
+    ensures { λ r. ⌜ Attempt (now (distances .entry)) (now (settings .entry)) n minima (now (centres .entry)) count g limit r (now (allowed .entry)) (now (allowed .exit)) (now (list .exit)) ⌝ }
     ensures { λ _. ⌜ Kept n (now (list .entry)) (now (list .exit)) ⌝ }
 {
     allow(distances, n, centres, count, g, allowed);
@@ -47,7 +48,6 @@ fn attempt(
     }
     let from = r.from;
     let mark = r.mark;
-    let pair = next_in_pairs(distances, n, centres, count, g);
     next_in_blocks(
         distances,
         settings,
@@ -58,8 +58,51 @@ fn attempt(
         &from,
         &mark,
         g,
-        pair,
+        limit,
     )
+}
+
+// The least radius with an assignment from start on, or limit: the centres stay below it.
+fn ascend(
+    distances: &[u32],
+    settings: &[u8],
+    n: usize,
+    minima: Minima,
+    centres: &[usize; 120],
+    count: usize,
+    start: u32,
+    limit: u32,
+    allowed: &mut [u8],
+    list: &mut [u8],
+) -> u32
+    requires { ⌜ Sized (now distances) (now settings) n minima ⌝ }
+    requires { ⌜ Proper (now distances) (now settings) n minima ⌝ }
+    requires { ⌜ Steady (now distances) n start limit count (now centres) ⌝ }
+    requires { ⌜ Lowest (posed (now distances) (now settings) n minima) start × Ahead (posed (now distances) (now settings) n minima) limit ⌝ }
+    requires { ⌜ (0 < n) × (start < limit) × (n * 120 ≤ length (now allowed)) × (n ≤ length (now list)) ⌝ }
+    ensures { λ r. ⌜ Ascent (now (distances .entry)) (now (settings .entry)) n minima (now (centres .entry)) count start limit r (now (allowed .entry)) (now (allowed .exit)) (now (list .exit)) ⌝ }
+    ensures { λ _. ⌜ Kept n (now (list .entry)) (now (list .exit)) ⌝ }
+{
+    let mut g = start;
+    while g < limit {
+        let next = attempt(
+            distances,
+            settings,
+            n,
+            minima,
+            centres,
+            count,
+            g,
+            limit,
+            allowed,
+            list,
+        );
+        if next <= g {
+            return g;
+        }
+        g = next;
+    }
+    limit
 }
 
 pub struct Found {
@@ -83,27 +126,29 @@ pub fn least_radius(
     ensures { λ r. ⌜ Least (now (distances .entry)) (now (settings .entry)) n minima (r .radius) (r .count) (now (centres .exit)) (now (allowed .entry)) (now (allowed .exit)) (now (list .exit)) ⌝ }
     ensures { λ _. ⌜ Kept n (now (list .entry)) (now (list .exit)) ⌝ }
 {
+    let b0 = minima.b0 as usize;
     let low = lower_bound(distances, settings, n, minima);
     let mut g = first_from(distances, n, low);
     loop {
         let count = find_centres(distances, n, g, centres);
-        let next = attempt(
-            distances,
-            settings,
-            n,
-            minima,
-            centres,
-            count,
-            g,
-            allowed,
-            list,
-        );
-        if next <= g {
-            return Found {
-                radius: g,
-                count: count,
-            };
+        let limit = next_in_pairs(distances, n, centres, count, g);
+        if count * b0 <= n {
+            let radius = ascend(
+                distances,
+                settings,
+                n,
+                minima,
+                centres,
+                count,
+                g,
+                limit,
+                allowed,
+                list,
+            );
+            if radius < limit {
+                return Found { radius, count };
+            }
         }
-        g = next;
+        g = limit;
     }
 }

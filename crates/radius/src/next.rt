@@ -1,5 +1,6 @@
 // The next radius to look at: the least above g of some of the distances.
 use matching::violator::helps;
+use matching::violator::involved;
 use study::Minima;
 ghost use mathlib.Core.Path.{_≡_};
 ghost use Prim.Native.Nat.{ℕ, _+_, _*_, _<_, _≤_};
@@ -79,6 +80,9 @@ fn next_in_block(
     requires { ⌜ (c < n) × (m < 120) ⌝ }
     ensures { λ r. ⌜ Next (InBlock (now (distances .entry)) (now (settings .entry)) (now (from .entry)) (now (mark .entry)) c m n) g start r ⌝ }
 {
+    if !involved(mark, m) {
+        return start;
+    }
     let mut best = start;
     let mut t = 0;
     while t < n {

@@ -9,7 +9,7 @@ use Rattle.radius.proofs.attempt.Tie as tie
 allow-requires : tie.Need-allow-requires
 allow-requires c κs =
     let pre = c .before .before .before .before .before .pre in
-    let centres = pre .1 .1 .0 in
+    let centres = pre .1 .1 .0 .stay (c .before .before .before .before .before .args .g) (omega arith) (pre .1 .1 .1 .0) in
     ((pre .0 .few, pre .0 .distances-long, pre .1 .1 .1 .1, front-few (pre .0 .few) centres), front-below centres)
 
 search-or-violator-requires : tie.Need-search-or-violator-requires
@@ -18,7 +18,7 @@ search-or-violator-requires c κs =
     let z = pre .0 in
     record {
       few-tides = z .few;
-      few-blocks = front-few (z .few) (pre .1 .1 .0);
+      few-blocks = front-few (z .few) (pre .1 .1 .0 .stay (c .before .before .before .before .before .before .before .before .before .before .args .g) (omega arith) (pre .1 .1 .1 .0));
       small = z .b0-high;
       fit = z .fit;
       allowed-long = omega (arith, pre .1 .1 .1 .1, c .before .before .before .before .allow .ensures .same-length);
@@ -36,24 +36,16 @@ same-length-2 c = search needs
 
 returns : tie.Need-returns
 returns c =
-    let args = c .before .before .before .before .before .before .before .before .before .before .before .before .before .before .args in
     let pre = c .before .before .before .before .before .before .before .before .before .before .before .before .before .before .pre in
-    let table = c .before .before .before .before .before .before .before .before .allow .ensures in
     let answer = c .before .before .before .search-or-violator .ensures in (
-      attempt-found (pre .1 .0) (args .g) (args .count) (pre .1 .1 .1 .0) (args .centres .now) (pre .1 .1 .0 .front) _ _ _ (table .same-length) table (answer .found (c .if1 .taken)),
+      attempt-found (pre .1 .0) _ _ _ _ (pre .1 .1 .0) (pre .1 .1 .1 .0) _ _ _ (c .before .before .before .before .before .before .before .before .allow .ensures) (answer .found (c .if1 .taken)),
       record { same-length = answer .same-length; rest = answer .rest },
     )
 
-next-in-pairs-requires : tie.Need-next-in-pairs-requires
-next-in-pairs-requires c κs =
-    let pre = c .before .before .before .before .before .before .before .before .before .before .before .before .before .before .before .before .pre in
-    let centres = pre .1 .1 .0 in
-    ((pre .0 .few, pre .0 .distances-long, front-few (pre .0 .few) centres), front-below centres)
-
 next-in-blocks-requires : tie.Need-next-in-blocks-requires
 next-in-blocks-requires c κs =
-    let pre = c .before .before .before .before .before .before .before .before .before .before .before .before .before .before .before .before .before .before .before .pre in
-    let centres = pre .1 .1 .0 in
+    let pre = c .before .before .before .before .before .before .before .before .before .before .before .before .before .before .before .before .before .before .pre in
+    let centres = pre .1 .1 .0 .stay (c .before .before .before .before .before .before .before .before .before .before .before .before .before .before .before .before .before .before .args .g) (omega arith) (pre .1 .1 .1 .0) in
     (pre .0, (front-few (pre .0 .few) centres, front-below centres))
 
 same-length-3 : tie.Need-same-length-3
@@ -64,13 +56,9 @@ same-length-4 c = search needs
 
 returns-2 : tie.Need-returns-2
 returns-2 c =
-    let args = c .before .before .before .before .before .before .before .before .before .before .before .before .before .before .before .before .before .before .before .before .args in
-    let pre = c .before .before .before .before .before .before .before .before .before .before .before .before .before .before .before .before .before .before .before .before .pre in
-    let table = c .before .before .before .before .before .before .before .before .before .before .before .before .before .before .allow .ensures in
-    let answer = c .before .before .before .before .before .before .before .before .before .search-or-violator .ensures in
-    let violator = c .before .before .before .before .before .before .before .before .before .search-or-violator .result in (
-      attempt-none (pre .1 .0) (args .g) (args .count) (pre .1 .1 .1 .0) (args .centres .now) (pre .1 .1 .0 .front) _ _ _ (table .same-length) (violator .from) (violator .mark)
-          (c .before .before .before .next-in-pairs .result) (c .next-in-blocks .result) table (answer .none (c .before .before .before .before .before .before .if1 .left)) (c .before .before .before .next-in-pairs .ensures) (c .next-in-blocks .ensures),
+    let pre = c .before .before .before .before .before .before .before .before .before .before .before .before .before .before .before .before .before .before .before .pre in
+    let answer = c .before .before .before .before .before .before .before .before .search-or-violator .ensures in (
+      attempt-none (pre .1 .0) _ _ _ _ (pre .1 .1 .0) (pre .1 .1 .1 .0) _ _ _ (c .before .before .before .before .before .before .before .before .before .before .before .before .before .allow .ensures) _ _ _ (answer .none (c .before .before .before .before .before .if1 .left)) (c .next-in-blocks .ensures),
       record { same-length = answer .same-length; rest = answer .rest },
     )
 
@@ -83,7 +71,6 @@ attempt-spec =
     same-length
     same-length-2
     returns
-    next-in-pairs-requires
     next-in-blocks-requires
     same-length-3
     same-length-4
