@@ -85,7 +85,7 @@ pub record Settled (n blocks : ℕ) (M : Minima) (s : List ℕ) (t : ℕ) (old n
 -- list is an assignment that gives t the block v, and t has lost at most blocks from v on
 pub record Settling (n blocks : ℕ) (M : Minima) (s : List ℕ) (t v : ℕ) (old new list₀ list : List ℕ) : Type 0 where
   pub same-length : length new ≡ length old
-  pub other : (x m : ℕ) → m < 120 → (x ≡ t → ⊥) → T (allows new x m) ↔ T (allows old x m)
+  pub other : (x m : ℕ) → x < 120 → m < 120 → (x ≡ t → ⊥) → T (allows new x m) ↔ T (allows old x m)
   pub low : (m : ℕ) → m < v → m < 120 → T (allows new t m) ↔ T (allows old t m)
   pub assigned : Assigned n blocks M s old (labels list)
   pub here : labels list t ≡ v
@@ -95,14 +95,14 @@ pub settling-start : {n blocks : ℕ} {M : Minima} {s old list : List ℕ} (t v 
 settling-start {n} {list = list} t v A e =
     record {
       same-length = refl;
-      other = λ x m l q. (λ h. h, λ h. h);
+      other = λ x m k l q. (λ h. h, λ h. h);
       low = λ m k l. (λ h. h, λ h. h);
       assigned = A;
       here = sym e;
       kept = kept-same n list;
     }
 
-module _ {n blocks : ℕ} {M : Minima} {s : List ℕ} {t v : ℕ} {old new list₀ list : List ℕ} (few : blocks ≤ 120) (tl : t < n) (S : Settling n blocks M s t v old new list₀ list) where
+module _ {n blocks : ℕ} {M : Minima} {s : List ℕ} {t v : ℕ} {old new list₀ list : List ℕ} (small : n ≤ 120) (few : blocks ≤ 120) (tl : t < n) (S : Settling n blocks M s t v old new list₀ list) where
   pub settling-lt : v < 120
   settling-lt = omega (arith, S .assigned .below t tl, S .here)
 
@@ -112,19 +112,19 @@ module _ {n blocks : ℕ} {M : Minima} {s : List ℕ} {t v : ℕ} {old new list�
     whole =
         record {
           same-length = C .same-length ∙ S .same-length;
-          other = λ x m l e. let p = C .other x m l e in let q = S .other x m l e in (λ h. q .0 (p .0 h), λ h. p .1 (q .1 h));
+          other = λ x m k l e. let p = C .other x m k l e in let q = S .other x m k l e in (λ h. q .0 (p .0 h), λ h. p .1 (q .1 h));
           down = λ m l h. let p = C .down m l h in (S .low m (p .1) l .0 (p .0), p .1);
           up = λ m l h k. C .up m l (S .low m k l .1 h) k;
         }
 
     -- t is left v alone
-    pub settling-pin : {zero : List ℕ} → (t + 1) * 120 ≤ length old → Narrowed t (λ m. m < 0) cut zero → Narrowed t (λ m. m ≡ v) old (set zero (t * 120 + v) 1)
+    pub settling-pin : {zero : List ℕ} → 14400 ≤ length old → Narrowed t (λ m. m < 0) cut zero → Narrowed t (λ m. m ≡ v) old (set zero (v * 120 + t) 1)
     settling-pin long Z =
-        narrowed-pin v settling-lt long (λ m l k. omega (arith, k .1)) (subst (λ z. T (allows old t z)) (S .here) (S .assigned .may t tl)) (narrowed-on whole Z)
+        narrowed-pin v (omega arith) settling-lt long (λ m l k. omega (arith, k .1)) (subst (λ z. T (allows old t z)) (S .here) (S .assigned .may t tl)) (narrowed-on whole Z)
 
     module _ {tried : List ℕ} {r : Bool} (A : Tried n blocks M s cut list tried r) where
       pub settling-less : r ≡ true → labels tried t < v
-      settling-less e = narrowed-keeps few tl whole (labels tried) (A .found e)
+      settling-less e = narrowed-keeps small few tl whole (labels tried) (A .found e)
 
       pub settling-more : r ≡ true → (w : ℕ) → w ≡ labels tried t → Settling n blocks M s t w old cut list₀ tried
       settling-more e w q =
@@ -133,7 +133,7 @@ module _ {n blocks : ℕ} {M : Minima} {s : List ℕ} {t v : ℕ} {old new list�
             same-length = whole .same-length;
             other = whole .other;
             low = λ m k h. (λ u. whole .down m h u .0, λ u. whole .up m h u (omega arith));
-            assigned = narrowed-sound few tl whole (labels tried) (A .found e);
+            assigned = narrowed-sound small few tl whole (labels tried) (A .found e);
             here = sym q;
             kept = kept-on (S .kept) (A .kept);
           }
@@ -144,11 +144,11 @@ module _ {n blocks : ℕ} {M : Minima} {s : List ℕ} {t v : ℕ} {old new list�
           subst (λ l. Settled n blocks M s t old pinned l) (sym (A .same e))
           (record {
             same-length = N .same-length;
-            assigned = narrowed-complete few tl N (labels list) (S .assigned) (S .here);
-            sound = narrowed-sound few tl N;
-            fixed = λ E B. narrowed-keeps few tl N E B ∙ sym (S .here);
-            complete = λ E B q. narrowed-complete few tl N E B (q ∙ S .here);
-            least = λ E B. ⊎-elim (λ l. absurd (A .none e E (narrowed-complete few tl whole E B (omega (arith, S .here))))) (λ l. l) (split (E t) (labels list t));
+            assigned = narrowed-complete small few tl N (labels list) (S .assigned) (S .here);
+            sound = narrowed-sound small few tl N;
+            fixed = λ E B. narrowed-keeps small few tl N E B ∙ sym (S .here);
+            complete = λ E B q. narrowed-complete small few tl N E B (q ∙ S .here);
+            least = λ E B. ⊎-elim (λ l. absurd (A .none e E (narrowed-complete small few tl whole E B (omega (arith, S .here))))) (λ l. l) (split (E t) (labels list t));
           })
 
       pub settling-kept : Kept n list₀ tried

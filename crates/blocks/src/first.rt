@@ -14,12 +14,12 @@ ghost use Rattle.blocks.specs.First.{First, Tried, Settled};
 
 // Takes the blocks from v on away from tide t.
 fn cut(allowed: &mut [u8], t: usize, v: usize)
-    requires { ⌜ (t < 120) × (v ≤ 120) × ((t + 1) * 120 ≤ length (now allowed)) ⌝ }
+    requires { ⌜ (t < 120) × (v ≤ 120) × (14400 ≤ length (now allowed)) ⌝ }
     ensures { λ _. ⌜ Narrowed t (λ (m : ℕ). m < v) (now (allowed .entry)) (now (allowed .exit)) ⌝ }
 {
     let mut i = v;
     while i < 120 {
-        allowed[t * 120 + i] = 0;
+        allowed[i * 120 + t] = 0;
         i += 1;
     }
 }
@@ -99,7 +99,7 @@ fn settle(
         v = wide(list[t]);
     }
     cut(allowed, t, 0);
-    allowed[t * 120 + v] = 1;
+    allowed[v * 120 + t] = 1;
 }
 
 // Turns an assignment into the first one in dictionary order. The table is used up.

@@ -7,10 +7,10 @@ use lib.ListN.{getD}
 use Rattle.lists.specs.Tests.{eq→eqb}
 use Rattle.matching.specs.Promise.{allows}
 
-pub allows-yes : (allowed : List ℕ) (t m : ℕ) → (getD allowed (t * 120 + m) 0 ≡ 0 → ⊥) → T (allows allowed t m)
+pub allows-yes : (allowed : List ℕ) (t m : ℕ) → (getD allowed (m * 120 + t) 0 ≡ 0 → ⊥) → T (allows allowed t m)
 unfolding allows
-allows-yes allowed t m f = not-T (eqb (getD allowed (t * 120 + m) 0) 0) (λ e. f (eqb→eq (getD allowed (t * 120 + m) 0) 0 e))
+allows-yes allowed t m f = not-T (eqb (getD allowed (m * 120 + t) 0) 0) (λ e. f (eqb→eq (getD allowed (m * 120 + t) 0) 0 e))
 
-pub allows-no : (allowed : List ℕ) (t m : ℕ) → getD allowed (t * 120 + m) 0 ≡ 0 → T (allows allowed t m) → ⊥
+pub allows-no : (allowed : List ℕ) (t m : ℕ) → getD allowed (m * 120 + t) 0 ≡ 0 → T (allows allowed t m) → ⊥
 unfolding allows
-allows-no allowed t m e h = T-not (eqb (getD allowed (t * 120 + m) 0) 0) h (eq→eqb (getD allowed (t * 120 + m) 0) 0 e)
+allows-no allowed t m e h = T-not (eqb (getD allowed (m * 120 + t) 0) 0) h (eq→eqb (getD allowed (m * 120 + t) 0) 0 e)

@@ -34,7 +34,7 @@ pub record Decides (P : Type 0) (r : Bool) : Type 0 where
 pub record Sized (allowed settings owner kind : List ℕ) (slots tides : ℕ) : Type 0 where
   pub few-slots : slots ≤ 120
   pub few-tides : tides ≤ 120
-  pub allowed-long : tides * 120 ≤ length allowed
+  pub allowed-long : 14400 ≤ length allowed
   pub settings-long : tides ≤ length settings
   pub blocks : (s : ℕ) → s < slots → at owner s < 120
   pub kinds : (s : ℕ) → s < slots → at kind s ≤ 8

@@ -12,9 +12,9 @@ use Rattle.study.specs.declared.Minima.{Minima}
 use Rattle.study.specs.Problem.{block, labels}
 use Rattle.study.specs.Study.{meets}
 
--- tide t may go to block m, by a table in rows of 120
+-- tide t may go to block m, by a table in rows of 120: a row for each block, so that a scan of a block runs along memory
 unfoldable pub allows : List ℕ → ℕ → ℕ → Bool
-allows allowed t m = not (eqb (getD allowed (t * 120 + m) 0) 0)
+allows allowed t m = not (eqb (getD allowed (m * 120 + t) 0) 0)
 
 -- D gives each of the n tides a block, by May one that it may go to, so that each block meets the minima
 pub record Assigning (n blocks : ℕ) (M : Minima) (settings : List ℕ) (May : ℕ → ℕ → Type 0) (D : ℕ → ℕ) : Type 0 where
@@ -45,7 +45,7 @@ pub record Asked (n blocks : ℕ) (M : Minima) (settings allowed list : List ℕ
   pub few-blocks : blocks ≤ 120
   pub small : M .b0 ≤ 120
   pub fit : sum 8 (λ j. getD (M .b) j 0) ≤ M .b0
-  pub allowed-long : n * 120 ≤ length allowed
+  pub allowed-long : 14400 ≤ length allowed
   pub settings-long : n ≤ length settings
   pub list-long : n ≤ length list
   pub setting-low : (t : ℕ) → t < n → 1 ≤ getD settings t 0

@@ -8,12 +8,12 @@ ghost use Rattle.matching.specs.Steps.{FirstAllowed, Owned, Placed, List
 fn first_allowed(allowed: &[u8], t: usize, blocks: usize) -> usize
     requires { ⌜ blocks ≤ 120 ⌝ }
     requires { ⌜ t < 120 ⌝ }
-    requires { ⌜ (t + 1) * 120 ≤ length (now allowed) ⌝ }
+    requires { ⌜ 14400 ≤ length (now allowed) ⌝ }
     ensures { λ r. ⌜ FirstAllowed (now (allowed .entry)) t blocks r ⌝ }
 {
     let mut m = 0;
     while m < blocks {
-        if allowed[t * 120 + m] != 0 {
+        if allowed[m * 120 + t] != 0 {
             return m;
         }
         m += 1;
@@ -33,7 +33,7 @@ fn block_of(
     requires { ⌜ blocks ≤ 120 ⌝ }
     requires { ⌜ t < 120 ⌝ }
     requires { ⌜ slots ≤ 120 ⌝ }
-    requires { ⌜ (t + 1) * 120 ≤ length (now allowed) ⌝ }
+    requires { ⌜ 14400 ≤ length (now allowed) ⌝ }
     requires { ⌜ Owned (now allowed) (now owner) (now slot) blocks slots t ⌝ }
     ensures { λ r. ⌜ Placed (now (allowed .entry)) (now (owner .entry)) (now (slot .entry)) blocks slots t r ⌝ }
 {
@@ -57,7 +57,7 @@ pub fn write_list(
     requires { ⌜ blocks ≤ 120 ⌝ }
     requires { ⌜ n ≤ 120 ⌝ }
     requires { ⌜ slots ≤ 120 ⌝ }
-    requires { ⌜ n * 120 ≤ length (now allowed) ⌝ }
+    requires { ⌜ 14400 ≤ length (now allowed) ⌝ }
     requires { ⌜ n ≤ length (now list) ⌝ }
     requires { ⌜ ((t : ℕ) → t < n → Owned (now allowed) (now owner) (now slot) blocks slots t) ⌝ }
     ensures { λ r. ⌜ Listed n blocks slots (now (allowed .entry)) (now (owner .entry)) (now (slot .entry)) (now (list .entry)) (now (list .exit)) r ⌝ }

@@ -32,11 +32,11 @@ pub struct Outcome {
 pub fn edge(allowed: &[u8], settings: &[u8], m: usize, k: u8, t: usize) -> bool
     requires { ⌜ m < 120 ⌝ }
     requires { ⌜ t < 120 ⌝ }
-    requires { ⌜ (t + 1) * 120 ≤ length (now allowed) ⌝ }
+    requires { ⌜ 14400 ≤ length (now allowed) ⌝ }
     requires { ⌜ t < length (now settings) ⌝ }
     ensures { λ r. ⌜ Decides (EdgeAt (now (allowed .entry)) (now (settings .entry)) m k t) r ⌝ }
 {
-    if allowed[t * 120 + m] == 0 {
+    if allowed[m * 120 + t] == 0 {
         return false;
     }
     if k == 0 {

@@ -56,7 +56,7 @@ module _ {d s : List ℕ} {n : ℕ} {M : Minima} (Q : Proper d s n M) (g count :
       below : (t : ℕ) → t < n → labels xs t - 1 < count
       below t l = omega (arith, B .low t l, B .high t l, F .long)
 
-  module _ (allowed : List ℕ) (A : (t m : ℕ) → t < n → m < count → at allowed t m ≡ entry d cs g t m) where
+  module _ (allowed : List ℕ) (A : (t m : ℕ) → t < n → m < count → at allowed m t ≡ entry d cs g t m) where
     pub near-allows : (t m : ℕ) → t < n → m < count → at d (getD cs m 0) t ≤ g → T (allows allowed t m)
     unfolding allows
     near-allows t m l k h =

@@ -37,7 +37,7 @@ fn attempt(
     requires { ⌜ Sized (now distances) (now settings) n minima ⌝ }
     requires { ⌜ Proper (now distances) (now settings) n minima ⌝ }
     requires { ⌜ Steady (now distances) n g limit count (now centres) ⌝ }
-    requires { ⌜ (g < limit) × (n * 120 ≤ length (now allowed)) × (n ≤ length (now list)) ⌝ }
+    requires { ⌜ (g < limit) × (14400 ≤ length (now allowed)) × (n ≤ length (now list)) ⌝ }
     ensures { λ r. ⌜ Attempt (now (distances .entry)) (now (settings .entry)) n minima (now (centres .entry)) count g limit r (now (allowed .entry)) (now (allowed .exit)) (now (list .exit)) ⌝ }
     ensures { λ _. ⌜ Kept n (now (list .entry)) (now (list .exit)) ⌝ }
 {
@@ -79,7 +79,7 @@ fn ascend(
     requires { ⌜ Proper (now distances) (now settings) n minima ⌝ }
     requires { ⌜ Steady (now distances) n start limit count (now centres) ⌝ }
     requires { ⌜ Lowest (posed (now distances) (now settings) n minima) start × Ahead (posed (now distances) (now settings) n minima) limit ⌝ }
-    requires { ⌜ (0 < n) × (start < limit) × (n * 120 ≤ length (now allowed)) × (n ≤ length (now list)) ⌝ }
+    requires { ⌜ (0 < n) × (start < limit) × (14400 ≤ length (now allowed)) × (n ≤ length (now list)) ⌝ }
     ensures { λ r. ⌜ Ascent (now (distances .entry)) (now (settings .entry)) n minima (now (centres .entry)) count start limit r (now (allowed .entry)) (now (allowed .exit)) (now (list .exit)) ⌝ }
     ensures { λ _. ⌜ Kept n (now (list .entry)) (now (list .exit)) ⌝ }
 {
@@ -122,7 +122,7 @@ pub fn least_radius(
 ) -> Found
     requires { ⌜ Sized (now distances) (now settings) n minima ⌝ }
     requires { ⌜ Proper (now distances) (now settings) n minima ⌝ }
-    requires { ⌜ (0 < n) × (length (now centres) ≡ 120) × (n * 120 ≤ length (now allowed)) × (n ≤ length (now list)) ⌝ }
+    requires { ⌜ (0 < n) × (length (now centres) ≡ 120) × (14400 ≤ length (now allowed)) × (n ≤ length (now list)) ⌝ }
     ensures { λ r. ⌜ Least (now (distances .entry)) (now (settings .entry)) n minima (r .radius) (r .count) (now (centres .exit)) (now (allowed .entry)) (now (allowed .exit)) (now (list .exit)) ⌝ }
     ensures { λ _. ⌜ Kept n (now (list .entry)) (now (list .exit)) ⌝ }
 {

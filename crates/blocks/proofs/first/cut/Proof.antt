@@ -30,7 +30,7 @@ loop-less : tie.Need-loop-less Inv-loop μ-loop
 loop-less c = omega arith
 
 loop-again : tie.Need-loop-again Inv-loop μ-loop
-loop-again c = (omega arith, omega arith, cut-more (c .before .loop .inv .0) (c .loop-test .taken) (c .before .before .pre .2) (c .before .loop .inv .2))
+loop-again c = (omega arith, omega arith, cut-more (c .before .loop .inv .0) (c .before .before .pre .0) (c .loop-test .taken) (c .before .before .pre .2) (c .before .loop .inv .2))
 
 same-length : tie.Need-same-length Inv-loop μ-loop
 same-length c = c .before .loop .inv .2 .same-length

@@ -28,7 +28,7 @@ lower-requires : tie.Need-lower-requires Inv-loop μ-loop
 lower-requires c κs =
     let turn = c .before .before .loop in
     let pre = c .before .before .before .before .before .before .before .before .pre in
-    (asked-on (pre .0) (turn .inv .same-length) (turn .inv .kept .same-length), (pre .1 .1, settling-lt (pre .0 .few-blocks) (pre .1 .1) (turn .inv)))
+    (asked-on (pre .0) (turn .inv .same-length) (turn .inv .kept .same-length), (pre .1 .1, settling-lt (pre .0 .few-tides) (pre .0 .few-blocks) (pre .1 .1) (turn .inv)))
 
 slice-read-wide-2 : tie.Need-slice-read-wide-2 Inv-loop μ-loop
 slice-read-wide-2 c =
@@ -44,7 +44,7 @@ loop-less : tie.Need-loop-less Inv-loop μ-loop
 unfolding labels
 loop-less c =
     let pre = c .before .before .before .before .before .before .before .before .before .before .before .before .before .before .before .before .pre in
-    let l = settling-less (pre .0 .few-blocks) (pre .1 .1) (c .before .before .before .before .before .before .before .before .before .before .loop .inv) (c .before .before .before .before .before .before .before .lower .ensures .0) (c .before .before .before .before .before .before .before .lower .ensures .1) (c .before .before .if1 .taken) in
+    let l = settling-less (pre .0 .few-tides) (pre .0 .few-blocks) (pre .1 .1) (c .before .before .before .before .before .before .before .before .before .before .loop .inv) (c .before .before .before .before .before .before .before .lower .ensures .0) (c .before .before .before .before .before .before .before .lower .ensures .1) (c .before .before .if1 .taken) in
     let w = c .wide2 .ensures in
     omega arith
 
@@ -52,7 +52,7 @@ loop-again : tie.Need-loop-again Inv-loop μ-loop
 unfolding labels
 loop-again c =
     let pre = c .before .before .before .before .before .before .before .before .before .before .before .before .before .before .before .before .pre in
-    settling-more (pre .0 .few-blocks) (pre .1 .1) (c .before .before .before .before .before .before .before .before .before .before .loop .inv) (c .before .before .before .before .before .before .before .lower .ensures .0) (c .before .before .before .before .before .before .before .lower .ensures .1) (c .before .before .if1 .taken) _ (c .wide2 .ensures)
+    settling-more (pre .0 .few-tides) (pre .0 .few-blocks) (pre .1 .1) (c .before .before .before .before .before .before .before .before .before .before .loop .inv) (c .before .before .before .before .before .before .before .lower .ensures .0) (c .before .before .before .before .before .before .before .lower .ensures .1) (c .before .before .if1 .taken) _ (c .wide2 .ensures)
 
 cut-requires : tie.Need-cut-requires Inv-loop μ-loop
 cut-requires c κs =
@@ -71,7 +71,7 @@ mul-allowed c =
     let f = pre .0 .few-tides in
     let q = turn .inv .same-length in
     let w = c .before .before .before .before .before .before .before .before .before .lower .ensures .0 .same-length in
-    let v = settling-lt (pre .0 .few-blocks) (pre .1 .1) (turn .inv) in
+    let v = settling-lt (pre .0 .few-tides) (pre .0 .few-blocks) (pre .1 .1) (turn .inv) in
     let tl = pre .1 .1 in
     omega arith
 
@@ -83,7 +83,7 @@ add-allowed c =
     let f = pre .0 .few-tides in
     let q = turn .inv .same-length in
     let w = c .before .before .before .before .before .before .before .before .before .lower .ensures .0 .same-length in
-    let v = settling-lt (pre .0 .few-blocks) (pre .1 .1) (turn .inv) in
+    let v = settling-lt (pre .0 .few-tides) (pre .0 .few-blocks) (pre .1 .1) (turn .inv) in
     let tl = pre .1 .1 in
     omega arith
 
@@ -96,7 +96,7 @@ slice-write-allowed c =
     let f = pre .0 .few-tides in
     let q = turn .inv .same-length in
     let w = c .before .before .before .before .before .before .before .before .before .lower .ensures .0 .same-length in
-    let v = settling-lt (pre .0 .few-blocks) (pre .1 .1) (turn .inv) in
+    let v = settling-lt (pre .0 .few-tides) (pre .0 .few-blocks) (pre .1 .1) (turn .inv) in
     let tl = pre .1 .1 in
     omega arith
 
@@ -112,8 +112,8 @@ returns : tie.Need-returns Inv-loop μ-loop
 returns c =
     let turn = c .before .before .before .before .before .before .before .before .before .before .before .before .loop in
     let pre = c .before .before .before .before .before .before .before .before .before .before .before .before .before .before .before .before .before .before .pre in
-    let N = settling-pin (pre .0 .few-blocks) (pre .1 .1) (turn .inv) (c .before .before .before .before .before .before .before .before .before .lower .ensures .0) (let a = pre .0 .allowed-long in omega arith) (c .before .before .cut .ensures) in
-    (settling-end (pre .0 .few-blocks) (pre .1 .1) (turn .inv) (c .before .before .before .before .before .before .before .before .before .lower .ensures .0) (c .before .before .before .before .before .before .before .before .before .lower .ensures .1) (c .before .before .before .before .if1 .left) N, settling-kept (pre .0 .few-blocks) (pre .1 .1) (turn .inv) (c .before .before .before .before .before .before .before .before .before .lower .ensures .0) (c .before .before .before .before .before .before .before .before .before .lower .ensures .1))
+    let N = settling-pin (pre .0 .few-tides) (pre .0 .few-blocks) (pre .1 .1) (turn .inv) (c .before .before .before .before .before .before .before .before .before .lower .ensures .0) (let a = pre .0 .allowed-long in omega arith) (c .before .before .cut .ensures) in
+    (settling-end (pre .0 .few-tides) (pre .0 .few-blocks) (pre .1 .1) (turn .inv) (c .before .before .before .before .before .before .before .before .before .lower .ensures .0) (c .before .before .before .before .before .before .before .before .before .lower .ensures .1) (c .before .before .before .before .if1 .left) N, settling-kept (pre .0 .few-tides) (pre .0 .few-blocks) (pre .1 .1) (turn .inv) (c .before .before .before .before .before .before .before .before .before .lower .ensures .0) (c .before .before .before .before .before .before .before .before .before .lower .ensures .1))
 
 pub settle-spec : {M : Type 1} → statement M
 settle-spec =
