@@ -4,7 +4,7 @@ use Prim.Native.Nat.{ℕ, _+_, _*_, _≤_, _<_}
 use native.Mathlib.Omega.{arith}
 use mathlib.Core.Path.{_≡_, refl, sym, ap, _∙_, subst}
 use mathlib.Core.Logic.{_⊎_, ⊎-elim, _↔_}
-use mathlib.Core.Bool.{Bool, true, false}
+use mathlib.Core.Bool.{Bool, true, false, true≢false, false≢true}
 use mathlib.Core.List.{List}
 use lib.Dec.{T, eqb→eq}
 use lib.ListN.{length, getD, drop, set}
@@ -14,7 +14,7 @@ use Rattle.lists.specs.Tables.{getD-overwrite, length-overwrite, drop-overwrite
 use Rattle.study.specs.declared.Minima.{Minima}
 use Rattle.study.specs.Problem.{block, labels}
 use Rattle.study.specs.StudyLaws.{meets-along}
-use Rattle.matching.specs.Promise.{allows, Assigning, Assigned, Asked, Promise}
+use Rattle.matching.specs.Promise.{allows, Nowhere, Assigning, Assigned, Asked, Promise}
 use Rattle.radius.specs.Attempts.{Kept, kept-same, kept-on}
 use Rattle.blocks.specs.Narrowed.{Narrowed, narrowed-on, narrowed-pin, narrowed-keeps, narrowed-sound, narrowed-complete}
 
@@ -55,21 +55,26 @@ unfolding labels
 tried-found {n} {old = old} {new = new} {trial = trial} long P e q =
     record {
       found = λ _. assigned-same (labels trial) (labels new) (λ t l. sym (ap (λ x. getD x t 0) q ∙ getD-overwrite (labels trial) old n t 0 l)) (P .found e);
-      none = λ f. absurd (never f);
-      same = λ f. absurd (never f);
+      none = λ f. absurd (true≢false f);
+      same = λ f. absurd (true≢false f);
       kept = record { same-length = ap length q ∙ length-overwrite (labels trial) old n long; rest = ap (drop n) q ∙ drop-overwrite (labels trial) old n };
     }
-  where
-    never : true ≡ false → ⊥
-    never f = let z : _≡_ {A = ℕ} 0 1 = cc in omega arith
 
 pub tried-none : {n blocks : ℕ} {M : Minima} {s allowed trial copy : List ℕ} {r : Bool} (old : List ℕ) → Promise n blocks M s allowed copy trial r → r ≡ false
     → Tried n blocks M s allowed old old false
 tried-none {n} old P e =
-    record { found = λ f. absurd (never f); none = λ _. P .none e; same = λ _. refl; kept = kept-same n old }
-  where
-    never : false ≡ true → ⊥
-    never f = let z : _≡_ {A = ℕ} 0 1 = cc in omega arith
+    record { found = λ f. absurd (false≢true f); none = λ _. P .none e; same = λ _. refl; kept = kept-same n old }
+
+-- no search is needed where tide t may go to no block that is left to it
+pub tried-nowhere : {n blocks : ℕ} {M : Minima} {s old new : List ℕ} {t v : ℕ} (list : List ℕ) → blocks ≤ 120 → t < n → Narrowed t (λ m. m < v) old new → Nowhere new t v
+    → Tried n blocks M s new list list false
+tried-nowhere {n} {t = t} list few tl N nowhere =
+    record {
+      found = λ f. absurd (false≢true f);
+      none = λ _ D A. nowhere (D t) (N .down (D t) (omega (arith, A .below t tl)) (A .may t tl) .1) (A .may t tl);
+      same = λ _. refl;
+      kept = kept-same n list;
+    }
 
 -- ---- one tide
 

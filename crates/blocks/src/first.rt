@@ -1,4 +1,5 @@
 // The first assignment in dictionary order, through the promise of the matching search alone.
+use matching::assign::first_allowed;
 use matching::search;
 use radius::counts::wide;
 use study::Minima;
@@ -75,6 +76,9 @@ fn lower(
     ensures { λ r. ⌜ Tried n blocks minima (now (settings .entry)) (now (allowed .exit)) (now (list .entry)) (now (list .exit)) r ⌝ }
 {
     cut(allowed, t, v);
+    if first_allowed(allowed, t, v) >= v {
+        return false;
+    }
     try_search(n, blocks, minima, settings, allowed, list)
 }
 

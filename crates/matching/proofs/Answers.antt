@@ -8,12 +8,12 @@ use native.Mathlib.Omega.{arith}
 use lib.Dec.{T}
 use lib.ListN.{replicate, getD-replicate}
 use Rattle.study.specs.declared.Minima.{Minima}
-use Rattle.matching.specs.Promise.{helps, Idle, Asked, Promise, PromiseOrViolator}
+use Rattle.matching.specs.Promise.{helps, Idle, Asked, Promise, PromiseOrViolator, Nowhere}
 use Rattle.matching.specs.Enough.{enough-tides}
 use Rattle.matching.specs.Matching.{at}
 use Rattle.matching.specs.Graph.{Edge, Violator, Saturated}
 use Rattle.matching.specs.Slots.{Slots}
-use Rattle.matching.specs.Steps.{Nowhere, Rest, Written}
+use Rattle.matching.specs.Steps.{Rest, Written}
 use Rattle.matching.proofs.Violators.{not-both, helps-by}
 use Rattle.matching.proofs.Correspondence.{no-assignment, written-assigned}
 

@@ -10,11 +10,11 @@ use lib.Dec.{T}
 use lib.ListN.{length, set, length-set}
 use lib.Seq.{getD-set-same, getD-set-other, drop-set-lt}
 use Rattle.study.specs.declared.Minima.{Minima}
-use Rattle.matching.specs.Promise.{allows, Asked}
+use Rattle.matching.specs.Promise.{allows, Asked, Nowhere}
 use Rattle.matching.specs.Matching.{at, Matching}
 use Rattle.matching.specs.Graph.{Edge, Sized}
 use Rattle.matching.specs.Slots.{Slots}
-use Rattle.matching.specs.Steps.{Nowhere, Owned, Placed, Rest, Written, Listed}
+use Rattle.matching.specs.Steps.{Owned, Placed, Rest, Written, Listed}
 use Rattle.matching.proofs.Correspondence.{slot-below, slot-kind}
 
 pub rest-start : (n : ℕ) (list : List ℕ) → Rest n list list

@@ -16,6 +16,15 @@ use Rattle.study.specs.Study.{meets}
 unfoldable pub allows : List ℕ → ℕ → ℕ → Bool
 allows allowed t m = not (eqb (getD allowed (m * 120 + t) 0) 0)
 
+-- the tide t may go to no block below blocks
+abbrev pub Nowhere : (allowed : List ℕ) (t blocks : ℕ) → Type 0
+Nowhere allowed t blocks = (m : ℕ) → m < blocks → T (allows allowed t m) → ⊥
+
+-- what `first_allowed` promises: r is a block that the tide t may go to, or there is none
+pub record FirstAllowed (allowed : List ℕ) (t blocks r : ℕ) : Type 0 where
+  pub may : r < blocks → T (allows allowed t r)
+  pub none : blocks ≤ r → Nowhere allowed t blocks
+
 -- D gives each of the n tides a block, by May one that it may go to, so that each block meets the minima
 pub record Assigning (n blocks : ℕ) (M : Minima) (settings : List ℕ) (May : ℕ → ℕ → Type 0) (D : ℕ → ℕ) : Type 0 where
   pub below : (t : ℕ) → t < n → D t < blocks

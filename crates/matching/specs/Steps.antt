@@ -5,16 +5,8 @@ use mathlib.Core.Bool.{Bool, true, false}
 use Prim.Native.Nat.{ℕ, _≤_, _<_}
 use lib.Dec.{T}
 use lib.ListN.{length, drop}
-use Rattle.matching.specs.Promise.{allows}
+use Rattle.matching.specs.Promise.{allows, Nowhere}
 use Rattle.matching.specs.Matching.{at}
-
--- the tide t may go to no block below blocks
-abbrev pub Nowhere : (allowed : List ℕ) (t blocks : ℕ) → Type 0
-Nowhere allowed t blocks = (m : ℕ) → m < blocks → T (allows allowed t m) → ⊥
-
-pub record FirstAllowed (allowed : List ℕ) (t blocks r : ℕ) : Type 0 where
-  pub may : r < blocks → T (allows allowed t r)
-  pub none : blocks ≤ r → Nowhere allowed t blocks
 
 -- where the tide t has a slot, it may go to the slot's block
 pub record Owned (allowed owner slot : List ℕ) (blocks slots t : ℕ) : Type 0 where

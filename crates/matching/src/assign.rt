@@ -2,10 +2,11 @@
 ghost use Prim.Native.Nat.{ℕ, _+_, _*_, _<_, _≤_};
 ghost use lib.ListN.{length};
 ghost use Rattle.matching.specs.Matching.{at};
-ghost use Rattle.matching.specs.Steps.{FirstAllowed, Owned, Placed, Listed, Rest};
+ghost use Rattle.matching.specs.Promise.{FirstAllowed};
+ghost use Rattle.matching.specs.Steps.{Owned, Placed, Listed, Rest};
 
 // The first block that the tide t may go to, or 120 where there is none.
-fn first_allowed(allowed: &[u8], t: usize, blocks: usize) -> usize
+pub fn first_allowed(allowed: &[u8], t: usize, blocks: usize) -> usize
     requires { ⌜ blocks ≤ 120 ⌝ }
     requires { ⌜ t < 120 ⌝ }
     requires { ⌜ 14400 ≤ length (now allowed) ⌝ }

@@ -1,7 +1,7 @@
 // Whether every tide can be given an allowed block so that each block meets the minima, and such an
 // assignment. The minima of all blocks are laid out as slots; each slot gets a tide of its own by
 // augmenting paths; the other tides go to any block that they may go to.
-mod assign;
+pub mod assign;
 pub mod augment;
 mod slots;
 mod start;

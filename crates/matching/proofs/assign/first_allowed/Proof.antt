@@ -3,7 +3,7 @@ use native.Mathlib.Omega.{arith}
 use Prim.Native.Nat.{_-_, _≤_}
 use borrow.Author.Count.{below-more}
 use Rattle.matching.proofs.Pairs.{allows-yes, allows-no}
-use Rattle.matching.specs.Steps.{Nowhere}
+use Rattle.matching.specs.Promise.{Nowhere}
 use Rattle.matching.proofs.assign.first_allowed.Statement.{statement}
 use Rattle.matching.proofs.assign.first_allowed.Tie as tie
 
