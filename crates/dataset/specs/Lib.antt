@@ -7,5 +7,6 @@ pub mod Layout
 pub mod Theorems
 pub mod Proofs
 pub mod Pairs
+pub mod Doubts
 pub mod Places
 pub mod Ways

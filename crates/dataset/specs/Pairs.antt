@@ -7,6 +7,7 @@ use mathlib.Core.Path.{_≡_, refl, sym, ap, ap₂, _∙_}
 use mathlib.Core.Bool.{Bool, true, false, cond, not}
 use mathlib.Core.List.{List, [], _∷_, _++_, map, flatMap}
 use mathlib.Core.List.{List·Memᴰ·head as here, List·Memᴰ·tail as there}
+use lib.Dec.{T}
 use lib.ListN.{length, take, drop, getD, length-take, length-drop}
 use lib.Seq.{getD-take, getD-drop}
 use Rattle.lists.specs.Lists.{_∈_, range, filter, isEmpty, at}
@@ -25,6 +26,10 @@ foundOf (p ∷ ps) = Search.Pair (suc (p .lower)) (suc (p .upper))
 pub found-nothing : (ps : List Pair) → foundOf ps ≡ Search.Nothing → isEmpty ps ≡ true
 found-nothing [] e = refl
 found-nothing (p ∷ ps) e = let z : _≡_ {A = ℕ} 0 1 = cc in absurd (omega arith)
+
+pub nothing-found : (ps : List Pair) → T (isEmpty ps) → Search.Nothing ≡ foundOf ps
+nothing-found [] t = refl
+nothing-found (p ∷ ps) t = absurd t
 
 pub found-pair : (ps : List Pair) (i j : ℕ) → foundOf ps ≡ Search.Pair i j → (isEmpty ps ≡ false) × (firstPair ps ≡ seven i j)
 found-pair [] i j e = let z : _≡_ {A = ℕ} 0 1 = cc in absurd (omega arith)
