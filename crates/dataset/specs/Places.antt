@@ -17,9 +17,9 @@ use Rattle.study.specs.Study.{Tide, Study, size, tide, distance}
 use Rattle.study.specs.StudyLaws.{distance-both-ways, distance-itself}
 use Rattle.study.specs.Calls.{opened, entered, withdrawn}
 use Rattle.study.specs.CallLaws.{entered-size, entered-old, entered-new, entered-held, entered-row, skip, skip-is, withdrawn-setting, withdrawn-distance}
-use Rattle.dataset.specs.Memory.{State, studyOf, distancesOf, settingsOf}
-use Rattle.dataset.specs.Validity.{IsDataset, study-size}
-use Rattle.dataset.specs.Layout.{setting-none, distance-none, memory-distance, memory-setting}
+use Rattle.validity.specs.Memory.{State, studyOf, distancesOf, settingsOf}
+use Rattle.validity.specs.Validity.{IsDataset, study-size}
+use Rattle.validity.specs.Layout.{setting-none, distance-none, memory-distance, memory-setting}
 
 -- ---- Open
 

@@ -1,20 +1,18 @@
 // Open, Minima, Enter, Withdraw: for any record and memory of any length, the answer and what stands afterwards.
-// A dataset (document 01: book) is a record and lent memory: 14,400 distances in rows of 120, and 120 setting bytes.
-use crate::three_tide::Found;
 use study::Answer;
 use study::Dataset;
 use study::Minima;
 use study::Outcome;
 use study::Refusal;
+use validity::three_tide;
+use validity::three_tide::Found;
 
 mod memory;
-pub mod three_tide;
-pub mod validity;
 
 ghost use mathlib.Core.Path.{_≡_};
 ghost use mathlib.Core.List.{[]};
 ghost use Rattle.study.specs.Refusals.{verdictOf};
-ghost use Rattle.dataset.specs.Memory.{stateOf};
+ghost use Rattle.validity.specs.Memory.{stateOf};
 ghost use Rattle.dataset.specs.Answers.{heldAnswer, openAnswer, openLeaves, minimaAnswer, minimaLeaves, enterAnswer, enterLeaves, withdrawAnswer, withdrawLeaves};
 ghost use Rattle.dataset.specs.Ways.{Passed, EnterTold, WithdrawTold};
 

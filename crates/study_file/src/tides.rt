@@ -2,8 +2,8 @@
 use crate::length::bit_length;
 use bit_reader::Field;
 use bit_reader::read_field;
-use dataset::three_tide::Found;
-use dataset::three_tide::first_broken;
+use validity::three_tide::Found;
+use validity::three_tide::first_broken;
 use study::Answer;
 use study::Refusal;
 ghost use mathlib.Core.Path.{_≡_};
