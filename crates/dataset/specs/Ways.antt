@@ -23,7 +23,7 @@ use Rattle.dataset.specs.Answers.{freshAnswer, heldAnswer, openAnswer, o
 use Rattle.validity.specs.Validity.{IsDataset, isDataset-T, study-size, study-distance}
 use Rattle.validity.specs.Layout.{Long, long, own-layout}
 use Rattle.validity.specs.Pairs.{foundOf, found-nothing, found-pair, breaking-same}
-use Rattle.dataset.specs.Places.{cleared-distances, cleared-settings, withRow, entered-distances, entered-settings, movedDistance, movedSetting, withdrawn-distances, withdrawn-settings}
+use Rattle.storage.specs.Places.{cleared-distances, cleared-settings, withRow, entered-distances, entered-settings, movedDistance, movedSetting, withdrawn-distances, withdrawn-settings}
 use Rattle.validity.specs.declared.three_tide.Found.{Found}
 use Rattle.validity.specs.declared.three_tide.Found.the-variants as Search
 

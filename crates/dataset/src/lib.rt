@@ -7,8 +7,6 @@ use study::Refusal;
 use validity::three_tide;
 use validity::three_tide::Found;
 
-mod memory;
-
 ghost use mathlib.Core.Path.{_≡_};
 ghost use mathlib.Core.List.{[]};
 ghost use Rattle.study.specs.Refusals.{verdictOf};
@@ -45,8 +43,8 @@ pub fn open(dataset: Dataset, distances: &mut [u32], settings: &mut [u8], k: u8)
             dataset,
         };
     }
-    memory::clear_distances(distances);
-    memory::clear_settings(settings);
+    storage::clear_distances(distances);
+    storage::clear_settings(settings);
     let minima = Minima { b0: 1, b: [0; 8] };
     let empty = Dataset {
         k,
@@ -150,7 +148,7 @@ fn add_tide(
     ensures { λ r. ⌜ stateOf r (now (distances .exit)) (now (settings .exit)) ≡ enterLeaves (stateOf dataset (now (distances .entry)) (now (settings .entry))) setting (now (row .entry)) ⌝ }
 {
     let n = dataset.n;
-    memory::put_row(distances, row);
+    storage::put_row(distances, row);
     settings[n] = setting;
     let minima = dataset.minima;
     Dataset {
@@ -216,8 +214,8 @@ fn remove_tide(dataset: Dataset, distances: &mut [u32], settings: &mut [u8], tid
     ensures { λ r. ⌜ stateOf r (now (distances .exit)) (now (settings .exit)) ≡ withdrawLeaves (stateOf dataset (now (distances .entry)) (now (settings .entry))) tide ⌝ }
 {
     let m = tide as usize - 1;
-    memory::remove_row(distances, m);
-    memory::remove_setting(settings, m);
+    storage::remove_row(distances, m);
+    storage::remove_setting(settings, m);
     let minima = dataset.minima;
     Dataset {
         k: dataset.k,

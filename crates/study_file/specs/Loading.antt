@@ -28,7 +28,7 @@ use Rattle.validity.specs.Memory.{State, stateOf, studyOf, contentsOf, recordOf
 use Rattle.validity.specs.Validity.{IsDataset}
 use Rattle.validity.specs.Layout.{setting-none, distance-none, stored-is, stored-contents}
 use Rattle.validity.specs.Pairs.{breaking-same}
-use Rattle.dataset.specs.Places.{withRow, entered-distances, entered-settings}
+use Rattle.storage.specs.Places.{withRow, entered-distances, entered-settings}
 
 -- the file's contents with its first t tides
 unfoldable pub part : List ℕ → ℕ → Contents

@@ -18,7 +18,7 @@ use Rattle.bit_reader.specs.FieldLaws.{Got}
 use Rattle.validity.specs.declared.three_tide.Found.{Found}
 use Rattle.validity.specs.declared.three_tide.Found.the-variants as Search
 use Rattle.validity.specs.Pairs.{foundOf, part-breaking}
-use Rattle.dataset.specs.Places.{withRow, row-more}
+use Rattle.storage.specs.Places.{withRow, row-more}
 use Rattle.study_file.specs.Lengths.{length-sum, bitLength-up}
 use Rattle.study_file.specs.Loading.{Loaded, Reading, pairVerdict, reached, stopped, turn-five, turn-seven, turn-next}
 

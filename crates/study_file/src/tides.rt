@@ -14,7 +14,7 @@ ghost use Rattle.study.specs.Refusals.{verdictOf};
 ghost use Rattle.study.specs.Calls.{breaking};
 ghost use Rattle.file_format.specs.Bits.{bitsAt};
 ghost use Rattle.lists.specs.Lists.{at};
-ghost use Rattle.dataset.specs.Places.{withRow};
+ghost use Rattle.storage.specs.Places.{withRow};
 ghost use Rattle.study_file.specs.Loading.{Loaded, Reading, pairVerdict};
 ghost use Rattle.study_file.specs.RowLaws.{rowAt, RowRead};
 

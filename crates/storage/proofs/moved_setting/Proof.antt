@@ -1,8 +1,8 @@
 -- `moved_setting` meets its contract: one law of Places for each way out. Assumes nothing.
 use borrow.Author.Needs.{needs}
-use Rattle.dataset.specs.Places.{moved-none, moved-one}
-use Rattle.dataset.proofs.memory.moved_setting.Statement.{statement}
-use Rattle.dataset.proofs.memory.moved_setting.Tie as tie
+use Rattle.storage.specs.Places.{moved-none, moved-one}
+use Rattle.storage.proofs.moved_setting.Statement.{statement}
+use Rattle.storage.proofs.moved_setting.Tie as tie
 
 number-before-requires : tie.Need-number-before-requires
 number-before-requires c κs = search needs

@@ -5,8 +5,8 @@ use mathlib.Core.Path.{_≡_, refl}
 use lib.ListN.{length, length-set}
 use Rattle.lists.specs.Tables.{overwrite-none, overwrite-step, overwrite-done}
 use Rattle.lists.specs.Lists.{overwrite}
-use Rattle.dataset.proofs.memory.clear_settings.Statement.{statement}
-use Rattle.dataset.proofs.memory.clear_settings.Tie as tie
+use Rattle.storage.proofs.clear_settings.Statement.{statement}
+use Rattle.storage.proofs.clear_settings.Tie as tie
 
 abbrev Inv-loop : tie.InvT-loop
 Inv-loop settings₀ i₀ settings i = (i ≤ 120) × (settings ≡ overwrite i (λ _. 0) settings₀) × (length settings ≡ length settings₀)

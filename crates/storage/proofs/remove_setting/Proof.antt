@@ -5,9 +5,9 @@ use mathlib.Core.Path.{_≡_, refl, _∙_}
 use lib.ListN.{length, length-set}
 use Rattle.lists.specs.Tables.{overwrite-none, overwrite-step, overwrite-done}
 use Rattle.lists.specs.Lists.{overwrite}
-use Rattle.dataset.specs.Places.{movedSetting, moved-setting}
-use Rattle.dataset.proofs.memory.remove_setting.Statement.{statement}
-use Rattle.dataset.proofs.memory.remove_setting.Tie as tie
+use Rattle.storage.specs.Places.{movedSetting, moved-setting}
+use Rattle.storage.proofs.remove_setting.Statement.{statement}
+use Rattle.storage.proofs.remove_setting.Tie as tie
 
 abbrev Inv-loop : tie.InvT-loop
 Inv-loop settings₀ m i₀ settings i = (i ≤ 120) × (settings ≡ overwrite i (movedSetting settings₀ m) settings₀) × (length settings ≡ length settings₀)

@@ -1,8 +1,8 @@
 -- `moved_distance` meets its contract: one law of Places for each way out. Assumes nothing.
 use borrow.Author.Needs.{needs}
-use Rattle.dataset.specs.Places.{moved-no-row, moved-no-column, moved-place}
-use Rattle.dataset.proofs.memory.moved_distance.Statement.{statement}
-use Rattle.dataset.proofs.memory.moved_distance.Tie as tie
+use Rattle.storage.specs.Places.{moved-no-row, moved-no-column, moved-place}
+use Rattle.storage.proofs.moved_distance.Statement.{statement}
+use Rattle.storage.proofs.moved_distance.Tie as tie
 
 number-before-requires : tie.Need-number-before-requires
 number-before-requires c κs = search needs

@@ -2,8 +2,8 @@
 use native.Mathlib.Omega.{arith}
 use borrow.Author.Tests.{lt-ltb, le-ltb}
 use borrow.Author.Needs.{needs}
-use Rattle.dataset.proofs.memory.number_before.Statement.{statement}
-use Rattle.dataset.proofs.memory.number_before.Tie as tie
+use Rattle.storage.proofs.number_before.Statement.{statement}
+use Rattle.storage.proofs.number_before.Tie as tie
 
 returns : tie.Need-returns
 returns c = (rw (lt-ltb _ _ (c .if1 .taken)), omega arith)

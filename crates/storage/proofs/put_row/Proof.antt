@@ -3,9 +3,9 @@ use Prim.Native.Nat.{_≤_, _-_}
 use native.Mathlib.Omega.{arith}
 use mathlib.Core.Path.{_≡_, refl}
 use lib.ListN.{length, length-set}
-use Rattle.dataset.specs.Places.{withRow, row-none, row-more, row-done}
-use Rattle.dataset.proofs.memory.put_row.Statement.{statement}
-use Rattle.dataset.proofs.memory.put_row.Tie as tie
+use Rattle.storage.specs.Places.{withRow, row-none, row-more, row-done}
+use Rattle.storage.proofs.put_row.Statement.{statement}
+use Rattle.storage.proofs.put_row.Tie as tie
 
 abbrev Inv-loop : tie.InvT-loop
 Inv-loop distances₀ row n i₀ distances i = (i ≤ length row) × (distances ≡ withRow row i distances₀) × (length distances ≡ length distances₀)

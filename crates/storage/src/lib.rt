@@ -4,7 +4,7 @@ ghost use Prim.Native.Nat.{_≤_, _<_};
 ghost use lib.ListN.{length};
 ghost use Rattle.lists.specs.Lists.{overwrite};
 ghost use Rattle.study.specs.CallLaws.{skip};
-ghost use Rattle.dataset.specs.Places.{withRow, movedDistance, movedSetting};
+ghost use Rattle.storage.specs.Places.{withRow, movedDistance, movedSetting};
 
 pub fn clear_distances(distances: &mut [u32])
     requires { ⌜ 14400 ≤ length (now distances) ⌝ }
