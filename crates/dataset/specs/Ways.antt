@@ -22,10 +22,10 @@ use Rattle.validity.specs.Memory.{State, stateOf, short, isDataset, studyOf, co
 use Rattle.dataset.specs.Answers.{freshAnswer, heldAnswer, openAnswer, openLeaves, minimaAnswer, minimaLeaves, enterAnswer, enterLeaves, withdrawAnswer, withdrawLeaves}
 use Rattle.validity.specs.Validity.{IsDataset, isDataset-T, study-size, study-distance}
 use Rattle.validity.specs.Layout.{Long, long, own-layout}
-use Rattle.validity.specs.Pairs.{foundOf, found-nothing, found-pair, breaking-same}
+use Rattle.three_tide.specs.Pairs.{foundOf, found-nothing, found-pair, breaking-same}
 use Rattle.storage.specs.Places.{cleared-distances, cleared-settings, withRow, entered-distances, entered-settings, movedDistance, movedSetting, withdrawn-distances, withdrawn-settings}
-use Rattle.validity.specs.declared.three_tide.Found.{Found}
-use Rattle.validity.specs.declared.three_tide.Found.the-variants as Search
+use Rattle.three_tide.specs.declared.Found.{Found}
+use Rattle.three_tide.specs.declared.Found.the-variants as Search
 
 -- a refused call leaves everything
 stays : {a : Answer} {x : Refusal} {v : Verdict} (new old : State) → a ≡ Refused x → verdictOf a ≡ v → old ≡ settled v new old

@@ -4,9 +4,7 @@ use study::Dataset;
 use study::Minima;
 use study::Outcome;
 use study::Refusal;
-use validity::three_tide;
-use validity::three_tide::Found;
-
+use three_tide::Found;
 ghost use mathlib.Core.Path.{_≡_};
 ghost use mathlib.Core.List.{[]};
 ghost use Rattle.study.specs.Refusals.{verdictOf};

@@ -27,7 +27,7 @@ use Rattle.file_format.specs.ReadLaws.{Head, broken, Fits, fits-T, Clear, clear
 use Rattle.validity.specs.Memory.{State, stateOf, studyOf, contentsOf, recordOf, distancesOf, settingsOf, stored}
 use Rattle.validity.specs.Validity.{IsDataset}
 use Rattle.validity.specs.Layout.{setting-none, distance-none, stored-is, stored-contents}
-use Rattle.validity.specs.Pairs.{breaking-same}
+use Rattle.three_tide.specs.Pairs.{breaking-same}
 use Rattle.storage.specs.Places.{withRow, entered-distances, entered-settings}
 
 -- the file's contents with its first t tides

@@ -2,10 +2,10 @@
 use crate::length::bit_length;
 use bit_reader::Field;
 use bit_reader::read_field;
-use validity::three_tide::Found;
-use validity::three_tide::first_broken;
 use study::Answer;
 use study::Refusal;
+use three_tide::Found;
+use three_tide::first_broken;
 ghost use mathlib.Core.Path.{_≡_};
 ghost use Prim.Native.Nat.{_+_, _*_, _^_, _≤_, _<_};
 ghost use lib.ListN.{length};

@@ -4,5 +4,3 @@ pub mod Validity
 pub mod Layout
 pub mod Theorems
 pub mod Proofs
-pub mod Pairs
-pub mod Doubts

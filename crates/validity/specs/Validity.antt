@@ -16,9 +16,13 @@ use Rattle.lists.specs.Tables.{length-tabulate, getD-tabulate}
 use Rattle.lists.specs.Scans.{and-true, each-fails}
 use Rattle.study.specs.declared.Minima.{Minima}
 use Rattle.study.specs.Study.{Tide, size, noTide, tide, distance, validMinima}
+use Rattle.study.specs.Calls.{breaking}
 use Rattle.study.specs.Theorems.{ValidContents}
 use Rattle.study.specs.StudyLaws.{MinimaFit, validMinima-T, distance-both-ways, distance-itself}
 use Rattle.study.specs.TriangleLaws.{Triangle, unbroken, unbroken-of, ordered-rule}
+use Rattle.three_tide.specs.declared.Found.{Found}
+use Rattle.three_tide.specs.declared.Found.the-variants as Search
+use Rattle.three_tide.specs.Pairs.{foundOf, found-nothing, found-pair, rowIn, part-found}
 use Rattle.validity.specs.Memory.{State, validSetting, validPlace, validRow, isDataset, tideOf, studyOf, contentsOf}
 
 -- document 01 on what a book is, of a record and its memory; tides are numbered from 0
@@ -299,6 +303,18 @@ module _ (k : ℕ) (M : Minima) where
       → every 8 (λ j. cond (ltb j k) true (eqb (getD (M .b) j 0) 0)) ≡ validMinima k M
   unfolding validMinima
   zeros-decide a b c = rw (a, eq-eqb (length (M .b)) 8 b, c) (and-true (every 8 (λ j. cond (ltb j k) true (eqb (getD (M .b) j 0) 0))))
+
+-- ---- the three-tide rule of a tide, by what the search finds
+
+module _ (d : List ℕ) (t : ℕ) (fits : 14400 ≤ length d) (held : t < 120) {r : Found}
+    (e : r ≡ foundOf (breaking (at d) (length (rowIn d t)) (λ i. getD (rowIn d t) i 0))) where
+  pub row-holds : r ≡ Search.Nothing → true ≡ validRow d t
+  unfolding validRow
+  row-holds q = sym (found-nothing (breaking (at d) t (at d t)) (sym (part-found d t fits held e) ∙ q))
+
+  pub row-breaks : {i j : ℕ} → r ≡ Search.Pair i j → false ≡ validRow d t
+  unfolding validRow
+  row-breaks {i} {j} q = sym (found-pair (breaking (at d) t (at d t)) i j (sym (part-found d t fits held e) ∙ q) .0)
 
 -- ---- the contents of a dataset
 

@@ -1,11 +1,8 @@
 // Reason 21: whether a record and memory are a dataset. Each function is one test of specs/Memory.antt.
 // A dataset (document 01: book) is a record and lent memory: 14,400 distances in rows of 120, and 120 setting bytes.
-use crate::three_tide::Found;
 use study::Dataset;
 use study::Minima;
-
-pub mod three_tide;
-
+use three_tide::Found;
 ghost use mathlib.Core.Path.{_≡_};
 ghost use mathlib.Core.Bool.{true, cond};
 ghost use Prim.Native.Nat.{_≤_, _<_};

@@ -4,11 +4,11 @@ use native.Mathlib.Omega.{arith}
 use mathlib.Core.Path.{_≡_, refl, sym, ap, _∙_}
 use lib.ListN.{length, getD}
 use Rattle.study.specs.Calls.{breaking}
-use Rattle.validity.specs.Pairs.{foundOf, pairsFrom, pairsAt, search-starts, search-enters, search-passes, search-finds, search-leaves, search-ends}
-use Rattle.validity.specs.declared.three_tide.Found.the-variants.{Nothing}
+use Rattle.three_tide.specs.Pairs.{foundOf, pairsFrom, pairsAt, search-starts, search-enters, search-passes, search-finds, search-leaves, search-ends}
+use Rattle.three_tide.specs.declared.Found.the-variants.{Nothing}
 use Rattle.lists.specs.Lists.{at}
-use Rattle.validity.proofs.three_tide.search.Statement.{statement}
-use Rattle.validity.proofs.three_tide.search.Tie as tie
+use Rattle.three_tide.proofs.search.Statement.{statement}
+use Rattle.three_tide.proofs.search.Tie as tie
 
 abbrev Inv-loop : tie.InvT-loop
 Inv-loop distances row n found₀ i x line j₀ found j =

@@ -1,7 +1,7 @@
 -- The quick test of the three-tide rule at one more tide: where it adds up to 0, no pair breaks the rule. Assumes nothing.
 use Prim.Native.Nat.{ℕ, _+_, _-_, _*_, _/_, _%_, _≤_, _<_}
 use native.Mathlib.Omega.{arith}
-use mathlib.Core.Path.{_≡_, sym, ap, ap₂, _∙_, subst}
+use mathlib.Core.Path.{_≡_, ap, _∙_, subst}
 use mathlib.Core.Logic.{⊎-elim}
 use mathlib.Core.List.{List}
 use lib.ListN.{length, take, drop, getD, length-take, length-drop}
@@ -10,8 +10,8 @@ use Rattle.lists.specs.Lists.{at}
 use Rattle.lists.specs.Tests.{split}
 use Rattle.study.specs.Calls.{breaking}
 use Rattle.study.specs.TriangleLaws.{Triangle, unbroken-of}
-use Rattle.validity.specs.Pairs.{foundOf, nothing-found}
-use Rattle.validity.specs.declared.three_tide.Found.the-variants as Search
+use Rattle.three_tide.specs.Pairs.{foundOf, nothing-found}
+use Rattle.three_tide.specs.declared.Found.the-variants as Search
 
 -- ---- one triple
 

@@ -3,9 +3,9 @@ use Prim.Native.Nat.{ℕ, _≤_, _-_}
 use native.Mathlib.Omega.{arith}
 use mathlib.Core.Path.{_≡_}
 use lib.ListN.{length, length-take, length-drop}
-use Rattle.validity.specs.Doubts.{Undoubted, undoubted-none, undoubted-more, undoubted-all}
-use Rattle.validity.proofs.three_tide.undoubted.Statement.{statement}
-use Rattle.validity.proofs.three_tide.undoubted.Tie as tie
+use Rattle.three_tide.specs.Doubts.{Undoubted, undoubted-none, undoubted-more, undoubted-all}
+use Rattle.three_tide.proofs.undoubted.Statement.{statement}
+use Rattle.three_tide.proofs.undoubted.Tie as tie
 
 abbrev Inv-loop : tie.InvT-loop
 Inv-loop distances row n i₀ i = (i ≤ length row) × Undoubted distances row i

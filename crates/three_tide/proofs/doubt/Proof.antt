@@ -1,9 +1,9 @@
 -- `doubt` meets its contract: three differences of which none has its top bit. Assumes nothing.
 use borrow.Author.Needs.{needs}
 use native.Mathlib.Omega.{arith}
-use Rattle.validity.specs.Doubts.{no-doubt}
-use Rattle.validity.proofs.three_tide.doubt.Statement.{statement}
-use Rattle.validity.proofs.three_tide.doubt.Tie as tie
+use Rattle.three_tide.specs.Doubts.{no-doubt}
+use Rattle.three_tide.proofs.doubt.Statement.{statement}
+use Rattle.three_tide.proofs.doubt.Tie as tie
 
 wrapping-sub-u32-requires : tie.Need-wrapping-sub-u32-requires
 wrapping-sub-u32-requires c κs = search needs

@@ -8,8 +8,8 @@ ghost use lib.ListN.{length, getD};
 ghost use Rattle.study.specs.Calls.{triangle, breaking};
 ghost use Rattle.study.specs.TriangleLaws.{Triangle};
 ghost use Rattle.lists.specs.Lists.{at};
-ghost use Rattle.validity.specs.Pairs.{foundOf};
-ghost use Rattle.validity.specs.Doubts.{Doubts, Undoubted};
+ghost use Rattle.three_tide.specs.Pairs.{foundOf};
+ghost use Rattle.three_tide.specs.Doubts.{Doubts, Undoubted};
 
 // A pair of tides numbered from 1, the lower number first.
 pub enum Found {
@@ -90,6 +90,7 @@ fn undoubted(distances: &[u32], row: &[u32]) -> bool
     true
 }
 
+// The first pair with which a tide at the row's distances breaks the rule, by a test of pair after pair.
 fn search(distances: &[u32], row: &[u32]) -> Found
     requires { ⌜ 14400 ≤ length (now distances) ⌝ }
     requires { ⌜ length (now row) ≤ 120 ⌝ }

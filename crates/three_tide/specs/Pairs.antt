@@ -14,9 +14,8 @@ use Rattle.lists.specs.Lists.{_∈_, range, filter, isEmpty, at}
 use Rattle.lists.specs.Members.{range-mem}
 use Rattle.study.specs.Refusals.{seven}
 use Rattle.study.specs.Calls.{triangle, Pair, breaking, firstPair}
-use Rattle.validity.specs.Memory.{validRow}
-use Rattle.validity.specs.declared.three_tide.Found.{Found}
-use Rattle.validity.specs.declared.three_tide.Found.the-variants as Search
+use Rattle.three_tide.specs.declared.Found.{Found}
+use Rattle.three_tide.specs.declared.Found.the-variants as Search
 
 -- the first of these pairs, numbered from 1
 abbrev pub foundOf : List Pair → Found
@@ -119,27 +118,22 @@ breaking-same dist dist′ n new new′ e f =
 
 -- ---- tide t's own row in memory, as a part of it
 
-module _ (d : List ℕ) (t : ℕ) (fits : 14400 ≤ length d) (held : t < 120) where
-  abbrev part : List ℕ
-  part = take (t * 120 + t - t * 120) (drop (t * 120) d)
+abbrev pub rowIn : List ℕ → ℕ → List ℕ
+rowIn d t = take (t * 120 + t - t * 120) (drop (t * 120) d)
 
-  part-length : length part ≡ t
+module _ (d : List ℕ) (t : ℕ) (fits : 14400 ≤ length d) (held : t < 120) where
+  part-length : length (rowIn d t) ≡ t
   part-length = simp (length-take, length-drop) (omega arith)
 
-  part-at : (i : ℕ) → i < t → getD part i 0 ≡ at d t i
+  part-at : (i : ℕ) → i < t → getD (rowIn d t) i 0 ≡ at d t i
   part-at i l =
       let k : i < t * 120 + t - t * 120 = omega arith in
       getD-take (t * 120 + t - t * 120) (drop (t * 120) d) i 0 k ∙ getD-drop (t * 120) d i 0
 
-  pub part-breaking : breaking (at d) (length part) (λ i. getD part i 0) ≡ breaking (at d) t (at d t)
+  pub part-breaking : breaking (at d) (length (rowIn d t)) (λ i. getD (rowIn d t) i 0) ≡ breaking (at d) t (at d t)
   part-breaking =
-      ap (λ (k : ℕ). breaking (at d) k (λ i. getD part i 0)) part-length
-      ∙ breaking-same (at d) (at d) t (λ i. getD part i 0) (at d t) (λ i j a b. refl) part-at
+      ap (λ (k : ℕ). breaking (at d) k (λ i. getD (rowIn d t) i 0)) part-length
+      ∙ breaking-same (at d) (at d) t (λ i. getD (rowIn d t) i 0) (at d t) (λ i j a b. refl) part-at
 
-  pub row-holds : {r : Found} → r ≡ foundOf (breaking (at d) (length part) (λ i. getD part i 0)) → r ≡ Search.Nothing → true ≡ validRow d t
-  unfolding validRow
-  row-holds e q = sym (found-nothing (breaking (at d) t (at d t)) (ap foundOf (sym part-breaking) ∙ sym e ∙ q))
-
-  pub row-breaks : {r : Found} {i j : ℕ} → r ≡ foundOf (breaking (at d) (length part) (λ i. getD part i 0)) → r ≡ Search.Pair i j → false ≡ validRow d t
-  unfolding validRow
-  row-breaks {r} {i} {j} e q = sym (found-pair (breaking (at d) t (at d t)) i j (ap foundOf (sym part-breaking) ∙ sym e ∙ q) .0)
+  pub part-found : {r : Found} → r ≡ foundOf (breaking (at d) (length (rowIn d t)) (λ i. getD (rowIn d t) i 0)) → r ≡ foundOf (breaking (at d) t (at d t))
+  part-found e = e ∙ ap foundOf part-breaking

@@ -1,8 +1,8 @@
 -- `first_broken` meets its contract: without a doubt there is no pair, and else the search finds it. Assumes nothing.
 use borrow.Author.Needs.{needs}
-use Rattle.validity.specs.Doubts.{undoubted-found}
-use Rattle.validity.proofs.three_tide.first_broken.Statement.{statement}
-use Rattle.validity.proofs.three_tide.first_broken.Tie as tie
+use Rattle.three_tide.specs.Doubts.{undoubted-found}
+use Rattle.three_tide.proofs.first_broken.Statement.{statement}
+use Rattle.three_tide.proofs.first_broken.Tie as tie
 
 undoubted-requires : tie.Need-undoubted-requires
 undoubted-requires c κs = search needs

@@ -2,8 +2,8 @@
 use borrow.Author.Needs.{needs}
 use borrow.Author.Tests.{le-leb, lt-leb}
 use Rattle.study.specs.Calls.{triangle}
-use Rattle.validity.proofs.three_tide.broken.Statement.{statement}
-use Rattle.validity.proofs.three_tide.broken.Tie as tie
+use Rattle.three_tide.proofs.broken.Statement.{statement}
+use Rattle.three_tide.proofs.broken.Tie as tie
 
 add-if1 : tie.Need-add-if1
 add-if1 c = search needs

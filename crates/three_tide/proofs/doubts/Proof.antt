@@ -2,9 +2,9 @@
 use Prim.Native.Nat.{_≤_, _-_}
 use native.Mathlib.Omega.{arith}
 use lib.ListN.{length}
-use Rattle.validity.specs.Doubts.{Doubts, doubts-none, doubts-more, doubts-done}
-use Rattle.validity.proofs.three_tide.doubts.Statement.{statement}
-use Rattle.validity.proofs.three_tide.doubts.Tie as tie
+use Rattle.three_tide.specs.Doubts.{Doubts, doubts-none, doubts-more, doubts-done}
+use Rattle.three_tide.proofs.doubts.Statement.{statement}
+use Rattle.three_tide.proofs.doubts.Tie as tie
 
 abbrev Inv-loop : tie.InvT-loop
 Inv-loop line y row n total₀ j₀ total j = (j ≤ length row) × Doubts line y row j total
