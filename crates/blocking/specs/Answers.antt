@@ -8,7 +8,7 @@ use Rattle.study.specs.Problem.{blocking}
 use Rattle.study.specs.Study.{size, problem}
 use Rattle.study.specs.Refusals.{Verdict, settled, Reply, replied}
 use Rattle.study.specs.Calls.{centresReasons, centreNumbers, blockReasons, Figures, figures, blockRecord, judgeReasons, Judgement, judgement}
-use Rattle.dataset.specs.Memory.{State, studyOf}
+use Rattle.validity.specs.Memory.{State, studyOf}
 use Rattle.dataset.specs.Answers.{heldAnswer}
 
 -- ---- Centres at g, lent a list

@@ -23,8 +23,8 @@ use Rattle.study.specs.Calls.{blockReasons, Figures, figures, blockRecord}
 use Rattle.study.specs.CallLaws.{none-holds}
 use Rattle.radii.specs.Posed.{posed, ball, Sized, Proper}
 use Rattle.blocks.specs.Core.{Blocks}
-use Rattle.dataset.specs.Memory.{State, studyOf, contentsOf}
-use Rattle.dataset.specs.Validity.{study-size}
+use Rattle.validity.specs.Memory.{State, studyOf, contentsOf}
+use Rattle.validity.specs.Validity.{study-size}
 use Rattle.dataset.specs.Ways.{held-own, accepted-held, Passed, passed-by}
 use Rattle.blocking.specs.declared.block.BlockRows.{BlockRows}
 use Rattle.blocking.specs.Answers.{blockAnswer, blockReply, blockList, blockRecords}

@@ -22,8 +22,8 @@ use Rattle.study.specs.Calls.{centresReasons, centreNumbers}
 use Rattle.study.specs.CallLaws.{none-holds}
 use Rattle.radii.specs.Posed.{within, posed}
 use Rattle.radius.specs.Front.{CentresAt, front-at}
-use Rattle.dataset.specs.Memory.{State, studyOf, contentsOf}
-use Rattle.dataset.specs.Validity.{study-size}
+use Rattle.validity.specs.Memory.{State, studyOf, contentsOf}
+use Rattle.validity.specs.Validity.{study-size}
 use Rattle.dataset.specs.Ways.{held-own, accepted-held, Passed, passed-by}
 use Rattle.blocking.specs.Answers.{centresAnswer, centresFront, centresLeaves}
 use Rattle.blocking.specs.Linked.{linked}

@@ -19,8 +19,8 @@ use Rattle.study.specs.Refusals.{number, numbered, Verdict, accepted, refused, 
 use Rattle.study.specs.Calls.{judgeReasons, approved, approval, disapproval, judgement}
 use Rattle.study.specs.CallLaws.{none-holds}
 use Rattle.radii.specs.Posed.{posed}
-use Rattle.dataset.specs.Memory.{State, studyOf, contentsOf}
-use Rattle.dataset.specs.Validity.{study-size}
+use Rattle.validity.specs.Memory.{State, studyOf, contentsOf}
+use Rattle.validity.specs.Validity.{study-size}
 use Rattle.dataset.specs.Ways.{held-own, accepted-held, Passed, passed-by}
 use Rattle.blocking.specs.Answers.{judgeAnswer, judgeReply}
 use Rattle.blocking.specs.Linked.{linked, sized}

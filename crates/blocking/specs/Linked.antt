@@ -15,9 +15,9 @@ use Rattle.study.specs.Study.{size, tide, distance, meets, sufficient, problem}
 use Rattle.study.specs.Theorems.{Lawful}
 use Rattle.study.specs.StudyLaws.{meets-T, study-lawful}
 use Rattle.radii.specs.Posed.{within, within-is, within-none, posed, Sized, Proper}
-use Rattle.dataset.specs.Memory.{State, studyOf, contentsOf}
-use Rattle.dataset.specs.Validity.{IsDataset, study-size, study-setting, study-distance, valid-contents}
-use Rattle.dataset.specs.Layout.{Long, distance-none}
+use Rattle.validity.specs.Memory.{State, studyOf, contentsOf}
+use Rattle.validity.specs.Validity.{IsDataset, study-size, study-setting, study-distance, valid-contents}
+use Rattle.validity.specs.Layout.{Long, distance-none}
 
 -- settings and the set count only of the tides there are
 pub meets-same : (M : Minima) (n : ℕ) {s r : ℕ → ℕ} {p q : ℕ → Bool} → ((t : ℕ) → t < n → s t ≡ r t) → ((t : ℕ) → t < n → p t ≡ q t)

@@ -5,7 +5,7 @@ use mathlib.Core.List.{List}
 use lib.ListN.{length, getD, replicate}
 use Rattle.lists.specs.Lists.{overwrite}
 use Rattle.study.specs.declared.BlockRecord.{BlockRecord}
-use Rattle.dataset.specs.Memory.{State}
+use Rattle.validity.specs.Memory.{State}
 use Rattle.blocking.specs.declared.block.BlockRows.{BlockRows}
 use Rattle.blocking.specs.Answers.{blockRecords}
 

@@ -10,7 +10,7 @@ ghost use mathlib.Core.Path.{_≡_};
 ghost use lib.ListN.{length};
 ghost use Rattle.study.specs.Refusals.{verdictOf};
 ghost use Rattle.study.specs.Calls.{blockedOf};
-ghost use Rattle.dataset.specs.Memory.{stateOf};
+ghost use Rattle.validity.specs.Memory.{stateOf};
 ghost use Rattle.blocking.specs.Answers.{blockAnswer, blockReply, blockList};
 ghost use Rattle.blocking.specs.BlockLaws.{BlockTold};
 ghost use Rattle.blocking.specs.Rows.{RowsOf};

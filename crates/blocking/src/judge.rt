@@ -17,7 +17,7 @@ ghost use Rattle.study.specs.Study.{meets};
 ghost use Rattle.study.specs.Refusals.{verdictOf};
 ghost use Rattle.study.specs.Calls.{judgedOf};
 ghost use Rattle.radius.specs.Tally.{Tallied};
-ghost use Rattle.dataset.specs.Memory.{stateOf};
+ghost use Rattle.validity.specs.Memory.{stateOf};
 ghost use Rattle.blocking.specs.Answers.{judgeAnswer, judgeReply};
 ghost use Rattle.blocking.specs.JudgeLaws.{Listed};
 

@@ -9,7 +9,7 @@ ghost use Prim.Native.Nat.{_<_, _≤_};
 ghost use lib.ListN.{length};
 ghost use Rattle.lists.specs.Lists.{overwrite};
 ghost use Rattle.study.specs.Calls.{blockedOf};
-ghost use Rattle.dataset.specs.Memory.{stateOf};
+ghost use Rattle.validity.specs.Memory.{stateOf};
 ghost use Rattle.blocking.specs.Answers.{blockReply, blockList, blockRecords};
 ghost use Rattle.blocking.specs.Rows.{rowAt, noRecords};
 

@@ -13,7 +13,7 @@ use Rattle.study.specs.Study.{Study, problem}
 use Rattle.study.specs.Refusals.{number, seven, Verdict, accepted, refused, settled}
 use Rattle.study.specs.Calls.{centreNumbers, Figures, figures, blockRecord, Judgement, approval, disapproval, judgement}
 use Rattle.file_format.specs.File.{fileOf}
-use Rattle.dataset.specs.Memory.{State, stateOf, studyOf, contentsOf}
+use Rattle.validity.specs.Memory.{State, stateOf, studyOf, contentsOf}
 use Rattle.dataset.specs.Answers.{openAnswer, openLeaves, minimaAnswer, minimaLeaves, enterAnswer, enterLeaves, withdrawAnswer, withdrawLeaves}
 use Rattle.study_file.specs.Answers.{readAnswer, readLeaves, writeAnswer}
 use Rattle.blocking.specs.Answers.{centresAnswer, blockAnswer, judgeAnswer}

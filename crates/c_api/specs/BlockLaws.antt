@@ -20,8 +20,8 @@ use Rattle.study.specs.Refusals.{numbered, Verdict, accepted, refused, settled,
 use Rattle.study.specs.Calls.{blockReasons, Figures, figures, blockRecord, blockedOf}
 use Rattle.study.specs.CallLaws.{none-holds}
 use Rattle.study.specs.Proofs.{for-problem, for-study}
-use Rattle.dataset.specs.Memory.{State, isDataset, studyOf, contentsOf}
-use Rattle.dataset.specs.Proofs.{for-datasets}
+use Rattle.validity.specs.Memory.{State, isDataset, studyOf, contentsOf}
+use Rattle.validity.specs.Proofs.{for-datasets}
 use Rattle.dataset.specs.Ways.{accepted-held}
 use Rattle.blocking.specs.declared.block.BlockRows.{BlockRows}
 use Rattle.blocking.specs.Answers.{blockAnswer, blockReply, blockList, blockRecords}

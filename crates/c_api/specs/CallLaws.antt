@@ -23,9 +23,9 @@ use Rattle.file_format.specs.File.{decoded, headReasons, tideReasons, readReaso
 use Rattle.file_format.specs.Proofs.{files}
 use Rattle.file_format.specs.BitLaws.{bitsAt-small}
 use Rattle.file_format.specs.DecodedLaws.{decoded-size}
-use Rattle.dataset.specs.Memory.{State, stateOf, short, isDataset, contentsOf, recordOf, stored}
+use Rattle.validity.specs.Memory.{State, stateOf, short, isDataset, contentsOf, recordOf, stored}
 use Rattle.dataset.specs.Answers.{freshAnswer, heldAnswer, openAnswer, openLeaves, minimaAnswer, minimaLeaves, enterAnswer, enterLeaves, withdrawAnswer, withdrawLeaves}
-use Rattle.dataset.specs.Proofs.{for-datasets}
+use Rattle.validity.specs.Proofs.{for-datasets}
 use Rattle.dataset.specs.Ways.{accepted-held}
 use Rattle.study_file.specs.Answers.{readAnswer, readLeaves}
 use Rattle.c_api.specs.Api.{Lent, lent, minimaAt, numbersOf, stateIn, code, roomFirst, lacks, over, left, openVerdict, openLeft, minimaVerdict, minimaLeft, enterVerdict, enterLeft, withdrawVerdict, withdrawLeft, readVerdict, readLeft}

@@ -13,7 +13,7 @@ use Rattle.study.specs.declared.Refusal.the-variants as Because
 use Rattle.study.specs.Study.{Contents}
 use Rattle.study.specs.Refusals.{number, numbered, Verdict, refused, Reason, firstOf}
 use Rattle.study.specs.Calls.{triangle, Pair, breaking, firstPair}
-use Rattle.dataset.specs.Memory.{State, short, isDataset, contentsOf}
+use Rattle.validity.specs.Memory.{State, short, isDataset, contentsOf}
 use Rattle.dataset.specs.Answers.{freshAnswer, heldAnswer}
 use Rattle.c_api.specs.Api.{code}
 

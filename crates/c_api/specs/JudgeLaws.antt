@@ -12,7 +12,7 @@ use Rattle.study.specs.declared.Judged.the-variants as Judges
 use Rattle.study.specs.Study.{Contents}
 use Rattle.study.specs.Refusals.{numbered, accepted, refused, value, Reason}
 use Rattle.study.specs.Calls.{judgeReasons, Judgement, judgement, judgedOf}
-use Rattle.dataset.specs.Memory.{State, studyOf, contentsOf}
+use Rattle.validity.specs.Memory.{State, studyOf, contentsOf}
 use Rattle.blocking.specs.Answers.{judgeAnswer, judgeReply}
 use Rattle.c_api.specs.Api.{Lent, code, over, output, judgementNumbers, judgeVerdict, judgeResult}
 use Rattle.c_api.specs.RecordLaws.{withRecord, front-written}

@@ -19,9 +19,9 @@ use Rattle.study.specs.Theorems.{ValidContents}
 use Rattle.file_format.specs.File.{fileOf, byteLength}
 use Rattle.file_format.specs.Proofs.{files}
 use Rattle.radius.specs.Front.{centres-few}
-use Rattle.dataset.specs.Memory.{State, isDataset, studyOf, contentsOf}
+use Rattle.validity.specs.Memory.{State, isDataset, studyOf, contentsOf}
 use Rattle.dataset.specs.Answers.{heldAnswer}
-use Rattle.dataset.specs.Proofs.{for-datasets}
+use Rattle.validity.specs.Proofs.{for-datasets}
 use Rattle.dataset.specs.Ways.{accepted-held}
 use Rattle.study_file.specs.declared.Written.{Written}
 use Rattle.study_file.specs.declared.Written.the-variants as Outcome

@@ -19,9 +19,9 @@ use Rattle.study.specs.declared.Minima.{Minima}
 use Rattle.study.specs.declared.Dataset.{Dataset}
 use Rattle.study.specs.Study.{Contents}
 use Rattle.study.specs.Refusals.{accepted, Reason}
-use Rattle.dataset.specs.Memory.{State, stateOf, short, isDataset, contentsOf}
+use Rattle.validity.specs.Memory.{State, stateOf, short, isDataset, contentsOf}
 use Rattle.dataset.specs.Answers.{freshAnswer, heldAnswer}
-use Rattle.dataset.specs.Validity.{IsDataset, isDataset-T}
+use Rattle.validity.specs.Validity.{IsDataset, isDataset-T}
 use Rattle.dataset.specs.Ways.{accepted-held}
 use Rattle.c_api.specs.Api.{Lent, minimaAt, datasetOf, numbersOf, stateIn, over}
 

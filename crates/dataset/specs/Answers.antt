@@ -6,7 +6,7 @@ use Rattle.study.specs.declared.Minima.{Minima}
 use Rattle.study.specs.Study.{Contents}
 use Rattle.study.specs.Refusals.{number, Verdict, refused, settled, Reason, firstOf}
 use Rattle.study.specs.Calls.{openReasons, opening, minimaReasons, settingMinima, enterReasons, entering, withdrawReasons, withdrawing}
-use Rattle.dataset.specs.Memory.{State, short, isDataset, contentsOf, stored}
+use Rattle.validity.specs.Memory.{State, short, isDataset, contentsOf, stored}
 
 -- short memory first; then the call's own verdict
 unfoldable pub freshAnswer : State → Verdict → Verdict

@@ -18,14 +18,14 @@ use Rattle.study.specs.Study.{Study, Contents, size, tide, distance, validMinim
 use Rattle.study.specs.Refusals.{Numbered, number, seven, numbered, Verdict, accepted, refused, verdictOf, settled, Reason, firstOf}
 use Rattle.study.specs.Calls.{openReasons, opened, opening, minimaReasons, withMinima, settingMinima, Pair, breaking, enterReasons, entered, entering, withdrawReasons, withdrawn, withdrawing}
 use Rattle.study.specs.CallLaws.{enters, entered-size, withdraws, withdrawn-size}
-use Rattle.dataset.specs.Memory.{State, stateOf, short, isDataset, studyOf, contentsOf, recordOf, distancesOf, settingsOf, stored}
+use Rattle.validity.specs.Memory.{State, stateOf, short, isDataset, studyOf, contentsOf, recordOf, distancesOf, settingsOf, stored}
 use Rattle.dataset.specs.Answers.{freshAnswer, heldAnswer, openAnswer, openLeaves, minimaAnswer, minimaLeaves, enterAnswer, enterLeaves, withdrawAnswer, withdrawLeaves}
-use Rattle.dataset.specs.Validity.{IsDataset, isDataset-T, study-size, study-distance}
-use Rattle.dataset.specs.Layout.{Long, long, own-layout}
-use Rattle.dataset.specs.Pairs.{foundOf, found-nothing, found-pair, breaking-same}
-use Rattle.dataset.specs.Places.{cleared-distances, cleared-settings, withRow, entered-distances, entered-settings, movedDistance, movedSetting, withdrawn-distances, withdrawn-settings}
-use Rattle.dataset.specs.declared.three_tide.Found.{Found}
-use Rattle.dataset.specs.declared.three_tide.Found.the-variants as Search
+use Rattle.validity.specs.Validity.{IsDataset, isDataset-T, study-size, study-distance}
+use Rattle.validity.specs.Layout.{Long, long, own-layout}
+use Rattle.three_tide.specs.Pairs.{foundOf, found-nothing, found-pair, breaking-same}
+use Rattle.storage.specs.Places.{cleared-distances, cleared-settings, withRow, entered-distances, entered-settings, movedDistance, movedSetting, withdrawn-distances, withdrawn-settings}
+use Rattle.three_tide.specs.declared.Found.{Found}
+use Rattle.three_tide.specs.declared.Found.the-variants as Search
 
 -- a refused call leaves everything
 stays : {a : Answer} {x : Refusal} {v : Verdict} (new old : State) → a ≡ Refused x → verdictOf a ≡ v → old ≡ settled v new old

@@ -1,20 +1,14 @@
 // Open, Minima, Enter, Withdraw: for any record and memory of any length, the answer and what stands afterwards.
-// A dataset (document 01: book) is a record and lent memory: 14,400 distances in rows of 120, and 120 setting bytes.
-use crate::three_tide::Found;
 use study::Answer;
 use study::Dataset;
 use study::Minima;
 use study::Outcome;
 use study::Refusal;
-
-mod memory;
-pub mod three_tide;
-pub mod validity;
-
+use three_tide::Found;
 ghost use mathlib.Core.Path.{_≡_};
 ghost use mathlib.Core.List.{[]};
 ghost use Rattle.study.specs.Refusals.{verdictOf};
-ghost use Rattle.dataset.specs.Memory.{stateOf};
+ghost use Rattle.validity.specs.Memory.{stateOf};
 ghost use Rattle.dataset.specs.Answers.{heldAnswer, openAnswer, openLeaves, minimaAnswer, minimaLeaves, enterAnswer, enterLeaves, withdrawAnswer, withdrawLeaves};
 ghost use Rattle.dataset.specs.Ways.{Passed, EnterTold, WithdrawTold};
 
@@ -47,8 +41,8 @@ pub fn open(dataset: Dataset, distances: &mut [u32], settings: &mut [u8], k: u8)
             dataset,
         };
     }
-    memory::clear_distances(distances);
-    memory::clear_settings(settings);
+    storage::clear_distances(distances);
+    storage::clear_settings(settings);
     let minima = Minima { b0: 1, b: [0; 8] };
     let empty = Dataset {
         k,
@@ -152,7 +146,7 @@ fn add_tide(
     ensures { λ r. ⌜ stateOf r (now (distances .exit)) (now (settings .exit)) ≡ enterLeaves (stateOf dataset (now (distances .entry)) (now (settings .entry))) setting (now (row .entry)) ⌝ }
 {
     let n = dataset.n;
-    memory::put_row(distances, row);
+    storage::put_row(distances, row);
     settings[n] = setting;
     let minima = dataset.minima;
     Dataset {
@@ -218,8 +212,8 @@ fn remove_tide(dataset: Dataset, distances: &mut [u32], settings: &mut [u8], tid
     ensures { λ r. ⌜ stateOf r (now (distances .exit)) (now (settings .exit)) ≡ withdrawLeaves (stateOf dataset (now (distances .entry)) (now (settings .entry))) tide ⌝ }
 {
     let m = tide as usize - 1;
-    memory::remove_row(distances, m);
-    memory::remove_setting(settings, m);
+    storage::remove_row(distances, m);
+    storage::remove_setting(settings, m);
     let minima = dataset.minima;
     Dataset {
         k: dataset.k,

@@ -24,7 +24,7 @@ use Rattle.study.specs.Approximation.{assignment-feasible}
 use Rattle.study.specs.StudyLaws.{meets-T, validMinima-T}
 use Rattle.study.specs.CallLaws.{none-holds}
 use Rattle.study.specs.Proofs.{for-problem, for-study}
-use Rattle.dataset.specs.Memory.{State, short, studyOf, contentsOf}
+use Rattle.validity.specs.Memory.{State, short, studyOf, contentsOf}
 use Rattle.dataset.specs.Ways.{held-own}
 use Rattle.blocking.specs.Answers.{blockAnswer, blockReply, blockList, blockRecords}
 use Rattle.guarantee.specs.Runs.{call-block, answer}

@@ -15,9 +15,9 @@ use Rattle.study.specs.Theorems.{ValidContents}
 use Rattle.study.specs.Proofs.{for-calls}
 use Rattle.file_format.specs.File.{decoded, readReasons}
 use Rattle.file_format.specs.Proofs.{files}
-use Rattle.dataset.specs.Memory.{State, short, isDataset, contentsOf, stored}
+use Rattle.validity.specs.Memory.{State, short, isDataset, contentsOf, stored}
 use Rattle.dataset.specs.Answers.{freshAnswer, heldAnswer, openAnswer, openLeaves, minimaAnswer, minimaLeaves, enterAnswer, enterLeaves, withdrawAnswer, withdrawLeaves}
-use Rattle.dataset.specs.Proofs.{for-datasets}
+use Rattle.validity.specs.Proofs.{for-datasets}
 use Rattle.dataset.specs.Ways.{accepted-held}
 use Rattle.study_file.specs.Answers.{readAnswer, readLeaves}
 use Rattle.blocking.specs.Answers.{blockAnswer}

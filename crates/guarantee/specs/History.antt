@@ -8,7 +8,7 @@ use Rattle.study.specs.Study.{Contents}
 use Rattle.study.specs.Refusals.{number, Verdict, refused, settled, Reason, firstOf}
 use Rattle.study.specs.Calls.{openReasons, opening, minimaReasons, settingMinima, enterReasons, entering, withdrawReasons, withdrawing, blockReasons}
 use Rattle.file_format.specs.File.{decoded, readReasons}
-use Rattle.dataset.specs.Memory.{State, short, isDataset, contentsOf}
+use Rattle.validity.specs.Memory.{State, short, isDataset, contentsOf}
 use Rattle.guarantee.specs.Runs.{Call, call-open, call-read, call-minima, call-enter, call-withdraw, call-block}
 
 -- what record and memory hold: where they are a dataset as described, its contents; otherwise there is none

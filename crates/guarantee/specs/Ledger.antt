@@ -12,7 +12,7 @@ use Rattle.lists.specs.Lists.{range, count, filter}
 use Rattle.study.specs.Study.{Tide, Study, Contents, size, tide, distance}
 use Rattle.study.specs.Refusals.{settled}
 use Rattle.file_format.specs.File.{decoded}
-use Rattle.dataset.specs.Memory.{State, short}
+use Rattle.validity.specs.Memory.{State, short}
 use Rattle.guarantee.specs.Runs.{Call, call-open, call-read, call-minima, call-enter, call-withdraw, call-block}
 use Rattle.guarantee.specs.History.{held, verdict, step}
 

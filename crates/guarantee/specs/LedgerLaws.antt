@@ -21,7 +21,7 @@ use Rattle.study.specs.Refusals.{Verdict, accepted, refused, settled, Reason, f
 use Rattle.study.specs.Calls.{opened, opening, withMinima, settingMinima, enterReasons, entered, entering, withdrawReasons, withdrawn, withdrawing}
 use Rattle.study.specs.CallLaws.{entered-size, entered-old, entered-new, entered-held, entered-row, old-or-new, skip, skip-is, withdrawn-setting, withdrawn-distance, withdrawn-size, skip-inside, withdraws}
 use Rattle.file_format.specs.File.{decoded}
-use Rattle.dataset.specs.Memory.{State, short}
+use Rattle.validity.specs.Memory.{State, short}
 use Rattle.guarantee.specs.Runs.{Call, call-open, call-read, call-minima, call-enter, call-withdraw, call-block, answer, run}
 use Rattle.guarantee.specs.History.{held, onHeld, ownVerdict, verdict, changing, changed, step, following, contentsAfter}
 use Rattle.guarantee.specs.Ledger.{Arrival, Ledger, nobody, named, nameOf, fileLedger, emptyLedger, withArrival, withGone, noting, noted, noteAll, begun, ledgerAfter, Exactly}

@@ -9,7 +9,7 @@ use Rattle.study.specs.declared.BlockRecord.{BlockRecord}
 use Rattle.study.specs.Study.{Contents}
 use Rattle.study.specs.Refusals.{Numbered, value, refusal}
 use Rattle.study.specs.Calls.{Figures}
-use Rattle.dataset.specs.Memory.{State}
+use Rattle.validity.specs.Memory.{State}
 use Rattle.blocking.specs.Answers.{blockReply, blockList}
 use Rattle.guarantee.specs.Runs.{Call, run}
 use Rattle.guarantee.specs.History.{contentsAfter}

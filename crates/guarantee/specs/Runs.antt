@@ -6,7 +6,7 @@ use lib.ListN.{length}
 use Rattle.study.specs.declared.Minima.{Minima}
 use Rattle.study.specs.declared.BlockRecord.{BlockRecord}
 use Rattle.study.specs.Refusals.{Verdict}
-use Rattle.dataset.specs.Memory.{State}
+use Rattle.validity.specs.Memory.{State}
 use Rattle.dataset.specs.Answers.{openAnswer, openLeaves, minimaAnswer, minimaLeaves, enterAnswer, enterLeaves, withdrawAnswer, withdrawLeaves}
 use Rattle.study_file.specs.Answers.{readAnswer, readLeaves}
 use Rattle.blocking.specs.Answers.{blockAnswer}

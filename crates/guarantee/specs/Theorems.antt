@@ -14,7 +14,7 @@ use Rattle.study.specs.Theorems.{Singled}
 use Rattle.study.specs.Refusals.{number, Numbered, accepted, value, refusal}
 use Rattle.study.specs.Calls.{opening, Figures, blockRecord}
 use Rattle.file_format.specs.File.{decoded}
-use Rattle.dataset.specs.Memory.{State, short}
+use Rattle.validity.specs.Memory.{State, short}
 use Rattle.blocking.specs.Answers.{blockReply, blockList, blockRecords}
 use Rattle.guarantee.specs.Runs.{Call, call-open, call-read, answer, run}
 use Rattle.guarantee.specs.History.{held, verdict, contentsAfter}

@@ -16,8 +16,8 @@ use Rattle.study.specs.Study.{size}
 use Rattle.study.specs.CallLaws.{opening-valid, minima-valid, enters, entering-valid}
 use Rattle.study.specs.Calls.{openReasons, opening, minimaReasons, settingMinima, enterReasons, entering}
 use Rattle.study.specs.Refusals.{accepted, verdictOf, settled, firstOf}
-use Rattle.dataset.specs.Memory.{State, stateOf, short, studyOf, contentsOf, stored}
-use Rattle.dataset.specs.Validity.{study-size}
+use Rattle.validity.specs.Memory.{State, stateOf, short, studyOf, contentsOf, stored}
+use Rattle.validity.specs.Validity.{study-size}
 use Rattle.dataset.specs.Answers.{freshAnswer, openAnswer, openLeaves, minimaAnswer, minimaLeaves, enterAnswer, enterLeaves}
 use Rattle.dataset.specs.Ways.{Passed, held-own}
 use Rattle.packing.specs.declared.Packed.{Packed}

@@ -12,8 +12,8 @@ use Rattle.study.specs.declared.Outcome.{Outcome}
 use Rattle.study.specs.Study.{Contents}
 use Rattle.study.specs.Refusals.{Verdict, accepted, refused, verdictOf, settled}
 use Rattle.study.specs.Theorems.{ValidContents}
-use Rattle.dataset.specs.Memory.{State, stateOf, short, isDataset, contentsOf, stored}
-use Rattle.dataset.specs.Proofs.{for-datasets}
+use Rattle.validity.specs.Memory.{State, stateOf, short, isDataset, contentsOf, stored}
+use Rattle.validity.specs.Proofs.{for-datasets}
 use Rattle.dataset.specs.Ways.{Passed, passed-by}
 use Rattle.lists.specs.Tests.{T-true, true-T}
 use Rattle.packing.specs.declared.Packed.{Packed}

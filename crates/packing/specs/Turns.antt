@@ -9,8 +9,8 @@ use Rattle.study.specs.Study.{Contents, size}
 use Rattle.study.specs.Refusals.{Verdict, accepted, refused, firstOf}
 use Rattle.study.specs.Calls.{openReasons, opened, opening, minimaReasons, withMinima, settingMinima, enterReasons, entering}
 use Rattle.study.specs.CallLaws.{entered-size}
-use Rattle.dataset.specs.Memory.{State, stateOf, contentsOf}
-use Rattle.dataset.specs.Validity.{study-size}
+use Rattle.validity.specs.Memory.{State, stateOf, contentsOf}
+use Rattle.validity.specs.Validity.{study-size}
 use Rattle.dataset.specs.Ways.{Passed}
 use Rattle.packing.specs.declared.Packed.{Packed}
 use Rattle.packing.specs.declared.words.Cursor.{Cursor}

@@ -8,7 +8,7 @@ use lib.Dec.{ltb}
 use lib.ListN.{length, drop}
 use borrow.Author.Tests.{lt-ltb, le-ltb}
 use Rattle.study.specs.Refusals.{number, numbered, accepted, refused, settled, value, refusal, replied, firstOf}
-use Rattle.dataset.specs.Memory.{State, stateOf, contentsOf}
+use Rattle.validity.specs.Memory.{State, stateOf, contentsOf}
 use Rattle.dataset.specs.Ways.{Passed, held-own}
 use Rattle.file_format.specs.File.{fileOf}
 use Rattle.study_file.specs.declared.Written.{Written}

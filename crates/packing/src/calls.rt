@@ -18,7 +18,7 @@ use study::Outcome;
 ghost use mathlib.Core.Path.{_≡_};
 ghost use Prim.Native.Nat.{_≤_};
 ghost use lib.ListN.{length};
-ghost use Rattle.dataset.specs.Memory.{stateOf, contentsOf};
+ghost use Rattle.validity.specs.Memory.{stateOf, contentsOf};
 ghost use Rattle.dataset.specs.Ways.{Passed};
 ghost use Rattle.packing.specs.Packing.{minimaFrom, openingOf, minimaOf, headOf, tideOf, entered, turnOf, turnsOf, textOf, going};
 ghost use Rattle.packing.specs.WordLaws.{Within};

@@ -19,10 +19,10 @@ use Rattle.study.specs.Calls.{blockReasons, Figures, figures, blockRecord}
 use Rattle.file_format.specs.File.{decoded, readReasons}
 use Rattle.file_format.specs.ReasonLaws.{firstOf-later, firstOf-sooner}
 use Rattle.file_format.specs.Proofs.{files}
-use Rattle.dataset.specs.Memory.{State, stateOf, short, isDataset, studyOf, contentsOf, stored}
+use Rattle.validity.specs.Memory.{State, stateOf, short, isDataset, studyOf, contentsOf, stored}
 use Rattle.dataset.specs.Answers.{freshAnswer}
-use Rattle.dataset.specs.Proofs.{for-datasets}
-use Rattle.dataset.specs.Layout.{short-no}
+use Rattle.validity.specs.Proofs.{for-datasets}
+use Rattle.validity.specs.Layout.{short-no}
 use Rattle.dataset.specs.Ways.{held-own}
 use Rattle.study_file.specs.Answers.{readAnswer, readLeaves}
 use Rattle.blocking.specs.Answers.{blockAnswer, blockReply, blockRecords}

@@ -12,7 +12,7 @@ ghost use mathlib.Core.Path.{_≡_};
 ghost use Prim.Native.Nat.{_≤_};
 ghost use lib.ListN.{take};
 ghost use Rattle.study.specs.Refusals.{numbered};
-ghost use Rattle.dataset.specs.Memory.{stateOf};
+ghost use Rattle.validity.specs.Memory.{stateOf};
 ghost use Rattle.sheet_text.specs.Text.{refusedText};
 ghost use Rattle.printing.specs.Sheet.{sheetOf};
 ghost use Rattle.printing.specs.Laws.{blockedText};

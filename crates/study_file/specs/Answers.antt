@@ -6,7 +6,7 @@ use lib.ListN.{length, drop}
 use Rattle.study.specs.Study.{Contents}
 use Rattle.study.specs.Refusals.{number, Verdict, settled, Reply, value, refusal, replied, Reason, _⇒_, firstOf, numbered}
 use Rattle.file_format.specs.File.{fileOf, decoded, readReasons}
-use Rattle.dataset.specs.Memory.{State, contentsOf, stored}
+use Rattle.validity.specs.Memory.{State, contentsOf, stored}
 use Rattle.dataset.specs.Answers.{freshAnswer, heldAnswer}
 use Rattle.study_file.specs.declared.Written.{Written}
 use Rattle.study_file.specs.declared.Written.the-variants as Outcome

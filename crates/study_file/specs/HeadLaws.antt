@@ -19,7 +19,7 @@ use Rattle.file_format.specs.File.{bitLength, byteLength, minimaAt, decoded, he
 use Rattle.file_format.specs.DecodedLaws.{decoded-size}
 use Rattle.file_format.specs.ReadLaws.{Head}
 use Rattle.bit_reader.specs.FieldLaws.{Got}
-use Rattle.dataset.specs.Memory.{recordOf}
+use Rattle.validity.specs.Memory.{recordOf}
 use Rattle.lists.specs.Scans.{between-in}
 use Rattle.study_file.specs.Lengths.{length-sum}
 

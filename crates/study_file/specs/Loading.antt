@@ -24,11 +24,11 @@ use Rattle.file_format.specs.BitLaws.{bitsAt-small}
 use Rattle.file_format.specs.DistanceLaws.{distance-near, rule-T}
 use Rattle.file_format.specs.DecodedLaws.{decoded-size, decoded-tide, decoded-setting, decoded-length, decoded-row}
 use Rattle.file_format.specs.ReadLaws.{Head, broken, Fits, fits-T, Clear, clear-none, accepted-T, refused-five, refused-seven, clear-more}
-use Rattle.dataset.specs.Memory.{State, stateOf, studyOf, contentsOf, recordOf, distancesOf, settingsOf, stored}
-use Rattle.dataset.specs.Validity.{IsDataset}
-use Rattle.dataset.specs.Layout.{setting-none, distance-none, stored-is, stored-contents}
-use Rattle.dataset.specs.Pairs.{breaking-same}
-use Rattle.dataset.specs.Places.{withRow, entered-distances, entered-settings}
+use Rattle.validity.specs.Memory.{State, stateOf, studyOf, contentsOf, recordOf, distancesOf, settingsOf, stored}
+use Rattle.validity.specs.Validity.{IsDataset}
+use Rattle.validity.specs.Layout.{setting-none, distance-none, stored-is, stored-contents}
+use Rattle.three_tide.specs.Pairs.{breaking-same}
+use Rattle.storage.specs.Places.{withRow, entered-distances, entered-settings}
 
 -- the file's contents with its first t tides
 unfoldable pub part : List ℕ → ℕ → Contents

@@ -10,9 +10,9 @@ use Rattle.study.specs.Theorems.{ValidContents}
 use Rattle.file_format.specs.File.{fileOf, decoded, readReasons}
 use Rattle.file_format.specs.Theorems.{Bytes}
 use Rattle.file_format.specs.Proofs.{files}
-use Rattle.dataset.specs.Memory.{State, short, isDataset, contentsOf, stored}
+use Rattle.validity.specs.Memory.{State, short, isDataset, contentsOf, stored}
 use Rattle.dataset.specs.Answers.{freshAnswer}
-use Rattle.dataset.specs.Proofs.{for-datasets}
+use Rattle.validity.specs.Proofs.{for-datasets}
 use Rattle.study_file.specs.Answers.{readAnswer, readLeaves}
 use Rattle.study_file.specs.Theorems.{ForFiles}
 

@@ -16,9 +16,9 @@ use Rattle.file_format.specs.File.{tideFields, fields, fileOf, bitLength}
 use Rattle.file_format.specs.BitLaws.{total, length-allBits}
 use Rattle.file_format.specs.RunLaws.{runs-total, values-total}
 use Rattle.file_format.specs.FileLaws.{bitLength-suc}
-use Rattle.dataset.specs.Memory.{State, tideOf, contentsOf, studyOf}
-use Rattle.dataset.specs.Validity.{IsDataset}
-use Rattle.dataset.specs.Layout.{Long}
+use Rattle.validity.specs.Memory.{State, tideOf, contentsOf, studyOf}
+use Rattle.validity.specs.Validity.{IsDataset}
+use Rattle.validity.specs.Layout.{Long}
 use Rattle.study_file.specs.Lengths.{Sum, length-sum, bitLength-up}
 use Rattle.study_file.specs.Writing.{over, Adds, adds-none, adds-then}
 

@@ -16,9 +16,9 @@ use Rattle.file_format.specs.Bits.{bitsAt}
 use Rattle.file_format.specs.File.{decoded, headReasons, readReasons}
 use Rattle.file_format.specs.DecodedLaws.{decoded-size}
 use Rattle.file_format.specs.ReadLaws.{Head, head-T, refused-head}
-use Rattle.dataset.specs.Memory.{State, stateOf, recordOf, stored}
+use Rattle.validity.specs.Memory.{State, stateOf, recordOf, stored}
 use Rattle.dataset.specs.Answers.{freshAnswer}
-use Rattle.dataset.specs.Layout.{short-yes, short-no}
+use Rattle.validity.specs.Layout.{short-yes, short-no}
 use Rattle.study_file.specs.Answers.{readAnswer, readLeaves}
 use Rattle.study_file.specs.Loading.{Loaded, Reading, loaded-none, loaded-accepted, copied-distances, copied-settings}
 

@@ -15,10 +15,10 @@ use Rattle.study.specs.Calls.{Pair, breaking}
 use Rattle.file_format.specs.Bits.{bitsAt}
 use Rattle.file_format.specs.File.{bitLength, byteLength, tideAt}
 use Rattle.bit_reader.specs.FieldLaws.{Got}
-use Rattle.dataset.specs.declared.three_tide.Found.{Found}
-use Rattle.dataset.specs.declared.three_tide.Found.the-variants as Search
-use Rattle.dataset.specs.Pairs.{foundOf, part-breaking}
-use Rattle.dataset.specs.Places.{withRow, row-more}
+use Rattle.three_tide.specs.declared.Found.{Found}
+use Rattle.three_tide.specs.declared.Found.the-variants as Search
+use Rattle.three_tide.specs.Pairs.{foundOf, part-breaking}
+use Rattle.storage.specs.Places.{withRow, row-more}
 use Rattle.study_file.specs.Lengths.{length-sum, bitLength-up}
 use Rattle.study_file.specs.Loading.{Loaded, Reading, pairVerdict, reached, stopped, turn-five, turn-seven, turn-next}
 

@@ -8,7 +8,7 @@ use lib.Dec.{T}
 use Rattle.study.specs.Refusals.{accepted}
 use Rattle.file_format.specs.File.{fileOf}
 use Rattle.file_format.specs.Theorems.{Bytes}
-use Rattle.dataset.specs.Memory.{State, short, isDataset, contentsOf, stored}
+use Rattle.validity.specs.Memory.{State, short, isDataset, contentsOf, stored}
 use Rattle.study_file.specs.Answers.{readAnswer, readLeaves}
 
 pub record ForFiles : Type 0 where

@@ -15,9 +15,9 @@ use Rattle.study.specs.Study.{Contents, size}
 use Rattle.study.specs.Refusals.{number, Verdict, accepted, refused, settled, value, refusal, replied, verdictOf, numbered, firstOf}
 use Rattle.file_format.specs.File.{fields, fileOf, byteLength}
 use Rattle.file_format.specs.Written.{file-length}
-use Rattle.dataset.specs.Memory.{State, studyOf, contentsOf}
+use Rattle.validity.specs.Memory.{State, studyOf, contentsOf}
 use Rattle.dataset.specs.Answers.{heldAnswer}
-use Rattle.dataset.specs.Validity.{study-size, valid-contents}
+use Rattle.validity.specs.Validity.{study-size, valid-contents}
 use Rattle.dataset.specs.Ways.{Passed, held-own, held-refused}
 use Rattle.study_file.specs.Answers.{writeReasons, writeAnswer, writeReply, writeLeaves}
 use Rattle.study_file.specs.Putting.{Puts, Writable, file-written}

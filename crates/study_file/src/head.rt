@@ -5,11 +5,11 @@ use bit_reader::Field;
 use bit_reader::Start;
 use bit_reader::read_field;
 use bit_reader::read_start;
-use dataset::validity::valid_minima;
 use study::Answer;
 use study::Dataset;
 use study::Minima;
 use study::Refusal;
+use validity::valid_minima;
 ghost use mathlib.Core.Path.{_≡_};
 ghost use Prim.Native.Nat.{_+_, _-_, _*_, _^_, _≤_, _<_};
 ghost use lib.Dec.{eqb};
@@ -19,7 +19,7 @@ ghost use Rattle.file_format.specs.Bits.{bitsAt};
 ghost use Rattle.file_format.specs.File.{minimaAt, decoded, headReasons};
 ghost use Rattle.file_format.specs.ReadLaws.{Head};
 ghost use Rattle.bit_reader.specs.Fields.{Askable};
-ghost use Rattle.dataset.specs.Memory.{recordOf};
+ghost use Rattle.validity.specs.Memory.{recordOf};
 ghost use Rattle.study_file.specs.HeadLaws.{Begun};
 
 // The number in a field inside the file.

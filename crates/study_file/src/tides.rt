@@ -2,10 +2,10 @@
 use crate::length::bit_length;
 use bit_reader::Field;
 use bit_reader::read_field;
-use dataset::three_tide::Found;
-use dataset::three_tide::first_broken;
 use study::Answer;
 use study::Refusal;
+use three_tide::Found;
+use three_tide::first_broken;
 ghost use mathlib.Core.Path.{_≡_};
 ghost use Prim.Native.Nat.{_+_, _*_, _^_, _≤_, _<_};
 ghost use lib.ListN.{length};
@@ -14,7 +14,7 @@ ghost use Rattle.study.specs.Refusals.{verdictOf};
 ghost use Rattle.study.specs.Calls.{breaking};
 ghost use Rattle.file_format.specs.Bits.{bitsAt};
 ghost use Rattle.lists.specs.Lists.{at};
-ghost use Rattle.dataset.specs.Places.{withRow};
+ghost use Rattle.storage.specs.Places.{withRow};
 ghost use Rattle.study_file.specs.Loading.{Loaded, Reading, pairVerdict};
 ghost use Rattle.study_file.specs.RowLaws.{rowAt, RowRead};
 

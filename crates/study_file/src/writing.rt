@@ -10,7 +10,7 @@ ghost use lib.ListN.{length, getD};
 ghost use Rattle.lists.specs.Lists.{tabulate, at};
 ghost use Rattle.file_format.specs.Bits.{field, bitsOf};
 ghost use Rattle.file_format.specs.File.{tideFields, fields, bitLength};
-ghost use Rattle.dataset.specs.Memory.{stateOf, tideOf, contentsOf};
+ghost use Rattle.validity.specs.Memory.{stateOf, tideOf, contentsOf};
 ghost use Rattle.study_file.specs.Writing.{Adds};
 ghost use Rattle.study_file.specs.Putting.{Puts, Writable, headFields};
 

@@ -4,7 +4,7 @@ use mathlib.Core.Path.{sym, _∙_}
 use borrow.Author.Needs.{needs}
 use Rattle.study.specs.Refusals.{firstOf}
 use Rattle.dataset.specs.Ways.{held-1, held-21, held-own}
-use Rattle.dataset.specs.Layout.{short-yes, short-no}
+use Rattle.validity.specs.Layout.{short-yes, short-no}
 use Rattle.dataset.proofs.check.Statement.{statement}
 use Rattle.dataset.proofs.check.Tie as tie
 

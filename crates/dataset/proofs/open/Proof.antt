@@ -3,7 +3,7 @@ use mathlib.Core.Logic.{inl, inr}
 use borrow.Author.Needs.{needs}
 use Rattle.dataset.specs.Ways.{open-1, open-2, opened-state}
 use Rattle.lists.specs.Scans.{between-in, between-low, between-high}
-use Rattle.dataset.specs.Layout.{short-yes, short-no}
+use Rattle.validity.specs.Layout.{short-yes, short-no}
 use Rattle.dataset.proofs.open.Statement.{statement}
 use Rattle.dataset.proofs.open.Tie as tie
 

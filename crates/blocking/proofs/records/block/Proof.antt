@@ -40,7 +40,7 @@ use Rattle.lists.specs.Lists.{overwrite}
 use Rattle.study.specs.declared.BlockRecord.{BlockRecord}
 use Rattle.study.specs.declared.Dataset.{Dataset}
 use Rattle.study.specs.Calls.{blockedOf}
-use Rattle.dataset.specs.Memory.{State, stateOf}
+use Rattle.validity.specs.Memory.{State, stateOf}
 use Rattle.blocking.specs.Answers.{blockReply, blockList, blockRecords}
 use Rattle.blocking.specs.Rows.{rowAt, RowsOf}
 use Rattle.blocking.specs.declared.block.Computed.{Computed}

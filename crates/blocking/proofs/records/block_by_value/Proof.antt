@@ -43,7 +43,7 @@ use Rattle.study.specs.declared.BlockRecord.{BlockRecord}
 use Rattle.study.specs.declared.Blocked.{Blocked}
 use Rattle.study.specs.declared.Dataset.{Dataset}
 use Rattle.study.specs.Calls.{blockedOf}
-use Rattle.dataset.specs.Memory.{State, stateOf}
+use Rattle.validity.specs.Memory.{State, stateOf}
 use Rattle.blocking.specs.Answers.{blockReply, blockList, blockRecords}
 use Rattle.blocking.specs.Rows.{noRecord, noRecords}
 use Rattle.blocking.specs.declared.records.Blocking.{Blocking}

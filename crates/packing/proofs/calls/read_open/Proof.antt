@@ -1,6 +1,6 @@
 -- `read_open` meets its contract: no number stops; with k, what Open answers. Assumes nothing.
-use Rattle.dataset.specs.Layout.{short-no}
-use Rattle.dataset.specs.Memory.{stateOf}
+use Rattle.validity.specs.Layout.{short-no}
+use Rattle.validity.specs.Memory.{stateOf}
 use lib.ListN.{replicate}
 use Rattle.packing.specs.Calls.{open-stops, open-goes}
 use borrow.Author.Needs.{needs}

@@ -2,7 +2,7 @@
 use borrow.Author.Needs.{needs}
 use native.Mathlib.Omega.{arith}
 use Rattle.study_file.specs.RowLaws.{rowAt, row-taken}
-use Rattle.dataset.specs.Places.{withRow, row-none, row-done}
+use Rattle.storage.specs.Places.{withRow, row-none, row-done}
 use Rattle.bit_reader.specs.FieldLaws.{got, no-end}
 use lib.ListN.{length, length-set}
 use Prim.Native.Nat.{_+_, _-_, _*_, _≤_}

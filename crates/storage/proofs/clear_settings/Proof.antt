@@ -1,0 +1,52 @@
+-- `clear_settings` meets its contract: the settings passed so far are 0, the rest as before. Assumes nothing.
+use Prim.Native.Nat.{_≤_, _-_}
+use native.Mathlib.Omega.{arith}
+use mathlib.Core.Path.{_≡_, refl}
+use lib.ListN.{length, length-set}
+use Rattle.lists.specs.Tables.{overwrite-none, overwrite-step, overwrite-done}
+use Rattle.lists.specs.Lists.{overwrite}
+use Rattle.storage.proofs.clear_settings.Statement.{statement}
+use Rattle.storage.proofs.clear_settings.Tie as tie
+
+abbrev Inv-loop : tie.InvT-loop
+Inv-loop settings₀ i₀ settings i = (i ≤ 120) × (settings ≡ overwrite i (λ _. 0) settings₀) × (length settings ≡ length settings₀)
+
+abbrev μ-loop : tie.MeasureT-loop
+μ-loop settings₀ i₀ settings i = 120 - i
+
+loop-holds : tie.Need-loop-holds Inv-loop μ-loop
+loop-holds c = (omega arith, overwrite-none _ _, refl)
+
+slice-write-settings : tie.Need-slice-write-settings Inv-loop μ-loop
+slice-write-settings c = omega arith
+
+add-i : tie.Need-add-i Inv-loop μ-loop
+add-i c = omega arith
+
+loop-less : tie.Need-loop-less Inv-loop μ-loop
+loop-less c = omega arith
+
+loop-again : tie.Need-loop-again Inv-loop μ-loop
+loop-again c =
+    let inv = c .before .loop .inv in
+    (omega arith, overwrite-step _ _ _ (inv .1) refl (omega arith), simp length-set (inv .2))
+
+same-length : tie.Need-same-length Inv-loop μ-loop
+same-length c = c .before .loop .inv .2
+
+returns : tie.Need-returns Inv-loop μ-loop
+returns c = overwrite-done _ _ (omega arith) (c .before .loop .inv .1)
+
+pub clear-settings-spec : {M : Type 1} → statement M
+clear-settings-spec =
+    tie.close
+    (tie.spec
+    Inv-loop
+    μ-loop
+    loop-holds
+    slice-write-settings
+    add-i
+    loop-less
+    loop-again
+    same-length
+    returns)

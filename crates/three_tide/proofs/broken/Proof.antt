@@ -1,0 +1,34 @@
+-- `broken` meets its contract: the tests of `triangle` one by one. Assumes nothing.
+use borrow.Author.Needs.{needs}
+use borrow.Author.Tests.{le-leb, lt-leb}
+use Rattle.study.specs.Calls.{triangle}
+use Rattle.three_tide.proofs.broken.Statement.{statement}
+use Rattle.three_tide.proofs.broken.Tie as tie
+
+add-if1 : tie.Need-add-if1
+add-if1 c = search needs
+
+returns : tie.Need-returns
+unfolding triangle
+returns c = rw (lt-leb _ _ (c .if1 .taken))
+
+add-if2 : tie.Need-add-if2
+add-if2 c = search needs
+
+returns-2 : tie.Need-returns-2
+unfolding triangle
+returns-2 c = rw (le-leb _ _ (c .before .if1 .left), lt-leb _ _ (c .if2 .taken))
+
+add-if3 : tie.Need-add-if3
+add-if3 c = search needs
+
+returns-3 : tie.Need-returns-3
+unfolding triangle
+returns-3 c = rw (le-leb _ _ (c .before .before .if1 .left), le-leb _ _ (c .before .if2 .left), lt-leb _ _ (c .if3 .taken))
+
+returns-4 : tie.Need-returns-4
+unfolding triangle
+returns-4 c = rw (le-leb _ _ (c .before .before .if1 .left), le-leb _ _ (c .before .if2 .left), le-leb _ _ (c .if3 .left))
+
+pub broken-spec : {M : Type 1} → statement M
+broken-spec = tie.close (tie.spec add-if1 returns add-if2 returns-2 add-if3 returns-3 returns-4)

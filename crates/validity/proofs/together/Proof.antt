@@ -1,0 +1,55 @@
+-- `together` meets its contract: the sum of the minima passed so far. Assumes nothing.
+use Prim.Native.Nat.{_≤_, _-_, _*_}
+use native.Mathlib.Omega.{arith}
+use mathlib.Core.Path.{_≡_, sym}
+use lib.ListN.{getD}
+use Rattle.lists.specs.Lists.{sum}
+use Rattle.lists.specs.Counts.{sum-zero}
+use Rattle.lists.specs.Scans.{sum-more, sum-done}
+use Rattle.validity.proofs.together.Statement.{statement}
+use Rattle.validity.proofs.together.Tie as tie
+
+abbrev Inv-loop : tie.InvT-loop
+Inv-loop b total₀ j₀ total j = (j ≤ 8) × (total ≡ sum j (λ j. getD b j 0)) × (total ≤ 255 * j)
+
+abbrev μ-loop : tie.MeasureT-loop
+μ-loop b total₀ j₀ total j = 8 - j
+
+loop-holds : tie.Need-loop-holds Inv-loop μ-loop
+loop-holds c = (omega arith, sym (sum-zero _), omega arith)
+
+array-read-byte : tie.Need-array-read-byte Inv-loop μ-loop
+array-read-byte c = omega arith
+
+byte-requires : tie.Need-byte-requires Inv-loop μ-loop
+byte-requires c κs = tt
+
+add-total : tie.Need-add-total Inv-loop μ-loop
+add-total c = omega arith
+
+add-j : tie.Need-add-j Inv-loop μ-loop
+add-j c = omega arith
+
+loop-less : tie.Need-loop-less Inv-loop μ-loop
+loop-less c = omega arith
+
+loop-again : tie.Need-loop-again Inv-loop μ-loop
+loop-again c = (omega arith, sum-more _ _ (c .before .before .loop .inv .1) (c .byte .ensures .0), omega arith)
+
+returns : tie.Need-returns Inv-loop μ-loop
+returns c = sum-done _ _ _ (omega arith) (omega arith) (c .before .loop .inv .1)
+
+pub together-spec : {M : Type 1} → statement M
+together-spec =
+    tie.close
+    (tie.spec
+    Inv-loop
+    μ-loop
+    loop-holds
+    array-read-byte
+    byte-requires
+    add-total
+    add-j
+    loop-less
+    loop-again
+    returns)

@@ -1,0 +1,46 @@
+-- `valid_minima` meets its contract: the tests of `validMinima` one by one. Assumes nothing.
+use mathlib.Core.Path.{_≡_, _∙_}
+use lib.ListN.{length}
+use borrow.Author.Needs.{needs}
+use Rattle.lists.specs.Scans.{within-leb, beyond-leb, between-in, between-low, between-high}
+use Rattle.validity.specs.Validity.{no-minima, zeros-decide}
+use Rattle.validity.proofs.valid_minima.Statement.{statement}
+use Rattle.validity.proofs.valid_minima.Tie as tie
+
+returns : tie.Need-returns
+returns c = no-minima _ _ 0 (between-low 1 120 _ (c .if1 .taken))
+
+returns-2 : tie.Need-returns-2
+returns-2 c = no-minima _ _ 0 (between-high 1 120 _ (c .if2 .taken))
+
+byte-requires : tie.Need-byte-requires
+byte-requires c κs = search needs
+
+together-requires : tie.Need-together-requires
+together-requires c κs = search needs
+
+returns-3 : tie.Need-returns-3
+returns-3 c = no-minima _ _ 2 (beyond-leb (c .before .together .ensures) (c .before .before .byte .ensures .0) (c .if3 .taken))
+
+zeros-above-requires : tie.Need-zeros-above-requires
+zeros-above-requires c κs = search needs
+
+returns-4 : tie.Need-returns-4
+returns-4 c =
+    let e = c .before .before .before .before in
+    let eight : length (c .before .before .before .before .before .before .before .args .minima .b) ≡ 8 = search needs in
+    c .zeros-above .ensures
+    ∙ zeros-decide _ _ (between-in 1 120 _ (e .before .if1 .left) (e .if2 .left)) eight
+    (within-leb (c .before .before .together .ensures) (c .before .before .before .byte .ensures .0) (c .before .if3 .left))
+
+pub valid-minima-spec : {M : Type 1} → statement M
+valid-minima-spec =
+    tie.close
+    (tie.spec
+    returns
+    returns-2
+    byte-requires
+    together-requires
+    returns-3
+    zeros-above-requires
+    returns-4)

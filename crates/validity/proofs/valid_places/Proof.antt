@@ -1,0 +1,51 @@
+-- `valid_places` meets its contract: the places of the row passed so far are valid. Assumes nothing.
+use Prim.Native.Nat.{_≤_, _-_}
+use native.Mathlib.Omega.{arith}
+use mathlib.Core.Bool.{true}
+use mathlib.Core.Path.{_≡_, sym}
+use Rattle.lists.specs.Lists.{every}
+use Rattle.lists.specs.Scans.{every-none, every-more, every-fails, every-done, test-passes, test-fails}
+use Rattle.validity.specs.Memory.{validPlace}
+use Rattle.validity.proofs.valid_places.Statement.{statement}
+use Rattle.validity.proofs.valid_places.Tie as tie
+
+abbrev Inv-loop : tie.InvT-loop
+Inv-loop dataset distances i j₀ j = (j ≤ 120) × (every j (validPlace dataset distances i) ≡ true)
+
+abbrev μ-loop : tie.MeasureT-loop
+μ-loop dataset distances i j₀ j = 120 - j
+
+loop-holds : tie.Need-loop-holds Inv-loop μ-loop
+loop-holds c = (omega arith, every-none _)
+
+valid-place-requires : tie.Need-valid-place-requires Inv-loop μ-loop
+valid-place-requires c κs = omega arith
+
+returns : tie.Need-returns Inv-loop μ-loop
+returns c = sym (every-fails _ _ _ (omega arith) (test-fails (c .before .valid-place .ensures) (c .if1 .taken)))
+
+add-j : tie.Need-add-j Inv-loop μ-loop
+add-j c = omega arith
+
+loop-less : tie.Need-loop-less Inv-loop μ-loop
+loop-less c = omega arith
+
+loop-again : tie.Need-loop-again Inv-loop μ-loop
+loop-again c = (omega arith, every-more _ _ (c .before .before .before .loop .inv .1) (test-passes (c .before .valid-place .ensures) (c .if1 .left)))
+
+returns-2 : tie.Need-returns-2 Inv-loop μ-loop
+returns-2 c = sym (every-done _ _ _ (omega arith) (omega arith) (c .before .loop .inv .1))
+
+pub valid-places-spec : {M : Type 1} → statement M
+valid-places-spec =
+    tie.close
+    (tie.spec
+    Inv-loop
+    μ-loop
+    loop-holds
+    valid-place-requires
+    returns
+    add-j
+    loop-less
+    loop-again
+    returns-2)

@@ -1,0 +1,52 @@
+-- `zeros_above` meets its contract: the minima passed so far are 0 above k. Assumes nothing.
+use Prim.Native.Nat.{_≤_, _-_}
+use native.Mathlib.Omega.{arith}
+use mathlib.Core.Bool.{cond, true}
+use mathlib.Core.Path.{_≡_, sym}
+use lib.Dec.{ltb, eqb}
+use lib.ListN.{getD}
+use Rattle.lists.specs.Lists.{every}
+use Rattle.lists.specs.Scans.{every-none, every-more, every-fails, every-done, test-passes, test-fails}
+use Rattle.validity.proofs.zeros_above.Statement.{statement}
+use Rattle.validity.proofs.zeros_above.Tie as tie
+
+abbrev Inv-loop : tie.InvT-loop
+Inv-loop b k j₀ j = (j ≤ 8) × (every j (λ j. cond (ltb j k) true (eqb (getD b j 0) 0)) ≡ true)
+
+abbrev μ-loop : tie.MeasureT-loop
+μ-loop b k j₀ j = 8 - j
+
+loop-holds : tie.Need-loop-holds Inv-loop μ-loop
+loop-holds c = (omega arith, every-none _)
+
+zero-above-requires : tie.Need-zero-above-requires Inv-loop μ-loop
+zero-above-requires c κs = omega arith
+
+returns : tie.Need-returns Inv-loop μ-loop
+returns c = sym (every-fails _ _ _ (omega arith) (test-fails (c .before .zero-above .ensures) (c .if1 .taken)))
+
+add-j : tie.Need-add-j Inv-loop μ-loop
+add-j c = omega arith
+
+loop-less : tie.Need-loop-less Inv-loop μ-loop
+loop-less c = omega arith
+
+loop-again : tie.Need-loop-again Inv-loop μ-loop
+loop-again c = (omega arith, every-more _ _ (c .before .before .before .loop .inv .1) (test-passes (c .before .zero-above .ensures) (c .if1 .left)))
+
+returns-2 : tie.Need-returns-2 Inv-loop μ-loop
+returns-2 c = sym (every-done _ _ _ (omega arith) (omega arith) (c .before .loop .inv .1))
+
+pub zeros-above-spec : {M : Type 1} → statement M
+zeros-above-spec =
+    tie.close
+    (tie.spec
+    Inv-loop
+    μ-loop
+    loop-holds
+    zero-above-requires
+    returns
+    add-j
+    loop-less
+    loop-again
+    returns-2)

@@ -1,0 +1,243 @@
+// Reason 21: whether a record and memory are a dataset. Each function is one test of specs/Memory.antt.
+// A dataset (document 01: book) is a record and lent memory: 14,400 distances in rows of 120, and 120 setting bytes.
+use study::Dataset;
+use study::Minima;
+use three_tide::Found;
+ghost use mathlib.Core.Path.{_≡_};
+ghost use mathlib.Core.Bool.{true, cond};
+ghost use Prim.Native.Nat.{_≤_, _<_};
+ghost use lib.Dec.{leb, ltb, eqb};
+ghost use lib.ListN.{length, getD};
+ghost use Rattle.lists.specs.Lists.{every, sum};
+ghost use Rattle.study.specs.Study.{validMinima};
+ghost use Rattle.validity.specs.Memory.{stateOf, validSetting, validPlace, validRow, isDataset};
+
+fn byte(x: u8) -> usize
+    ensures { λ r. ⌜ (r ≡ x) × (r < 256) ⌝ }
+{
+    x as usize
+}
+
+fn valid_setting(dataset: Dataset, settings: &[u8], i: usize) -> bool
+    requires { ⌜ i < length (now settings) ⌝ }
+    ensures { λ r. ⌜ r ≡ validSetting dataset (now (settings .entry)) i ⌝ }
+{
+    let n = dataset.n;
+    let k = dataset.k;
+    let x = settings[i];
+    if n <= i {
+        return x == 0;
+    }
+    if x < 1 {
+        return false;
+    }
+    x <= k
+}
+
+fn valid_settings(dataset: Dataset, settings: &[u8]) -> bool
+    requires { ⌜ 120 ≤ length (now settings) ⌝ }
+    ensures { λ r. ⌜ r ≡ every 120 (validSetting dataset (now (settings .entry))) ⌝ }
+{
+    let mut i: usize = 0;
+    while i < 120 {
+        if !valid_setting(dataset, settings, i) {
+            return false;
+        }
+        i += 1;
+    }
+    true
+}
+
+fn valid_place(dataset: Dataset, distances: &[u32], i: usize, j: usize) -> bool
+    requires { ⌜ 14400 ≤ length (now distances) ⌝ }
+    requires { ⌜ (i < 120) × (j < 120) ⌝ }
+    ensures { λ r. ⌜ r ≡ validPlace dataset (now (distances .entry)) i j ⌝ }
+{
+    let n = dataset.n;
+    let x = distances[i * 120 + j];
+    if n <= i {
+        return x == 0;
+    }
+    if n <= j {
+        return x == 0;
+    }
+    if 1048575 < x {
+        return false;
+    }
+    if x != distances[j * 120 + i] {
+        return false;
+    }
+    if i == j {
+        return x == 0;
+    }
+    true
+}
+
+// Row i of the memory.
+fn valid_places(dataset: Dataset, distances: &[u32], i: usize) -> bool
+    requires { ⌜ 14400 ≤ length (now distances) ⌝ }
+    requires { ⌜ i < 120 ⌝ }
+    ensures { λ r. ⌜ r ≡ every 120 (validPlace dataset (now (distances .entry)) i) ⌝ }
+{
+    let mut j: usize = 0;
+    while j < 120 {
+        if !valid_place(dataset, distances, i, j) {
+            return false;
+        }
+        j += 1;
+    }
+    true
+}
+
+fn valid_distances(dataset: Dataset, distances: &[u32]) -> bool
+    requires { ⌜ 14400 ≤ length (now distances) ⌝ }
+    ensures { λ r. ⌜ r ≡ every 120 (λ i. every 120 (validPlace dataset (now (distances .entry)) i)) ⌝ }
+{
+    let mut i: usize = 0;
+    while i < 120 {
+        if !valid_places(dataset, distances, i) {
+            return false;
+        }
+        i += 1;
+    }
+    true
+}
+
+// Whether tide t obeys the three-tide rule with every pair before it: its row in memory is searched as Enter searches a new one.
+fn valid_row(distances: &[u32], t: usize) -> bool
+    requires { ⌜ 14400 ≤ length (now distances) ⌝ }
+    requires { ⌜ t < 120 ⌝ }
+    ensures { λ r. ⌜ r ≡ validRow (now (distances .entry)) t ⌝ }
+{
+    let from = t * 120;
+    let to = from + t;
+    let found = three_tide::first_broken(distances, &distances[from..to]);
+    match found {
+        Found::Pair(_, _) => false,
+        Found::Nothing => true,
+    }
+}
+
+fn valid_rows(distances: &[u32], n: usize) -> bool
+    requires { ⌜ 14400 ≤ length (now distances) ⌝ }
+    requires { ⌜ n ≤ 120 ⌝ }
+    ensures { λ r. ⌜ r ≡ every n (validRow (now (distances .entry))) ⌝ }
+{
+    let mut t: usize = 0;
+    while t < n {
+        if !valid_row(distances, t) {
+            return false;
+        }
+        t += 1;
+    }
+    true
+}
+
+// A minimum of a setting above k is 0.
+fn zero_above(b: [u8; 8], k: u8, j: usize) -> bool
+    requires { ⌜ j < 8 ⌝ }
+    ensures { λ r. ⌜ r ≡ cond (ltb j k) true (eqb (getD b j 0) 0) ⌝ }
+{
+    let x = b[j];
+    let kinds = k as usize;
+    if j < kinds {
+        return true;
+    }
+    x == 0
+}
+
+fn zeros_above(b: [u8; 8], k: u8) -> bool
+    ensures { λ r. ⌜ r ≡ every 8 (λ j. cond (ltb j k) true (eqb (getD b j 0) 0)) ⌝ }
+{
+    let mut j: usize = 0;
+    while j < 8 {
+        if !zero_above(b, k, j) {
+            return false;
+        }
+        j += 1;
+    }
+    true
+}
+
+// The b's together, with room for all of them.
+fn together(b: [u8; 8]) -> usize
+    ensures { λ r. ⌜ r ≡ sum 8 (λ j. getD b j 0) ⌝ }
+{
+    let mut total: usize = 0;
+    let mut j: usize = 0;
+    while j < 8 {
+        total += byte(b[j]);
+        j += 1;
+    }
+    total
+}
+
+// Reason 3.
+pub fn valid_minima(minima: Minima, k: u8) -> bool
+    ensures { λ r. ⌜ r ≡ validMinima k minima ⌝ }
+{
+    let b0 = minima.b0;
+    let b = minima.b;
+    if b0 < 1 {
+        return false;
+    }
+    if 120 < b0 {
+        return false;
+    }
+    if byte(b0) < together(b) {
+        return false;
+    }
+    zeros_above(b, k)
+}
+
+fn is_near(row: &[u32], i: usize) -> bool
+    requires { ⌜ i < length (now row) ⌝ }
+    ensures { λ r. ⌜ r ≡ leb (getD (now (row .entry)) i 0) 1048575 ⌝ }
+{
+    row[i] <= 1048575
+}
+
+// Whether every distance of a row is at most 1,048,575.
+pub fn near(row: &[u32]) -> bool
+    ensures { λ r. ⌜ r ≡ every (length (now (row .entry))) (λ i. leb (getD (now (row .entry)) i 0) 1048575) ⌝ }
+{
+    let n = row.len();
+    let mut i: usize = 0;
+    while i < n {
+        if !is_near(row, i) {
+            return false;
+        }
+        i += 1;
+    }
+    true
+}
+
+// Of memory that is not short.
+pub fn is_dataset(dataset: Dataset, distances: &[u32], settings: &[u8]) -> bool
+    requires { ⌜ 14400 ≤ length (now distances) ⌝ }
+    requires { ⌜ 120 ≤ length (now settings) ⌝ }
+    ensures { λ r. ⌜ r ≡ isDataset (stateOf dataset (now (distances .entry)) (now (settings .entry))) ⌝ }
+{
+    let k = dataset.k;
+    if k < 1 {
+        return false;
+    }
+    if 8 < k {
+        return false;
+    }
+    let n = dataset.n;
+    if 120 < n {
+        return false;
+    }
+    let minima = dataset.minima;
+    if !valid_minima(minima, k) {
+        return false;
+    }
+    if !valid_settings(dataset, settings) {
+        return false;
+    }
+    if !valid_distances(dataset, distances) {
+        return false;
+    }
+    valid_rows(distances, n)
+}
