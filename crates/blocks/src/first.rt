@@ -1,10 +1,10 @@
 // The first assignment in dictionary order, through the promise of the matching search alone.
-use matching::assign::first_allowed;
 use matching::search;
+use matching::table::first_allowed;
 use radius::counts::wide;
 use study::Minima;
 ghost use mathlib.Core.Path.{_≡_};
-ghost use Prim.Native.Nat.{ℕ, _+_, _*_, _<_, _≤_};
+ghost use Prim.Native.Nat.{ℕ, _<_, _≤_};
 ghost use lib.ListN.{length};
 ghost use Rattle.lists.specs.Lists.{overwrite};
 ghost use Rattle.study.specs.Problem.{labels};

@@ -1,26 +1,9 @@
 // The list that a matching gives: the block of each tide.
-ghost use Prim.Native.Nat.{ℕ, _+_, _*_, _<_, _≤_};
+use crate::table::first_allowed;
+ghost use Prim.Native.Nat.{ℕ, _<_, _≤_};
 ghost use lib.ListN.{length};
 ghost use Rattle.matching.specs.Matching.{at};
-ghost use Rattle.matching.specs.Promise.{FirstAllowed};
 ghost use Rattle.matching.specs.Steps.{Owned, Placed, Listed, Rest};
-
-// The first block that the tide t may go to, or 120 where there is none.
-pub fn first_allowed(allowed: &[u8], t: usize, blocks: usize) -> usize
-    requires { ⌜ blocks ≤ 120 ⌝ }
-    requires { ⌜ t < 120 ⌝ }
-    requires { ⌜ 14400 ≤ length (now allowed) ⌝ }
-    ensures { λ r. ⌜ FirstAllowed (now (allowed .entry)) t blocks r ⌝ }
-{
-    let mut m = 0;
-    while m < blocks {
-        if allowed[m * 120 + t] != 0 {
-            return m;
-        }
-        m += 1;
-    }
-    120
-}
 
 // The block of the tide t: its slot's, or else the first allowed one; 120 where there is none.
 fn block_of(

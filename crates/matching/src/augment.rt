@@ -1,8 +1,9 @@
 // A matching that gives every slot a tide, by augmenting paths. tide[s] is the tide that the slot s
 // holds and slot[t] the slot that holds the tide t: 120 where there is none.
+use crate::violator::Outcome;
 ghost use mathlib.Core.Path.{_≡_};
 ghost use mathlib.Core.Bool.{true, false};
-ghost use Prim.Native.Nat.{_+_, _*_, _<_, _≤_};
+ghost use Prim.Native.Nat.{_+_, _<_, _≤_};
 ghost use lib.ListN.{length, set};
 ghost use Rattle.matching.specs.Matching.{at, Matching, Tree, Path, freed};
 ghost use Rattle.matching.specs.Graph.{EdgeAt, Edge, Decides, Sized, Wanted, Scanning, Marked, Passed, Free, Searched, Violator, Augmented, Saturated};
@@ -17,15 +18,6 @@ pub struct Scanned {
 pub struct Grown {
     pub slot: usize,
     pub tide: usize,
-}
-
-// Whether a search found what it was for. If not, the tides seen have a slot in from, 120 where they
-// are not seen, and mark has 1 at m * 9 + k where slots of block m and kind k are scanned: together a
-// Hall violator.
-pub struct Outcome {
-    pub found: bool,
-    pub from: [usize; 120],
-    pub mark: [u8; 1080],
 }
 
 // Whether a slot of block m and kind k can hold the tide t.

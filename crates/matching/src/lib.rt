@@ -1,18 +1,19 @@
 // Whether every tide can be given an allowed block so that each block meets the minima, and such an
 // assignment. The minima of all blocks are laid out as slots; each slot gets a tide of its own by
 // augmenting paths; the other tides go to any block that they may go to.
-pub mod assign;
-pub mod augment;
+mod assign;
+mod augment;
 mod slots;
 mod start;
+pub mod table;
 pub mod violator;
 
 use crate::assign::write_list;
 use crate::assign::write_partial;
-use crate::augment::Outcome;
 use crate::augment::saturate;
 use crate::slots::lay_out;
 use crate::start::adopt;
+use crate::violator::Outcome;
 use study::Minima;
 ghost use Prim.Native.Nat.{_*_, _≤_};
 ghost use Rattle.matching.specs.Promise.{Asked, Promise, PromiseOrViolator};

@@ -1,4 +1,4 @@
-// What a Hall violator says of a pair that is not allowed.
+// What a search leaves: found, or a Hall violator, and what that says of a pair that is not allowed.
 ghost use mathlib.Core.Path.{_≡_};
 ghost use mathlib.Core.Bool.{false};
 ghost use mathlib.Core.List.{List};
@@ -6,6 +6,15 @@ ghost use Prim.Native.Nat.{ℕ, _<_, _≤_};
 ghost use lib.Dec.{T};
 ghost use lib.ListN.{length, getD};
 ghost use Rattle.matching.specs.Promise.{helps};
+
+// Whether a search found what it was for. If not, the tides seen have a slot in from, 120 where they
+// are not seen, and mark has 1 at m * 9 + k where slots of block m and kind k are scanned: together a
+// Hall violator.
+pub struct Outcome {
+    pub found: bool,
+    pub from: [usize; 120],
+    pub mark: [u8; 1080],
+}
 
 // Whether it could help to let the tide t go to the block m.
 pub fn helps(settings: &[u8], from: &[usize; 120], mark: &[u8; 1080], t: usize, m: usize) -> bool

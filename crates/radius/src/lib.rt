@@ -15,7 +15,7 @@ use crate::table::allow;
 use matching::search_or_violator;
 use study::Minima;
 ghost use mathlib.Core.Path.{_≡_};
-ghost use Prim.Native.Nat.{_*_, _<_, _≤_};
+ghost use Prim.Native.Nat.{_<_, _≤_};
 ghost use lib.ListN.{length};
 ghost use Rattle.radii.specs.Posed.{posed, Proper, Sized};
 ghost use Rattle.radii.specs.Radii.{Lowest, Ahead};

@@ -4,8 +4,8 @@ use Prim.Native.Nat.{_-_, _≤_}
 use borrow.Author.Count.{below-more}
 use Rattle.matching.proofs.Pairs.{allows-yes, allows-no}
 use Rattle.matching.specs.Promise.{Nowhere}
-use Rattle.matching.proofs.assign.first_allowed.Statement.{statement}
-use Rattle.matching.proofs.assign.first_allowed.Tie as tie
+use Rattle.matching.proofs.table.first_allowed.Statement.{statement}
+use Rattle.matching.proofs.table.first_allowed.Tie as tie
 
 abbrev Inv-loop : tie.InvT-loop
 Inv-loop allowed t blocks m₀ m = (m ≤ blocks) × Nowhere allowed t m
