@@ -3,11 +3,8 @@ use native.Mathlib.Omega.{arith}
 use native.Mathlib.Nat.{mod-lt}
 use Prim.Native.Nat.{_/_}
 use borrow.Author.Needs.{needs}
-use Rattle.trial_tools.proofs.draws.draw.Statement.{statement}
-use Rattle.trial_tools.proofs.draws.draw.Tie as tie
-
-rem-result : tie.Need-rem-result
-rem-result c = search needs
+use Rattle.draws.proofs.draw.Statement.{statement}
+use Rattle.draws.proofs.draw.Tie as tie
 
 cast-result : tie.Need-cast-result
 cast-result c = let p = c .pre in let l = mod-lt (c .args .seed / 1024) (p .0) in omega arith
@@ -16,4 +13,4 @@ returns : tie.Need-returns
 returns c = mod-lt (c .args .seed / 1024) (c .pre .0)
 
 pub draw-spec : {M : Type 1} → statement M
-draw-spec = tie.close (tie.spec rem-result cast-result returns)
+draw-spec = tie.close (tie.spec (λ c. search needs) cast-result returns)
