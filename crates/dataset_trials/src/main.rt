@@ -74,15 +74,21 @@ fn open_places(so_far: Tally) -> Tally {
 
 // The calls with no dataset: 1 before 21, and 21 before the call's own reasons.
 fn all_refused(so_far: Tally, distances: &mut [u32], settings: &mut [u8], expected: u32) -> Tally {
-    let none = nonsense();
-    let minima = samples::minima(0, 0, 0);
     so_far
         .outcome(
-            dataset::set_minima(none, distances, settings, minima),
+            dataset::set_minima(nonsense(), distances, settings, samples::minima(0, 0, 0)),
             expected,
         )
-        .outcome(dataset::enter(none, distances, settings, 0, &[1]), expected)
-        .outcome(dataset::withdraw(none, distances, settings, 0), expected)
+        .outcome(enter_none(distances, settings), expected)
+        .outcome(withdraw_none(distances, settings), expected)
+}
+
+fn enter_none(distances: &mut [u32], settings: &mut [u8]) -> Outcome {
+    dataset::enter(nonsense(), distances, settings, 0, &[1])
+}
+
+fn withdraw_none(distances: &mut [u32], settings: &mut [u8]) -> Outcome {
+    dataset::withdraw(nonsense(), distances, settings, 0)
 }
 
 fn short_memory(so_far: Tally) -> Tally {
@@ -150,17 +156,21 @@ fn enter_fifth(row: &[u32]) -> Outcome {
 }
 
 fn enter_refused(so_far: Tally) -> Tally {
-    let mut t = so_far;
-    t = t.outcome(enter_third(0, &[1]), 4);
-    t = t.outcome(enter_third(0, &[1048576, 1]), 5);
-    t = t.outcome(enter_third(3, &[1, 1]), 5);
-    t = t.outcome(enter_third(1, &[1, 1048576]), 6);
-    t = t.pair(enter_third(1, &[1, 1]), 1, 2);
-    t = t.pair(enter_third(1, &[1, 5]), 1, 2);
-    t = t.outcome(enter_third(1, &[1, 2]), 0);
+    so_far
+        .outcome(enter_third(0, &[1]), 4)
+        .outcome(enter_third(0, &[1048576, 1]), 5)
+        .outcome(enter_third(3, &[1, 1]), 5)
+        .outcome(enter_third(1, &[1, 1048576]), 6)
+        .outcome(enter_third(1, &[1, 2]), 0)
+}
+
+fn enter_pairs(so_far: Tally) -> Tally {
+    let t = so_far
+        .pair(enter_third(1, &[1, 1]), 1, 2)
+        .pair(enter_third(1, &[1, 5]), 1, 2);
     // the rule breaks with 1 and 3, 2 and 3; then with 1 and 4, 2 and 3
-    t = t.pair(enter_fourth(&[5, 2, 9]), 1, 3);
-    t.pair(enter_fifth(&[3, 1, 2, 0]), 1, 4)
+    t.pair(enter_fourth(&[5, 2, 9]), 1, 3)
+        .pair(enter_fifth(&[3, 1, 2, 0]), 1, 4)
 }
 
 fn third_places(so_far: Tally, distances: &[u32], settings: &[u8]) -> Tally {
@@ -267,7 +277,7 @@ fn last_places(so_far: Tally, distances: &[u32], before: u32, last: u32) -> Tall
 }
 
 fn print_enter() {
-    enter_done(enter_refused(tally::new())).print(b"enter");
+    enter_done(enter_pairs(enter_refused(tally::new()))).print(b"enter");
     withdraw_done(withdraw_refused(tally::new())).print(b"withdraw");
 }
 
