@@ -28,7 +28,8 @@ use Rattle.dataset.specs.Answers.{freshAnswer, heldAnswer, openAnswer, openLeav
 use Rattle.validity.specs.Proofs.{for-datasets}
 use Rattle.dataset.specs.Ways.{accepted-held}
 use Rattle.study_file.specs.Answers.{readAnswer, readLeaves}
-use Rattle.c_api.specs.Api.{Lent, lent, minimaAt, numbersOf, stateIn, code, roomFirst, lacks, over, left, openVerdict, openLeft, minimaVerdict, minimaLeft, enterVerdict, enterLeft, withdrawVerdict, withdrawLeft, readVerdict, readLeft}
+use Rattle.c_api.specs.Api.{Lent, lent, minimaAt, numbersOf, stateIn, code, roomFirst, lacks, over, left}
+use Rattle.c_api.specs.Api.{openVerdict, openLeft, minimaVerdict, minimaLeft, enterVerdict, enterLeft, withdrawVerdict, withdrawLeft, readVerdict, readLeft}
 use Rattle.c_api.specs.RecordLaws.{cut, datasetBy, withRecord, held-same, contents-same, read-back}
 use Rattle.c_api.specs.CodeLaws.{Narrow, AllNarrow, small, first-narrow, append-narrow, runs-narrow, pair-narrow, fresh-narrow, held-narrow}
 

@@ -1,17 +1,18 @@
 -- The code of every verdict fits 32 bits: a pair has numbers of tides. Assumes nothing.
 use Prim.Native.Nat.{ℕ, zero, suc, _+_, _-_, _*_, _≤_, _<_}
 use native.Mathlib.Omega.{arith}
-use mathlib.Core.Path.{_≡_, refl, sym, ap, subst}
+use mathlib.Core.Path.{_≡_, refl, sym, ap, _∙_, subst}
 use mathlib.Core.Bool.{Bool, true, false, cond, not}
 use mathlib.Core.List.{List, [], _∷_, _++_, map, flatMap}
 use mathlib.Core.List.{List·Memᴰ·head as here}
 use lib.Dec.{T, leb, leb→le}
 use Rattle.lists.specs.Lists.{_∈_, range, filter}
 use Rattle.lists.specs.Members.{filter-mem, map-mem, flatMap-mem, range-mem}
-use Rattle.study.specs.declared.Refusal.{Refusal}
-use Rattle.study.specs.declared.Refusal.the-variants as Because
 use Rattle.study.specs.Study.{Contents}
-use Rattle.study.specs.Refusals.{number, numbered, Verdict, refused, Reason, firstOf}
+use Rattle.study.specs.Refusals.{Numbered, number, Verdict, refused, Reason, firstOf}
+use Rattle.refusal_numbers.specs.declared.Number.{Number}
+use Rattle.refusal_numbers.specs.declared.Number.the-variants.{Seven}
+use Rattle.refusal_numbers.specs.Numbers.{saidBy}
 use Rattle.study.specs.Calls.{triangle, Pair, breaking, firstPair}
 use Rattle.validity.specs.Memory.{State, short, isDataset, contentsOf}
 use Rattle.dataset.specs.Answers.{freshAnswer, heldAnswer}
@@ -26,11 +27,11 @@ AllNarrow (r ∷ rs) = Narrow (refused (r .because)) × AllNarrow rs
 
 -- ---- a refusal's code
 
-pub coded : {why x : Refusal} → why ≡ x → code (refused (numbered x)) ≡ code (refused (numbered why))
-coded e = ap (λ y. code (refused (numbered y))) (sym e)
+pub coded : {x y : Number} {n : Numbered} → x ≡ y → saidBy x ≡ n → code (refused (saidBy y)) ≡ code (refused n)
+coded e h = ap (λ m. code (refused m)) (ap saidBy (sym e) ∙ h)
 
-pub pair-fits : {why : Refusal} {i j : ℕ} → why ≡ Because.ThreeTideRule i j → Narrow (refused (numbered why)) → 7 + 256 * i + 65536 * j < 4294967296
-pair-fits e n = subst (λ y. Narrow (refused (numbered y))) e n .fits
+pub pair-fits : {x : Number} {n : Numbered} {i j : ℕ} → x ≡ Seven i j → saidBy x ≡ n → Narrow (refused n) → 7 + 256 * i + 65536 * j < 4294967296
+pair-fits e h n = subst (λ m. Narrow (refused m)) (sym h ∙ ap saidBy e) n .fits
 
 -- ---- reasons
 

@@ -1,4 +1,6 @@
 // The number that a call answers.
+use refusal_numbers::Number;
+use refusal_numbers::numbered;
 use study::Answer;
 use study::Refusal;
 ghost use mathlib.Core.Path.{_≡_};
@@ -10,25 +12,10 @@ pub fn refusal_code(why: Refusal) -> u32
     requires { ⌜ Narrow (refused (numbered why)) ⌝ }
     ensures { λ r. ⌜ r ≡ code (refused (numbered why)) ⌝ }
 {
-    match why {
-        Refusal::ShortMemory => 1,
-        Refusal::SettingCount => 2,
-        Refusal::Minima => 3,
-        Refusal::RowLength => 4,
-        Refusal::Setting => 5,
-        Refusal::Distance => 6,
-        Refusal::ThreeTideRule(i, j) => (7 + 256 * i + 65536 * j) as u32,
-        Refusal::FileLength => 8,
-        Refusal::Mark => 9,
-        Refusal::TideCount => 10,
-        Refusal::FillBits => 11,
-        Refusal::ListLength => 12,
-        Refusal::NotDataset => 21,
-        Refusal::Full => 22,
-        Refusal::NoSuchTide => 23,
-        Refusal::NoTides => 24,
-        Refusal::TooFewTides => 25,
-        Refusal::WithdrawalLimit => 26,
+    let number = numbered(why);
+    match number {
+        Number::Alone(n) => n,
+        Number::Seven(i, j) => (7 + 256 * i + 65536 * j) as u32,
     }
 }
 

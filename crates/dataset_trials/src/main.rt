@@ -1,8 +1,11 @@
 // Trials of the dataset's calls. Most refusals are tried where a later reason holds too, so that the order shows.
 // Each group prints how many of its answers and places came out as expected.
+use study::Dataset;
 use study::Minima;
 use study::Outcome;
+use trial_tools::samples::entered;
 use trial_tools::samples::nonsense;
+use trial_tools::samples::opened;
 use trial_tools::samples::two_tides;
 use trial_tools::tally;
 use trial_tools::tally::Tally;
@@ -51,51 +54,53 @@ fn places(so_far: Tally, distances: &[u32], settings: &[u8], distance: u32, sett
 }
 
 // A refusal writes nothing; longer memory keeps its excess.
+fn open_refused(so_far: Tally, distances: &mut [u32], settings: &mut [u8]) -> Tally {
+    let refused = dataset::open(nonsense(), distances, settings, 9);
+    let kept = refused.dataset;
+    places(so_far.see(kept.n == 300), distances, settings, 7, 9)
+}
+
+fn open_done(so_far: Tally, distances: &mut [u32], settings: &mut [u8]) -> Tally {
+    let empty = opened(distances, settings, 8);
+    places(so_far.see(empty.n == 0), distances, settings, 0, 0)
+}
+
 fn open_places(so_far: Tally) -> Tally {
     let mut distances = [7u32; 14403];
     let mut settings = [9u8; 123];
-    let refused = dataset::open(nonsense(), &mut distances, &mut settings, 9);
-    let kept = refused.dataset;
-    let t = places(so_far.see(kept.n == 300), &distances, &settings, 7, 9);
-    let opened = dataset::open(nonsense(), &mut distances, &mut settings, 8);
-    let empty = opened.dataset;
-    places(t.see(empty.n == 0), &distances, &settings, 0, 0)
+    let t = open_refused(so_far, &mut distances, &mut settings);
+    open_done(t, &mut distances, &mut settings)
 }
 
-// With no dataset: 1 before 21, and 21 before the call's own reasons.
+// The calls with no dataset: 1 before 21, and 21 before the call's own reasons.
+fn all_refused(so_far: Tally, distances: &mut [u32], settings: &mut [u8], expected: u32) -> Tally {
+    so_far
+        .outcome(
+            dataset::set_minima(nonsense(), distances, settings, samples::minima(0, 0, 0)),
+            expected,
+        )
+        .outcome(enter_none(distances, settings), expected)
+        .outcome(withdraw_none(distances, settings), expected)
+}
+
+fn enter_none(distances: &mut [u32], settings: &mut [u8]) -> Outcome {
+    dataset::enter(nonsense(), distances, settings, 0, &[1])
+}
+
+fn withdraw_none(distances: &mut [u32], settings: &mut [u8]) -> Outcome {
+    dataset::withdraw(nonsense(), distances, settings, 0)
+}
+
 fn short_memory(so_far: Tally) -> Tally {
     let mut distances = [7u32; 14399];
     let mut settings = [9u8; 123];
-    let none = nonsense();
-    let mut t = so_far;
-    t = t.outcome(
-        dataset::set_minima(none, &distances, &settings, samples::minima(0, 0, 0)),
-        1,
-    );
-    t = t.outcome(
-        dataset::enter(none, &mut distances, &mut settings, 0, &[1]),
-        1,
-    );
-    t.outcome(dataset::withdraw(none, &mut distances, &mut settings, 0), 1)
+    all_refused(so_far, &mut distances, &mut settings, 1)
 }
 
 fn no_dataset(so_far: Tally) -> Tally {
     let mut distances = [7u32; 14403];
     let mut settings = [9u8; 123];
-    let none = nonsense();
-    let mut t = so_far;
-    t = t.outcome(
-        dataset::set_minima(none, &distances, &settings, samples::minima(0, 0, 0)),
-        21,
-    );
-    t = t.outcome(
-        dataset::enter(none, &mut distances, &mut settings, 0, &[1]),
-        21,
-    );
-    t.outcome(
-        dataset::withdraw(none, &mut distances, &mut settings, 0),
-        21,
-    )
+    all_refused(so_far, &mut distances, &mut settings, 21)
 }
 
 // Minima for two tides, k = 2.
@@ -146,23 +151,35 @@ fn enter_fifth(row: &[u32]) -> Outcome {
     let mut distances = [7u32; 14403];
     let mut settings = [9u8; 123];
     let three = samples::three_tides(&mut distances, &mut settings);
-    let fourth = dataset::enter(three, &mut distances, &mut settings, 1, &[10, 10, 10]);
-    let four = fourth.dataset;
+    let four = entered(three, &mut distances, &mut settings, 1, &[10, 10, 10]);
     dataset::enter(four, &mut distances, &mut settings, 1, row)
 }
 
 fn enter_refused(so_far: Tally) -> Tally {
-    let mut t = so_far;
-    t = t.outcome(enter_third(0, &[1]), 4);
-    t = t.outcome(enter_third(0, &[1048576, 1]), 5);
-    t = t.outcome(enter_third(3, &[1, 1]), 5);
-    t = t.outcome(enter_third(1, &[1, 1048576]), 6);
-    t = t.pair(enter_third(1, &[1, 1]), 1, 2);
-    t = t.pair(enter_third(1, &[1, 5]), 1, 2);
-    t = t.outcome(enter_third(1, &[1, 2]), 0);
+    so_far
+        .outcome(enter_third(0, &[1]), 4)
+        .outcome(enter_third(0, &[1048576, 1]), 5)
+        .outcome(enter_third(3, &[1, 1]), 5)
+        .outcome(enter_third(1, &[1, 1048576]), 6)
+        .outcome(enter_third(1, &[1, 2]), 0)
+}
+
+fn enter_pairs(so_far: Tally) -> Tally {
+    let t = so_far
+        .pair(enter_third(1, &[1, 1]), 1, 2)
+        .pair(enter_third(1, &[1, 5]), 1, 2);
     // the rule breaks with 1 and 3, 2 and 3; then with 1 and 4, 2 and 3
-    t = t.pair(enter_fourth(&[5, 2, 9]), 1, 3);
-    t.pair(enter_fifth(&[3, 1, 2, 0]), 1, 4)
+    t.pair(enter_fourth(&[5, 2, 9]), 1, 3)
+        .pair(enter_fifth(&[3, 1, 2, 0]), 1, 4)
+}
+
+fn third_places(so_far: Tally, distances: &[u32], settings: &[u8]) -> Tally {
+    so_far
+        .place(distances, 241, 4)
+        .place(distances, 122, 4)
+        .setting(settings, 2, 2)
+        .place(distances, 14400, 7)
+        .setting(settings, 120, 9)
 }
 
 fn enter_done(so_far: Tally) -> Tally {
@@ -171,13 +188,11 @@ fn enter_done(so_far: Tally) -> Tally {
     let two = two_tides(&mut distances, &mut settings);
     let third = dataset::enter(two, &mut distances, &mut settings, 2, &[1, 4]);
     let three = third.dataset;
-    let mut t = so_far.outcome(third, 0);
-    t = t.see(three.n == 3);
-    t = t.place(&distances, 241, 4);
-    t = t.place(&distances, 122, 4);
-    t = t.setting(&settings, 2, 2);
-    t = t.place(&distances, 14400, 7);
-    t.setting(&settings, 120, 9)
+    third_places(
+        so_far.outcome(third, 0).see(three.n == 3),
+        &distances,
+        &settings,
+    )
 }
 
 fn withdraw_of_three(withdrawn: u16, tide: u8) -> Outcome {
@@ -230,18 +245,27 @@ fn full(so_far: Tally) -> Tally {
     let mut distances = [7u32; 14403];
     let mut settings = [9u8; 123];
     let full = samples::full(&mut distances, &mut settings);
-    let mut t = so_far.see(full.n == 120);
-    t = t.outcome(
-        dataset::enter(full, &mut distances, &mut settings, 9, &[5]),
-        22,
-    );
-    let gone = dataset::withdraw(full, &mut distances, &mut settings, 5);
+    let t = one_more(so_far, full, &mut distances, &mut settings);
+    one_gone(t, full, &mut distances, &mut settings)
+}
+
+fn one_more(so_far: Tally, full: Dataset, distances: &mut [u32], settings: &mut [u8]) -> Tally {
+    so_far
+        .see(full.n == 120)
+        .outcome(dataset::enter(full, distances, settings, 9, &[5]), 22)
+}
+
+fn one_gone(so_far: Tally, full: Dataset, distances: &mut [u32], settings: &mut [u8]) -> Tally {
+    let gone = dataset::withdraw(full, distances, settings, 5);
     let left = gone.dataset;
-    t = last_places(t.see(left.n == 119), &distances, 1, 0);
+    let t = last_places(so_far.see(left.n == 119), distances, 1, 0);
+    one_again(t, left, distances, settings)
+}
+
+fn one_again(so_far: Tally, left: Dataset, distances: &mut [u32], settings: &mut [u8]) -> Tally {
     let row = [2u32; 119];
-    let again = dataset::enter(left, &mut distances, &mut settings, 1, &row);
-    let next = again.dataset;
-    last_places(t.see(next.n == 120), &distances, 1, 2)
+    let next = entered(left, distances, settings, 1, &row);
+    last_places(so_far.see(next.n == 120), distances, 1, 2)
 }
 
 // Where the rows of tides 119 and 120 begin, and what stands past the memory.
@@ -252,12 +276,16 @@ fn last_places(so_far: Tally, distances: &[u32], before: u32, last: u32) -> Tall
     t.place(distances, 14400, 7)
 }
 
+fn print_enter() {
+    enter_done(enter_pairs(enter_refused(tally::new()))).print(b"enter");
+    withdraw_done(withdraw_refused(tally::new())).print(b"withdraw");
+}
+
 fn main() {
     open_places(open_answers(tally::new())).print(b"open");
     no_dataset(short_memory(tally::new())).print(b"no dataset");
     minima(tally::new()).print(b"minima");
-    enter_done(enter_refused(tally::new())).print(b"enter");
-    withdraw_done(withdraw_refused(tally::new())).print(b"withdraw");
+    print_enter();
     spoiled::trials(tally::new()).print(b"one wrong place");
     full(tally::new()).print(b"full");
 }

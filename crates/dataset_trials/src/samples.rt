@@ -1,7 +1,8 @@
 // Records and datasets to try the calls on.
 use study::Dataset;
 use study::Minima;
-use trial_tools::samples::nonsense;
+use trial_tools::samples::entered;
+use trial_tools::samples::opened;
 use trial_tools::samples::two_tides;
 
 pub fn minima(b0: u8, first: u8, third: u8) -> Minima {
@@ -24,8 +25,7 @@ pub fn counted(dataset: Dataset, withdrawn: u16) -> Dataset {
 // Two tides at 3, and a third at 1 and 4, of setting 2.
 pub fn three_tides(distances: &mut [u32], settings: &mut [u8]) -> Dataset {
     let two = two_tides(distances, settings);
-    let third = dataset::enter(two, distances, settings, 2, &[1, 4]);
-    third.dataset
+    entered(two, distances, settings, 2, &[1, 4])
 }
 
 // As many tides as the row is long, each at the row's distances from those before it.
@@ -33,8 +33,7 @@ fn enter_all(empty: Dataset, distances: &mut [u32], settings: &mut [u8], row: &[
     let mut next = empty;
     let mut n: usize = 0;
     while n < row.len() {
-        let entered = dataset::enter(next, distances, settings, 1, &row[..n]);
-        next = entered.dataset;
+        next = entered(next, distances, settings, 1, &row[..n]);
         n += 1;
     }
     next
@@ -42,8 +41,7 @@ fn enter_all(empty: Dataset, distances: &mut [u32], settings: &mut [u8], row: &[
 
 // 120 tides, each at 1 from every other.
 pub fn full(distances: &mut [u32], settings: &mut [u8]) -> Dataset {
-    let opened = dataset::open(nonsense(), distances, settings, 1);
-    let empty = opened.dataset;
+    let empty = opened(distances, settings, 1);
     let row = [1u32; 120];
     enter_all(empty, distances, settings, &row)
 }

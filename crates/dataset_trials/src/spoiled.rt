@@ -15,12 +15,8 @@ fn record(k: u8, n: usize, b0: u8) -> Dataset {
     }
 }
 
-fn with_record(k: u8, n: usize, b0: u8) -> Answer {
-    let mut distances = [7u32; 14403];
-    let mut settings = [9u8; 123];
-    samples::three_tides(&mut distances, &mut settings);
-    dataset::check(record(k, n, b0), &distances, &settings)
-}
+// Past the memory.
+const NOWHERE: usize = 20000;
 
 fn put_setting(settings: &mut [u8], i: usize, x: u8) {
     if i < settings.len() {
@@ -34,23 +30,27 @@ fn put_distance(distances: &mut [u32], p: usize, x: u32) {
     }
 }
 
-// The answer where setting i is x.
-fn with_setting(i: usize, x: u8) -> Answer {
+// The answer where setting i is s, and places p and q hold x.
+fn checked(record: Dataset, i: usize, s: u8, p: usize, q: usize, x: u32) -> Answer {
     let mut distances = [7u32; 14403];
     let mut settings = [9u8; 123];
     samples::three_tides(&mut distances, &mut settings);
-    put_setting(&mut settings, i, x);
-    dataset::check(record(2, 3, 1), &distances, &settings)
-}
-
-// The answer where places p and q hold x.
-fn with_distance(p: usize, q: usize, x: u32) -> Answer {
-    let mut distances = [7u32; 14403];
-    let mut settings = [9u8; 123];
-    samples::three_tides(&mut distances, &mut settings);
+    put_setting(&mut settings, i, s);
     put_distance(&mut distances, p, x);
     put_distance(&mut distances, q, x);
-    dataset::check(record(2, 3, 1), &distances, &settings)
+    dataset::check(record, &distances, &settings)
+}
+
+fn with_record(k: u8, n: usize, b0: u8) -> Answer {
+    checked(record(k, n, b0), NOWHERE, 0, NOWHERE, NOWHERE, 0)
+}
+
+fn with_setting(i: usize, s: u8) -> Answer {
+    checked(record(2, 3, 1), i, s, NOWHERE, NOWHERE, 0)
+}
+
+fn with_distance(p: usize, q: usize, x: u32) -> Answer {
+    checked(record(2, 3, 1), NOWHERE, 0, p, q, x)
 }
 
 fn records(so_far: Tally) -> Tally {

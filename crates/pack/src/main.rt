@@ -1,7 +1,7 @@
 // Packs the study that stands as text on standard input: its study file goes to standard output, or one line that says what is wrong.
 use packing::Packed;
 use packing::pack;
-use sheet_text::number_of;
+use refusal_numbers::number_of;
 
 fn say(line: usize, words: &[u8]) {
     io::write_all(1, b"line ");

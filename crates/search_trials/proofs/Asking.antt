@@ -1,26 +1,31 @@
 -- A drawn table is one that `search` may be asked. Assumes nothing.
 use Prim.Native.Nat.{ℕ, _+_, _-_, _<_}
-use mathlib.Core.Path.{_≡_}
 use mathlib.Core.List.{List, [], _∷_}
 use native.Mathlib.Omega.{arith}
-use lib.ListN.{length, getD}
 use Rattle.lists.specs.Lists.{sum}
 use Rattle.matching.specs.Promise.{Asked}
-use Rattle.search_trials.specs.Ranges.{Between}
+use Rattle.search_trials.specs.declared.plain.Question.{Question}
+use Rattle.search_trials.specs.Ranges.{Modest, Posed, Filled}
 
-pub asked : (n blocks b0 x y z : ℕ) (settings allowed list : List ℕ) → n < 7 → blocks < 4 → b0 < 3 → x < b0 + 1 → y < b0 - x + 1 → z < b0 - x - y + 1
-    → length settings ≡ 6 → length allowed ≡ 720 → length list ≡ 8 → ((t : ℕ) → t < 6 → Between 1 8 (getD settings t 0))
-    → Asked n blocks (record { b0 = b0; b = x ∷ y ∷ z ∷ 0 ∷ 0 ∷ 0 ∷ 0 ∷ 0 ∷ [] }) settings allowed list
+pub modest : (b0 x y z : ℕ) → b0 < 3 → x < b0 + 1 → y < b0 - x + 1 → z < b0 - x - y + 1
+    → Modest (record { b0 = b0; b = x ∷ y ∷ z ∷ 0 ∷ 0 ∷ 0 ∷ 0 ∷ 0 ∷ [] })
 unfolding sum
-asked n blocks b0 x y z settings allowed list a b c d e f l₁ l₂ l₃ s =
+modest b0 x y z a b c d = record { small = omega arith; fit = omega arith }
+
+pub posed-asked : (q : Question) (settings allowed list : List ℕ) → Posed q → Filled settings allowed list
+    → Asked (q .n) (q .blocks) (q .minima) settings allowed list
+posed-asked q settings allowed list p f =
+    let a = p .few-tides in
+    let b = p .few-blocks in
+    let c = p .modest .small in
     record {
       few-tides = omega arith;
       few-blocks = omega arith;
       small = omega arith;
-      fit = omega arith;
-      allowed-long = omega arith;
-      settings-long = omega arith;
-      list-long = omega arith;
-      setting-low = λ t l. s t (omega arith) .above;
-      setting-high = λ t l. s t (omega arith) .below;
+      fit = p .modest .fit;
+      allowed-long = omega (arith, f .rows);
+      settings-long = omega (arith, f .six);
+      list-long = omega (arith, f .eight);
+      setting-low = λ t l. f .valid t (omega arith) .above;
+      setting-high = λ t l. f .valid t (omega arith) .below;
     }

@@ -4,18 +4,19 @@
 // more allowed.
 mod plain;
 
+use crate::plain::Question;
 use crate::plain::exists;
 use crate::plain::is_assignment;
+use draws::draw;
+use draws::next;
 use matching::search;
 use std::num::wrapping_add_u64;
 use study::Minima;
-use trial_tools::draws::draw;
-use trial_tools::draws::next;
 ghost use mathlib.Core.Path.{_≡_};
 ghost use mathlib.Core.Bool.{true};
 ghost use Prim.Native.Nat.{ℕ, _<_, _≤_};
 ghost use lib.ListN.{getD};
-ghost use Rattle.search_trials.specs.Ranges.{Between};
+ghost use Rattle.search_trials.specs.Ranges.{Between, Filled, Modest, Posed};
 
 // Fills bytes with numbers from low to high.
 fn fill(seed: u64, bytes: &mut [u8], low: u8, high: u8) -> u64
@@ -49,36 +50,84 @@ fn valid(settings: &[u8; 6]) -> bool
     true
 }
 
+// Minima of at most two tides for a block, of the settings 1 to 3.
+fn drawn_minima(s1: u64, s2: u64, s3: u64) -> Minima
+    ensures { λ r. ⌜ Modest r ⌝ }
+{
+    let b0 = draw(s2, 3);
+    let x = draw(s3, b0 as u64 + 1);
+    let y = draw(next(s3), (b0 - x) as u64 + 1);
+    let z = draw(s1, (b0 - x - y) as u64 + 1);
+    Minima {
+        b0: b0,
+        b: [x, y, z, 0, 0, 0, 0, 0],
+    }
+}
+
+fn drawn(seed: u64, s1: u64, s2: u64, s3: u64) -> Question
+    ensures { λ r. ⌜ Posed r ⌝ }
+{
+    Question {
+        n: draw(seed, 7) as usize,
+        blocks: draw(s1, 4) as usize,
+        minima: drawn_minima(s1, s2, s3),
+    }
+}
+
+fn asked(q: Question, settings: &[u8; 6], allowed: &[u8; 720], list: &mut [u8]) -> bool
+    requires { ⌜ Posed q ⌝ }
+    requires { ⌜ Filled (now settings) (now allowed) (now list) ⌝ }
+{
+    search(q.n, q.blocks, q.minima, settings, allowed, list)
+}
+
+// With one pair more allowed.
+fn asked_again(
+    q: Question,
+    settings: &[u8; 6],
+    allowed: &mut [u8; 720],
+    list: &mut [u8],
+    s5: u64,
+    s6: u64,
+) -> bool
+    requires { ⌜ Posed q ⌝ }
+    requires { ⌜ Filled (now settings) (now allowed) (now list) ⌝ }
+{
+    let t = draw(s5, 6) as usize;
+    let m = draw(s6, 3) as usize;
+    allowed[t * 120 + m] = 9;
+    asked(q, settings, allowed, list)
+}
+
 // Judges an answer and the list that was left: 0 is a right no, 1 a right yes, 2 is wrong. The two
 // places past the tides held last.
 fn judged(
     found: bool,
-    n: usize,
-    blocks: usize,
-    b0: u8,
-    b: [u8; 3],
+    q: Question,
     settings: &[u8; 6],
     allowed: &[u8; 720],
     list: &[u8; 8],
     last: u8,
 ) -> u8
-    requires { ⌜ n ≤ 6 ⌝ }
-    requires { ⌜ blocks ≤ 3 ⌝ }
+    requires { ⌜ q .n ≤ 6 ⌝ }
+    requires { ⌜ q .blocks ≤ 3 ⌝ }
 {
-    if list[6] != last || list[7] != last {
+    if list[6] != last {
         return 2;
     }
-    if found != exists(n, blocks, b0, b, settings, allowed) {
+    if list[7] != last {
+        return 2;
+    }
+    if found != exists(q, settings, allowed) {
         return 2;
     }
     if !found {
         return 0;
     }
-    if is_assignment(n, blocks, b0, b, settings, allowed, list) {
-        1
-    } else {
-        2
+    if is_assignment(q, settings, allowed, list) {
+        return 1;
     }
+    2
 }
 
 // One table from the seed, searched from a hint, or again from the list that was left with one pair
@@ -87,16 +136,7 @@ fn trial(seed: u64, again: bool) -> u8 {
     let s1 = next(seed);
     let s2 = next(s1);
     let s3 = next(s2);
-    let n = draw(seed, 7) as usize;
-    let blocks = draw(s1, 4) as usize;
-    let b0 = draw(s2, 3);
-    let x = draw(s3, b0 as u64 + 1);
-    let y = draw(next(s3), (b0 - x) as u64 + 1);
-    let z = draw(s1, (b0 - x - y) as u64 + 1);
-    let minima = Minima {
-        b0: b0,
-        b: [x, y, z, 0, 0, 0, 0, 0],
-    };
+    let q = drawn(seed, s1, s2, s3);
     let mut settings: [u8; 6] = [0; 6];
     let mut allowed: [u8; 720] = [0; 720];
     let mut list: [u8; 8] = [0; 8];
@@ -109,24 +149,11 @@ fn trial(seed: u64, again: bool) -> u8 {
     if !valid(&settings) {
         return 2;
     }
-    let mut found = search(n, blocks, minima, &settings, &allowed, &mut list);
+    let mut found = asked(q, &settings, &allowed, &mut list);
     if again {
-        let t = draw(s5, 6) as usize;
-        let m = draw(s6, 3) as usize;
-        allowed[t * 120 + m] = 9;
-        found = search(n, blocks, minima, &settings, &allowed, &mut list);
+        found = asked_again(q, &settings, &mut allowed, &mut list, s5, s6);
     }
-    judged(
-        found,
-        n,
-        blocks,
-        b0,
-        [x, y, z],
-        &settings,
-        &allowed,
-        &list,
-        last,
-    )
+    judged(found, q, &settings, &allowed, &list, last)
 }
 
 // One more where r is k.

@@ -1,5 +1,13 @@
 // Enumeration of every list.
+use study::Minima;
 ghost use Prim.Native.Nat.{_<_, _≤_};
+
+// What is asked of a table: up to six tides and three blocks.
+pub struct Question {
+    pub n: usize,
+    pub blocks: usize,
+    pub minima: Minima,
+}
 
 // Whether each of the n tides has a block below blocks that it may go to.
 fn all_allowed(n: usize, blocks: usize, allowed: &[u8; 720], list: &[u8; 8]) -> bool
@@ -46,43 +54,35 @@ fn one(a: bool, b: bool) -> usize
 }
 
 // Whether block m, if it is one, has b0 tides, and b of each of the settings 1 to 3.
-fn meets(
-    n: usize,
-    blocks: usize,
-    b0: u8,
-    b: [u8; 3],
-    settings: &[u8; 6],
-    list: &[u8; 8],
-    m: u8,
-) -> bool
-    requires { ⌜ n ≤ 6 ⌝ }
+fn meets(q: Question, settings: &[u8; 6], list: &[u8; 8], m: u8) -> bool
+    requires { ⌜ q .n ≤ 6 ⌝ }
 {
-    if wide(m) >= blocks {
+    if wide(m) >= q.blocks {
         return true;
     }
-    members(n, settings, list, m, 0) >= wide(b0)
-        && members(n, settings, list, m, 1) >= wide(b[0])
-        && members(n, settings, list, m, 2) >= wide(b[1])
-        && members(n, settings, list, m, 3) >= wide(b[2])
+    let minima = q.minima;
+    let b = minima.b;
+    if members(q.n, settings, list, m, 0) < wide(minima.b0) {
+        return false;
+    }
+    if members(q.n, settings, list, m, 1) < wide(b[0]) {
+        return false;
+    }
+    if members(q.n, settings, list, m, 2) < wide(b[1]) {
+        return false;
+    }
+    members(q.n, settings, list, m, 3) >= wide(b[2])
 }
 
 // Whether the first n places of list are an assignment.
-pub fn is_assignment(
-    n: usize,
-    blocks: usize,
-    b0: u8,
-    b: [u8; 3],
-    settings: &[u8; 6],
-    allowed: &[u8; 720],
-    list: &[u8; 8],
-) -> bool
-    requires { ⌜ n ≤ 6 ⌝ }
-    requires { ⌜ blocks ≤ 3 ⌝ }
+pub fn is_assignment(q: Question, settings: &[u8; 6], allowed: &[u8; 720], list: &[u8; 8]) -> bool
+    requires { ⌜ q .n ≤ 6 ⌝ }
+    requires { ⌜ q .blocks ≤ 3 ⌝ }
 {
-    all_allowed(n, blocks, allowed, list)
-        && meets(n, blocks, b0, b, settings, list, 0)
-        && meets(n, blocks, b0, b, settings, list, 1)
-        && meets(n, blocks, b0, b, settings, list, 2)
+    all_allowed(q.n, q.blocks, allowed, list)
+        && meets(q, settings, list, 0)
+        && meets(q, settings, list, 1)
+        && meets(q, settings, list, 2)
 }
 
 // Steps to the next list. False after the last one.
@@ -104,24 +104,17 @@ fn advance(n: usize, blocks: usize, list: &mut [u8; 8]) -> bool
 }
 
 // Whether some list is an assignment. There are at most 729.
-pub fn exists(
-    n: usize,
-    blocks: usize,
-    b0: u8,
-    b: [u8; 3],
-    settings: &[u8; 6],
-    allowed: &[u8; 720],
-) -> bool
-    requires { ⌜ n ≤ 6 ⌝ }
-    requires { ⌜ blocks ≤ 3 ⌝ }
+pub fn exists(q: Question, settings: &[u8; 6], allowed: &[u8; 720]) -> bool
+    requires { ⌜ q .n ≤ 6 ⌝ }
+    requires { ⌜ q .blocks ≤ 3 ⌝ }
 {
     let mut list: [u8; 8] = [0; 8];
     let mut tried: usize = 0;
     while tried < 729 {
-        if is_assignment(n, blocks, b0, b, settings, allowed, &list) {
+        if is_assignment(q, settings, allowed, &list) {
             return true;
         }
-        if !advance(n, blocks, &mut list) {
+        if !advance(q.n, q.blocks, &mut list) {
             return false;
         }
         tried += 1;

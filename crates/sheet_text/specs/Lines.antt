@@ -14,7 +14,8 @@ use Rattle.study.specs.declared.Blocked.the-variants.{Done, Refused}
 use Rattle.study.specs.declared.Refusal.{Refusal}
 use Rattle.study.specs.Refusals.{Numbered, numbered, value}
 use Rattle.study.specs.Calls.{Figures, blockedOf}
-use Rattle.sheet_text.specs.Text.{ascii, decimal, heading, line, lines, closing, numberOf, refusedText, sheetText}
+use Rattle.refusal_numbers.specs.Numbers.{numberOf}
+use Rattle.sheet_text.specs.Text.{ascii, decimal, heading, line, lines, closing, refusedText, sheetText}
 use Rattle.sheet_text.specs.Numbers.{decimal-short}
 use Rattle.sheet_text.specs.Putting.{Puts, puts-none, puts-then, puts-as}
 

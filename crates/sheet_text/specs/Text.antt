@@ -7,8 +7,9 @@ use mathlib.Core.List.{List, [], _∷_, _++_}
 use lib.Dec.{ltb}
 use lib.ListN.{take}
 use Rattle.study.specs.declared.BlockRecord.{BlockRecord}
-use Rattle.study.specs.Refusals.{Numbered, number, seven, Reply, value, refusal}
+use Rattle.study.specs.Refusals.{Numbered, Reply, value, refusal}
 use Rattle.study.specs.Calls.{Figures}
+use Rattle.refusal_numbers.specs.Numbers.{numberOf}
 
 -- the bytes of a text
 abbrev pub ascii : String → List ℕ
@@ -52,11 +53,6 @@ closing radius widest withdrawn =
     ascii "reach " ++ decimal radius ++ ascii " widest " ++ decimal widest ++ ascii " withdrawn " ++ decimal withdrawn ++ ascii "\n"
 
 -- ---- the sheet
-
--- document 01's number of a refusal; of 7 without its pair
-abbrev pub numberOf : Numbered → ℕ
-numberOf (number n) = n
-numberOf (seven i j) = 7
 
 unfoldable pub refusedText : Numbered → List ℕ
 refusedText r = ascii "refused " ++ decimal (numberOf r) ++ ascii "\n"

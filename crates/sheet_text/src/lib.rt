@@ -3,9 +3,9 @@ use crate::lines::put_closing;
 use crate::lines::put_lines;
 use crate::putting::put_bytes;
 use crate::putting::put_named;
+use refusal_numbers::number_of;
 use study::BlockRecord;
 use study::Blocked;
-use study::Refusal;
 
 mod lines;
 mod putting;
@@ -13,41 +13,14 @@ mod putting;
 ghost use mathlib.Core.Path.{_≡_};
 ghost use Prim.Native.Nat.{_≤_};
 ghost use lib.ListN.{length, take};
-ghost use Rattle.study.specs.Refusals.{numbered};
 ghost use Rattle.study.specs.Calls.{blockedOf};
-ghost use Rattle.sheet_text.specs.Text.{numberOf, sheetText};
+ghost use Rattle.sheet_text.specs.Text.{sheetText};
 ghost use Rattle.sheet_text.specs.Putting.{Puts};
 
 // The text is the first `length` bytes: at most 26 of heading, 120 lines of 23 and a last line of 51.
 pub struct Text {
     pub bytes: [u8; 2837],
     pub length: usize,
-}
-
-// Document 01's number of a refusal.
-pub fn number_of(refusal: Refusal) -> u32
-    ensures { λ r. ⌜ r ≡ numberOf (numbered refusal) ⌝ }
-{
-    match refusal {
-        Refusal::ShortMemory => 1,
-        Refusal::SettingCount => 2,
-        Refusal::Minima => 3,
-        Refusal::RowLength => 4,
-        Refusal::Setting => 5,
-        Refusal::Distance => 6,
-        Refusal::ThreeTideRule(_, _) => 7,
-        Refusal::FileLength => 8,
-        Refusal::Mark => 9,
-        Refusal::TideCount => 10,
-        Refusal::FillBits => 11,
-        Refusal::ListLength => 12,
-        Refusal::NotDataset => 21,
-        Refusal::Full => 22,
-        Refusal::NoSuchTide => 23,
-        Refusal::NoTides => 24,
-        Refusal::TooFewTides => 25,
-        Refusal::WithdrawalLimit => 26,
-    }
 }
 
 fn put_sheet(out: &mut [u8], answer: Blocked, records: [BlockRecord; 120], withdrawn: u16) -> usize

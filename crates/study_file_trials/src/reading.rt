@@ -1,10 +1,11 @@
 // Reading bytes, and writing what was read.
+use refusal_numbers::number_of;
 use study::Answer;
-use study::Refusal;
+use study::Dataset;
+use study::Outcome;
 use study_file::Written;
 use trial_tools::samples::nonsense;
 use trial_tools::slices::front;
-use trial_tools::tally::number_of;
 
 // Whether b begins with a.
 pub fn same_front(a: &[u32], b: &[u32]) -> bool {
@@ -21,11 +22,31 @@ pub fn same_front(a: &[u32], b: &[u32]) -> bool {
     true
 }
 
+// Read, where there is no dataset.
+pub fn read_into(distances: &mut [u32], settings: &mut [u8], bytes: &[u8]) -> Outcome {
+    study_file::read(nonsense(), distances, settings, bytes)
+}
+
+pub fn read(bytes: &[u8]) -> Outcome {
+    let mut distances = [7u32; 14403];
+    let mut settings = [9u8; 123];
+    read_into(&mut distances, &mut settings, bytes)
+}
+
+pub fn write(record: Dataset, distances: &[u32], settings: &[u8], file: &mut [u8]) -> Written {
+    study_file::write(record, distances, settings, file)
+}
+
+// Whether the memory is as before.
+fn unchanged(distances: &[u32], settings: &[u8]) -> bool {
+    same_front(&[7u32; 14403], distances) && check::same(settings, &[9u8; 123])
+}
+
 // Read's number, 0 where it accepts; 98 where it refuses and the record or the memory is another.
 pub fn number(bytes: &[u8]) -> u32 {
     let mut distances = [7u32; 14403];
     let mut settings = [9u8; 123];
-    let outcome = study_file::read(nonsense(), &mut distances, &mut settings, bytes);
+    let outcome = read_into(&mut distances, &mut settings, bytes);
     let after = outcome.dataset;
     let answer = outcome.answer;
     let Answer::Refused(why) = answer else {
@@ -34,28 +55,10 @@ pub fn number(bytes: &[u8]) -> u32 {
     if after.n != 300 {
         return 98;
     }
-    if !same_front(&[7u32; 14403], &distances) {
-        return 98;
-    }
-    if !check::same(&settings, &[9u8; 123]) {
+    if !unchanged(&distances, &settings) {
         return 98;
     }
     number_of(why)
-}
-
-// Whether Read gives 7 and this pair.
-pub fn gives_pair(bytes: &[u8], i: usize, j: usize) -> bool {
-    let mut distances = [7u32; 14403];
-    let mut settings = [9u8; 123];
-    let outcome = study_file::read(nonsense(), &mut distances, &mut settings, bytes);
-    let answer = outcome.answer;
-    let Answer::Refused(why) = answer else {
-        return false;
-    };
-    match why {
-        Refusal::ThreeTideRule(a, b) => a == i && b == j,
-        _ => false,
-    }
 }
 
 // Whether these bytes are the first n of the room, and the byte after them is as before.
@@ -70,13 +73,13 @@ fn wrote(room: &[u8], n: usize, bytes: &[u8]) -> bool {
 pub fn comes_back(bytes: &[u8]) -> bool {
     let mut distances = [7u32; 14403];
     let mut settings = [9u8; 123];
-    let outcome = study_file::read(nonsense(), &mut distances, &mut settings, bytes);
+    let outcome = read_into(&mut distances, &mut settings, bytes);
     let answer = outcome.answer;
     let Answer::Done = answer else {
         return false;
     };
     let mut room = [170u8; 64];
-    let written = study_file::write(outcome.dataset, &distances, &settings, &mut room);
+    let written = write(outcome.dataset, &distances, &settings, &mut room);
     let Written::Done(n) = written else {
         return false;
     };

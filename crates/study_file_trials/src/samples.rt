@@ -1,15 +1,15 @@
 // Records, datasets and files to try the calls on.
+use crate::reading::write;
 use study::Dataset;
 use study::Minima;
+use trial_tools::samples::entered;
 use trial_tools::samples::two_tides;
 
 // Four tides on a line at 0, 3, 7 and 12, with minima that they meet.
 pub fn four_tides(distances: &mut [u32], settings: &mut [u8]) -> Dataset {
     let two = two_tides(distances, settings);
-    let third = dataset::enter(two, distances, settings, 2, &[7, 4]);
-    let three = third.dataset;
-    let fourth = dataset::enter(three, distances, settings, 1, &[12, 9, 5]);
-    let four = fourth.dataset;
+    let three = entered(two, distances, settings, 2, &[7, 4]);
+    let four = entered(three, distances, settings, 1, &[12, 9, 5]);
     let minima = Minima {
         b0: 2,
         b: [1, 1, 0, 0, 0, 0, 0, 0],
@@ -77,7 +77,7 @@ pub fn small_file() -> [u8; 64] {
     let mut settings = [9u8; 120];
     let mut file = [0u8; 64];
     let four = four_tides(&mut distances, &mut settings);
-    study_file::write(four, &distances, &settings, &mut file);
+    write(four, &distances, &settings, &mut file);
     file
 }
 

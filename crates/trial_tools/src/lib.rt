@@ -1,5 +1,4 @@
-// What the trial programs share: numbers from a fixed generator, datasets, parts of slices, counts.
-pub mod draws;
+// What the trial programs share: datasets, parts of slices, counts.
 pub mod samples;
 pub mod slices;
 pub mod tally;

@@ -13,12 +13,33 @@ pub fn nonsense() -> Dataset {
     }
 }
 
+// The record that Open leaves.
+pub fn opened(distances: &mut [u32], settings: &mut [u8], k: u8) -> Dataset {
+    let outcome = dataset::open(nonsense(), distances, settings, k);
+    outcome.dataset
+}
+
+// The record that Enter leaves.
+pub fn entered(
+    held: Dataset,
+    distances: &mut [u32],
+    settings: &mut [u8],
+    setting: u8,
+    row: &[u32],
+) -> Dataset {
+    let outcome = dataset::enter(held, distances, settings, setting, row);
+    outcome.dataset
+}
+
+// The record that Minima leaves.
+pub fn with_minima(held: Dataset, distances: &[u32], settings: &[u8], minima: Minima) -> Dataset {
+    let outcome = dataset::set_minima(held, distances, settings, minima);
+    outcome.dataset
+}
+
 // k = 2, and two tides at 3, of settings 1 and 2.
 pub fn two_tides(distances: &mut [u32], settings: &mut [u8]) -> Dataset {
-    let opened = dataset::open(nonsense(), distances, settings, 2);
-    let empty = opened.dataset;
-    let first = dataset::enter(empty, distances, settings, 1, &[]);
-    let one = first.dataset;
-    let second = dataset::enter(one, distances, settings, 2, &[3]);
-    second.dataset
+    let empty = opened(distances, settings, 2);
+    let one = entered(empty, distances, settings, 1, &[]);
+    entered(one, distances, settings, 2, &[3])
 }

@@ -1,4 +1,5 @@
 // Counts of trials, and of those that came out as expected.
+use refusal_numbers::number_of;
 use study::Answer;
 use study::Outcome;
 use study::Refusal;
@@ -10,30 +11,6 @@ pub struct Tally {
 
 pub fn new() -> Tally {
     Tally { tried: 0, right: 0 }
-}
-
-// Document 01's number of a refusal.
-pub fn number_of(why: Refusal) -> u32 {
-    match why {
-        Refusal::ShortMemory => 1,
-        Refusal::SettingCount => 2,
-        Refusal::Minima => 3,
-        Refusal::RowLength => 4,
-        Refusal::Setting => 5,
-        Refusal::Distance => 6,
-        Refusal::ThreeTideRule(_, _) => 7,
-        Refusal::FileLength => 8,
-        Refusal::Mark => 9,
-        Refusal::TideCount => 10,
-        Refusal::FillBits => 11,
-        Refusal::ListLength => 12,
-        Refusal::NotDataset => 21,
-        Refusal::Full => 22,
-        Refusal::NoSuchTide => 23,
-        Refusal::NoTides => 24,
-        Refusal::TooFewTides => 25,
-        Refusal::WithdrawalLimit => 26,
-    }
 }
 
 // An answer by its number; 0 is done.

@@ -1,13 +1,15 @@
 // Document 01's cases 7 to 9: what Enter, Read, Write and Withdraw give.
-use crate::given::is_done;
-use crate::small::gap;
 use blocking::records::block_by_value;
+use comparisons::given::is_done;
+use plain_blocker::small::gap;
 use study::Dataset;
 use study::Minima;
 use study::Outcome;
 use study_file::Written;
 use trial_tools::samples::nonsense;
+use trial_tools::samples::opened;
 use trial_tools::samples::two_tides;
+use trial_tools::samples::with_minima;
 use trial_tools::slices::front_row;
 use trial_tools::tally::Tally;
 
@@ -35,12 +37,16 @@ fn is_length(written: Written, length: usize) -> bool {
 }
 
 // Open and then Write.
-fn written_empty(so_far: Tally) -> Tally {
+fn write_empty(file: &mut [u8]) -> Written {
     let mut distances = [7u32; 14403];
     let mut settings = [9u8; 123];
+    let empty = opened(&mut distances, &mut settings, 1);
+    study_file::write(empty, &distances, &settings, file)
+}
+
+fn written_empty(so_far: Tally) -> Tally {
     let mut file = [170u8; 9];
-    let opened = dataset::open(nonsense(), &mut distances, &mut settings, 1);
-    let written = study_file::write(opened.dataset, &distances, &settings, &mut file);
+    let written = write_empty(&mut file);
     so_far.see(is_length(written, 7)).see(check::same(
         &file,
         &[0x54, 0, 0x20, 0x40, 0, 0, 0, 170, 170],
@@ -53,14 +59,18 @@ fn read(file: &[u8]) -> Outcome {
     study_file::read(nonsense(), &mut distances, &mut settings, file)
 }
 
-pub fn case_8(so_far: Tally) -> Tally {
+fn read_empty(so_far: Tally) -> Tally {
     let empty = read(&[0x54, 0, 0x20, 0x40, 0, 0, 0]);
     let dataset = empty.dataset;
     let minima = dataset.minima;
-    written_empty(so_far)
+    so_far
         .outcome(empty, 0)
         .see(dataset.k == 1 && dataset.n == 0)
         .see(minima.b0 == 1 && dataset.withdrawn == 0)
+}
+
+pub fn case_8(so_far: Tally) -> Tally {
+    read_empty(written_empty(so_far))
         .outcome(read(&[0x54, 0, 0x20, 0x40, 0, 0, 1]), 11)
         .outcome(read(&[0x54, 0, 0x20, 0x40, 0, 0]), 8)
 }
@@ -84,8 +94,7 @@ fn enter_at(held: Dataset, distances: &mut [u32], settings: &mut [u8], t: u8) ->
 
 // 120 tides at 0, 1, 2, ..
 fn full(distances: &mut [u32], settings: &mut [u8]) -> Dataset {
-    let opened = dataset::open(nonsense(), distances, settings, 1);
-    let mut next = opened.dataset;
+    let mut next = opened(distances, settings, 1);
     let mut t: u8 = 0;
     while t < 120 {
         let entered = enter_at(next, distances, settings, t);
@@ -98,26 +107,35 @@ fn full(distances: &mut [u32], settings: &mut [u8]) -> Dataset {
 // With b0 = 2: sixty pairs of neighbours.
 fn blocks_in_pairs(dataset: Dataset, distances: &[u32], settings: &[u8]) -> bool {
     let mut list = [170u8; 120];
-    let minima = Minima { b0: 2, b: [0; 8] };
-    let set = dataset::set_minima(dataset, distances, settings, minima);
-    let blocked = block_by_value(set.dataset, distances, settings, &mut list);
+    let two = with_minima(dataset, distances, settings, Minima { b0: 2, b: [0; 8] });
+    let blocked = block_by_value(two, distances, settings, &mut list);
     let answer = blocked.answer;
     is_done(answer, 60, 1, 1)
 }
 
+// Tide 121 is refused.
+fn one_more(so_far: Tally, full: Dataset, distances: &mut [u32], settings: &mut [u8]) -> Tally {
+    let refused = enter_at(full, distances, settings, 120);
+    so_far
+        .outcome(refused, 22)
+        .see(full.n == 120)
+        .see(blocks_in_pairs(full, distances, settings))
+}
+
 // After the first has gone, the next one is as far from those held as tide 120 was.
+fn one_gone(so_far: Tally, full: Dataset, distances: &mut [u32], settings: &mut [u8]) -> Tally {
+    let withdrawn = dataset::withdraw(full, distances, settings, 1);
+    let entered = enter_at(withdrawn.dataset, distances, settings, 119);
+    so_far
+        .outcome(withdrawn, 0)
+        .outcome(entered, 0)
+        .see(blocks_in_pairs(entered.dataset, distances, settings))
+}
+
 pub fn case_9(so_far: Tally) -> Tally {
     let mut distances = [7u32; 14403];
     let mut settings = [9u8; 123];
     let full = full(&mut distances, &mut settings);
-    let refused = enter_at(full, &mut distances, &mut settings, 120);
-    let t = so_far
-        .see(full.n == 120)
-        .see(blocks_in_pairs(full, &distances, &settings))
-        .outcome(refused, 22);
-    let withdrawn = dataset::withdraw(full, &mut distances, &mut settings, 1);
-    let entered = enter_at(withdrawn.dataset, &mut distances, &mut settings, 119);
-    t.outcome(withdrawn, 0)
-        .outcome(entered, 0)
-        .see(blocks_in_pairs(entered.dataset, &distances, &settings))
+    let t = one_more(so_far, full, &mut distances, &mut settings);
+    one_gone(t, full, &mut distances, &mut settings)
 }

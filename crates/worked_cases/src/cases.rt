@@ -1,14 +1,14 @@
 // Document 01's cases 1 to 6 through the calls. A place of a list past the last tide is 0 here.
-use crate::comparing;
-use crate::exhaustive;
-use crate::given::blocked;
-use crate::given::blocked_number;
-use crate::given::is_done;
-use crate::given::is_list;
-use crate::judging::is_approved;
-use crate::judging::judged;
-use crate::small::Small;
-use crate::small::table;
+use comparisons::comparing;
+use comparisons::given::blocked;
+use comparisons::given::blocked_number;
+use comparisons::given::is_done;
+use comparisons::given::is_list;
+use comparisons::judging::is_approved;
+use comparisons::judging::judged;
+use plain_blocker::exhaustive;
+use plain_blocker::small::Small;
+use plain_blocker::small::table;
 use study::BlockRecord;
 use study::Blocked;
 use study::Minima;

@@ -1,18 +1,20 @@
 // Each reason of Centres, Block and Judge, most where a later one holds too, so that the order shows. Block's records are always
 // 120 here, so that they are never too short.
-use crate::given::all_blank;
-use crate::given::blocked_number;
 use blocking::centres::centres_into;
 use blocking::judge::judge;
 use blocking::records::block_by_value;
+use comparisons::given::all_blank;
+use comparisons::given::blocked_number;
+use refusal_numbers::number_of;
 use study::Dataset;
 use study::Judged;
 use study::Minima;
 use trial_tools::samples::nonsense;
+use trial_tools::samples::opened;
 use trial_tools::samples::two_tides;
+use trial_tools::samples::with_minima;
 use trial_tools::tally::Tally;
 use trial_tools::tally::answer_number;
-use trial_tools::tally::number_of;
 
 // Whether a list still holds 170 at every place.
 fn kept(list: &[u8]) -> bool {
@@ -30,7 +32,10 @@ fn kept(list: &[u8]) -> bool {
 fn centres_number(dataset: Dataset, distances: &[u32], settings: &[u8], list: &mut [u8]) -> u32 {
     let counted = centres_into(dataset, distances, settings, 1, list);
     let answer = counted.answer;
-    if counted.count != 0 || !kept(list) {
+    if counted.count != 0 {
+        return 98;
+    }
+    if !kept(list) {
         return 98;
     }
     answer_number(answer)
@@ -40,7 +45,10 @@ fn block_number(dataset: Dataset, distances: &[u32], settings: &[u8], list: &mut
     let blocked = block_by_value(dataset, distances, settings, list);
     let answer = blocked.answer;
     let records = blocked.records;
-    if !kept(list) || !all_blank(records) {
+    if !kept(list) {
+        return 98;
+    }
+    if !all_blank(records) {
         return 98;
     }
     blocked_number(answer)
@@ -109,8 +117,8 @@ fn no_dataset(so_far: Tally) -> Tally {
 fn no_tides(so_far: Tally) -> Tally {
     let mut distances = [7u32; 14400];
     let mut settings = [9u8; 120];
-    let opened = dataset::open(nonsense(), &mut distances, &mut settings, 1);
-    refused(so_far, opened.dataset, &distances, &settings, 24, 24, 24)
+    let empty = opened(&mut distances, &mut settings, 1);
+    refused(so_far, empty, &distances, &settings, 24, 24, 24)
 }
 
 // Two tides of settings 1 and 2, with these minima: the lists are too short, and 25 comes before that.
@@ -122,8 +130,8 @@ fn two(so_far: Tally, b0: u8, first: u8, block: u32) -> Tally {
         b: [first, 0, 0, 0, 0, 0, 0, 0],
     };
     let held = two_tides(&mut distances, &mut settings);
-    let set = dataset::set_minima(held, &distances, &settings, minima);
-    refused(so_far, set.dataset, &distances, &settings, 1, block, 12)
+    let set = with_minima(held, &distances, &settings, minima);
+    refused(so_far, set, &distances, &settings, 1, block, 12)
 }
 
 // A list of three places: one too many for Judge, whose first number is 0.

@@ -12,23 +12,8 @@ returns c = block-scant _ _ (inl (c .if1 .taken))
 returns-2 : tie.Need-returns-2
 returns-2 c = block-scant _ _ (inr (c .if2 .taken))
 
-least-requires : tie.Need-least-requires
-least-requires c κs = search needs
-
-dataset-of-requires : tie.Need-dataset-of-requires
-dataset-of-requires c κs = search needs
-
-block-core-requires : tie.Need-block-core-requires
-block-core-requires c κs = search needs
-
-enum-known-answer : tie.Need-enum-known-answer
-enum-known-answer c = search needs
-
 refusal-code-requires : tie.Need-refusal-code-requires
 refusal-code-requires c κs = block-narrow _ _ _ _ (c .before .before .before .before .before .before .block-core .ensures .0) (c .before .answer .given .1)
-
-enum-known-answer-2 : tie.Need-enum-known-answer-2
-enum-known-answer-2 c = search needs
 
 put-columns-requires : tie.Need-put-columns-requires
 put-columns-requires c κs =
@@ -42,15 +27,6 @@ cast-count c =
     let e = k .before .before .before .before .before .block-core .ensures in
     omega (arith, blocks-small _ _ _ _ (e .0) (k .answer2 .given .1) (e .1 .0))
 
-slice-aggregate-put-numbers : tie.Need-slice-aggregate-put-numbers
-slice-aggregate-put-numbers c = search needs
-
-put-numbers-requires : tie.Need-put-numbers-requires
-put-numbers-requires c κs = search needs
-
-same-length : tie.Need-same-length
-same-length c = search needs
-
 returns-3 : tie.Need-returns-3
 returns-3 c =
     let k = c .before .before .before .before .before .before .before in
@@ -58,21 +34,6 @@ returns-3 c =
     let d = k .before .before in
     block-refused _ _ (record { room = d .before .before .before .if1 .left; enough = d .before .before .if2 .left; held = d .dataset-of .ensures }) (d .before .least .ensures) _ (e .0)
     (e .1 .1) (c .before .before .answer .given .1) (c .refusal-code .ensures)
-
-same-length-2 : tie.Need-same-length-2
-same-length-2 c = search needs
-
-same-length-3 : tie.Need-same-length-3
-same-length-3 c = search needs
-
-same-length-4 : tie.Need-same-length-4
-same-length-4 c = search needs
-
-same-length-5 : tie.Need-same-length-5
-same-length-5 c = search needs
-
-same-length-6 : tie.Need-same-length-6
-same-length-6 c = search needs
 
 returns-4 : tie.Need-returns-4
 returns-4 c =
@@ -90,21 +51,21 @@ tides-block-spec =
     (tie.spec
     returns
     returns-2
-    least-requires
-    dataset-of-requires
-    block-core-requires
-    enum-known-answer
+    (λ c κs. search needs)
+    (λ c κs. search needs)
+    (λ c κs. search needs)
+    (λ c. search needs)
     refusal-code-requires
-    enum-known-answer-2
+    (λ c. search needs)
     put-columns-requires
     cast-count
-    slice-aggregate-put-numbers
-    put-numbers-requires
-    same-length
+    (λ c. search needs)
+    (λ c κs. search needs)
+    (λ c. search needs)
     returns-3
-    same-length-2
-    same-length-3
-    same-length-4
-    same-length-5
-    same-length-6
+    (λ c. search needs)
+    (λ c. search needs)
+    (λ c. search needs)
+    (λ c. search needs)
+    (λ c. search needs)
     returns-4)

@@ -14,49 +14,31 @@ returns c = centres-scant _ _ _ _ (inl (c .if1 .taken))
 returns-2 : tie.Need-returns-2
 returns-2 c = centres-scant _ _ _ _ (inr (c .if2 .taken))
 
-dataset-of-requires : tie.Need-dataset-of-requires
-dataset-of-requires c κs = search needs
-
-centres-into-requires : tie.Need-centres-into-requires
-centres-into-requires c κs = search needs
-
-enum-told : tie.Need-enum-told
-enum-told c = search needs
-
-enum-told-2 : tie.Need-enum-told-2
-enum-told-2 c = search needs
-
 answer-code-requires : tie.Need-answer-code-requires
 answer-code-requires c κs = subst Narrow (sym (c .before .before .before .before .centres-into .ensures .0)) (centres-narrow _ _)
-
-same-length : tie.Need-same-length
-same-length c = search needs
 
 returns-3 : tie.Need-returns-3
 returns-3 c =
     let k = c .before .before .before .before .before in
     let e = k .centres-into .ensures in
-    centres-refused _ _ _ _ (record { room = k .before .before .before .before .if1 .left; enough = k .before .before .before .if2 .left; held = k .before .before .dataset-of .ensures }) _ (e .0) (e .1 .0) (e .1 .1) (c .before .enum-told2 .given .1) (c .answer-code .ensures)
+    let room = k .before .before .before .before .if1 .left in
+    let enough = k .before .before .before .if2 .left in
+    let held = k .before .before .dataset-of .ensures in
+    centres-refused _ _ _ _ (record { room = room; enough = enough; held = held }) _ (e .0) (e .1 .0) (e .1 .1) (c .before .enum-told2 .given .1) (c .answer-code .ensures)
 
 cast-count : tie.Need-cast-count
 cast-count c =
     let e = c .before .before .before .before .before .centres-into .ensures in
     omega (arith, count-fits _ _ _ _ (e .0) (c .before .enum-told .given .1) (e .1 .0))
 
-slice-write-count : tie.Need-slice-write-count
-slice-write-count c = search needs
-
-same-length-2 : tie.Need-same-length-2
-same-length-2 c = search needs
-
-same-length-3 : tie.Need-same-length-3
-same-length-3 c = search needs
-
 returns-4 : tie.Need-returns-4
 returns-4 c =
     let k = c .before .before .before .before .before in
     let e = k .centres-into .ensures in
-    centres-done _ _ _ _ (record { room = k .before .before .before .before .if1 .left; enough = k .before .before .before .if2 .left; held = k .before .before .dataset-of .ensures }) _ (e .0) (e .1 .0) (e .1 .1) (c .before .enum-told .given .1)
+    let room = k .before .before .before .before .if1 .left in
+    let enough = k .before .before .before .if2 .left in
+    let held = k .before .before .dataset-of .ensures in
+    centres-done _ _ _ _ (record { room = room; enough = enough; held = held }) _ (e .0) (e .1 .0) (e .1 .1) (c .before .enum-told .given .1)
 
 pub tides-centres-spec : {M : Type 1} → statement M
 tides-centres-spec =
@@ -64,15 +46,15 @@ tides-centres-spec =
     (tie.spec
     returns
     returns-2
-    dataset-of-requires
-    centres-into-requires
-    enum-told
-    enum-told-2
+    (λ c κs. search needs)
+    (λ c κs. search needs)
+    (λ c. search needs)
+    (λ c. search needs)
     answer-code-requires
-    same-length
+    (λ c. search needs)
     returns-3
     cast-count
-    slice-write-count
-    same-length-2
-    same-length-3
+    (λ c. search needs)
+    (λ c. search needs)
+    (λ c. search needs)
     returns-4)

@@ -15,29 +15,19 @@ returns-2 : tie.Need-returns-2
 unfolding minimaVerdict minimaLeft
 returns-2 c = left-scant _ _ _ (lacks-one _ _ (inr (c .if2 .taken)))
 
-dataset-of-requires : tie.Need-dataset-of-requires
-dataset-of-requires c κs = search needs
-
-minima-of-requires : tie.Need-minima-of-requires
-minima-of-requires c κs = search needs
-
-set-minima-requires : tie.Need-set-minima-requires
-set-minima-requires c κs = search needs
-
 settle-requires : tie.Need-settle-requires
 unfolding minimaLeaves
 settle-requires c κs =
     let k = c .before in
     storable _ (minima-sound _ _) (k .before .before .before .before .before .if1 .left) (k .set-minima .ensures .0) (k .set-minima .ensures .1)
 
-same-length : tie.Need-same-length
-same-length c = search needs
-
 returns-3 : tie.Need-returns-3
 returns-3 c =
     let k = c .before .before .before .before in
     let s = c .before .before .settle .ensures in
-    minima-left (record { room = k .before .before .before .before .before .if1 .left; held = k .before .before .dataset-of .ensures; answer = s .0; written = s .1 }) _ (k .before .before .before .before .if2 .left) (k .before .minima-of .ensures) (k .set-minima .ensures .0) (k .set-minima .ensures .1)
+    let room = k .before .before .before .before .before .if1 .left in
+    let held = k .before .before .dataset-of .ensures in
+    minima-left (record { room = room; held = held; answer = s .0; written = s .1 }) _ (k .before .before .before .before .if2 .left) (k .before .minima-of .ensures) (k .set-minima .ensures .0) (k .set-minima .ensures .1)
 
 pub tides-minima-spec : {M : Type 1} → statement M
 tides-minima-spec =
@@ -45,9 +35,9 @@ tides-minima-spec =
     (tie.spec
     returns
     returns-2
-    dataset-of-requires
-    minima-of-requires
-    set-minima-requires
+    (λ c κs. search needs)
+    (λ c κs. search needs)
+    (λ c κs. search needs)
     settle-requires
-    same-length
+    (λ c. search needs)
     returns-3)

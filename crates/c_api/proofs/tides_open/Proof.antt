@@ -10,42 +10,29 @@ returns : tie.Need-returns
 unfolding openVerdict openLeft
 returns c = left-scant _ _ _ (lacks-yes 12 _ (c .if1 .taken))
 
-dataset-of-requires : tie.Need-dataset-of-requires
-dataset-of-requires c κs = search needs
-
-open-requires : tie.Need-open-requires
-open-requires c κs = search needs
-
 settle-requires : tie.Need-settle-requires
 unfolding openLeaves
 settle-requires c κs =
     let k = c .before .before .before .before .before in
     storable _ (open-sound _ _) (k .before .before .before .before .before .if1 .left) (k .«open» .ensures .0) (k .«open» .ensures .1)
 
-same-length : tie.Need-same-length
-same-length c = search needs
-
-same-length-2 : tie.Need-same-length-2
-same-length-2 c = search needs
-
-same-length-3 : tie.Need-same-length-3
-same-length-3 c = search needs
-
 returns-2 : tie.Need-returns-2
 returns-2 c =
     let k = c .before .before .before .before .before .before .before .before in
     let s = c .before .before .settle .ensures in
-    open-left (record { room = k .before .before .before .before .before .if1 .left; held = k .before .before .before .dataset-of .ensures; answer = s .0; written = s .1 }) _ (k .«open» .ensures .0) (k .«open» .ensures .1)
+    let room = k .before .before .before .before .before .if1 .left in
+    let held = k .before .before .before .dataset-of .ensures in
+    open-left (record { room = room; held = held; answer = s .0; written = s .1 }) _ (k .«open» .ensures .0) (k .«open» .ensures .1)
 
 pub tides-open-spec : {M : Type 1} → statement M
 tides-open-spec =
     tie.close
     (tie.spec
     returns
-    dataset-of-requires
-    open-requires
+    (λ c κs. search needs)
+    (λ c κs. search needs)
     settle-requires
-    same-length
-    same-length-2
-    same-length-3
+    (λ c. search needs)
+    (λ c. search needs)
+    (λ c. search needs)
     returns-2)

@@ -12,45 +12,27 @@ returns c = write-scant _ _ _ (inl (c .if1 .taken))
 returns-2 : tie.Need-returns-2
 returns-2 c = write-scant _ _ _ (inr (c .if2 .taken))
 
-dataset-of-requires : tie.Need-dataset-of-requires
-dataset-of-requires c κs = search needs
-
-write-requires : tie.Need-write-requires
-write-requires c κs = search needs
-
-enum-known-written : tie.Need-enum-known-written
-enum-known-written c = search needs
-
 refusal-code-requires : tie.Need-refusal-code-requires
 refusal-code-requires c κs = why-narrow _ _ _ (c .before .before .before .before .before .write .ensures .0) (c .before .written .given .1)
-
-enum-known-written-2 : tie.Need-enum-known-written-2
-enum-known-written-2 c = search needs
 
 cast-result : tie.Need-cast-result
 cast-result c = omega (arith, size-fits _ _ _ (c .before .before .before .before .before .write .ensures .0) (c .before .written2 .given .1))
 
-slice-write-result : tie.Need-slice-write-result
-slice-write-result c = search needs
-
-same-length : tie.Need-same-length
-same-length c = search needs
-
 returns-3 : tie.Need-returns-3
 returns-3 c =
     let k = c .before .before .before .before .before .before in
-    write-refused _ _ _ (record { room = k .before .before .before .before .if1 .left; enough = k .before .before .before .if2 .left; held = k .before .before .dataset-of .ensures }) _ (k .write .ensures .0) (k .write .ensures .1) (c .before .before .written .given .1) (c .refusal-code .ensures)
-
-same-length-2 : tie.Need-same-length-2
-same-length-2 c = search needs
-
-same-length-3 : tie.Need-same-length-3
-same-length-3 c = search needs
+    let room = k .before .before .before .before .if1 .left in
+    let enough = k .before .before .before .if2 .left in
+    let held = k .before .before .dataset-of .ensures in
+    write-refused _ _ _ (record { room = room; enough = enough; held = held }) _ (k .write .ensures .0) (k .write .ensures .1) (c .before .before .written .given .1) (c .refusal-code .ensures)
 
 returns-4 : tie.Need-returns-4
 returns-4 c =
     let k = c .before .before .before .before .before in
-    write-done _ _ _ (record { room = k .before .before .before .before .if1 .left; enough = k .before .before .before .if2 .left; held = k .before .before .dataset-of .ensures }) _ (k .write .ensures .0) (k .write .ensures .1) (c .before .written2 .given .1)
+    let room = k .before .before .before .before .if1 .left in
+    let enough = k .before .before .before .if2 .left in
+    let held = k .before .before .dataset-of .ensures in
+    write-done _ _ _ (record { room = room; enough = enough; held = held }) _ (k .write .ensures .0) (k .write .ensures .1) (c .before .written2 .given .1)
 
 pub tides-write-spec : {M : Type 1} → statement M
 tides-write-spec =
@@ -58,15 +40,15 @@ tides-write-spec =
     (tie.spec
     returns
     returns-2
-    dataset-of-requires
-    write-requires
-    enum-known-written
+    (λ c κs. search needs)
+    (λ c κs. search needs)
+    (λ c. search needs)
     refusal-code-requires
-    enum-known-written-2
+    (λ c. search needs)
     cast-result
-    slice-write-result
-    same-length
+    (λ c. search needs)
+    (λ c. search needs)
     returns-3
-    same-length-2
-    same-length-3
+    (λ c. search needs)
+    (λ c. search needs)
     returns-4)

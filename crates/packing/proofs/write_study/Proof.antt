@@ -5,32 +5,8 @@ use borrow.Author.Needs.{needs}
 use Rattle.packing.proofs.write_study.Statement.{statement}
 use Rattle.packing.proofs.write_study.Tie as tie
 
-enum-known-over : tie.Need-enum-known-over
-enum-known-over c = search needs
-
-enum-known-over-2 : tie.Need-enum-known-over-2
-enum-known-over-2 c = search needs
-
-write-requires : tie.Need-write-requires
-write-requires c κs = search needs
-
-enum-known-reply : tie.Need-enum-known-reply
-enum-known-reply c = search needs
-
-enum-known-reply-2 : tie.Need-enum-known-reply-2
-enum-known-reply-2 c = search needs
-
-returns : tie.Need-returns
-returns c = search needs
-
-same-length : tie.Need-same-length
-same-length c = search needs
-
 returns-2 : tie.Need-returns-2
 returns-2 c = (write-told (c .before .before .before .before .before .before .before .before .before .before .before .before .before .before .pre) (c .before .before .before .before .before .before .before .before .over2 .given .1) (c .before .before .before .before .before .write .result) _ (c .before .before .before .before .before .write .ensures .0) (sym (ap (packedBy _) (c .before .reply .given .1))), write-left (c .before .before .before .before .before .before .before .before .before .before .before .before .before .before .pre) (c .before .before .before .before .before .before .before .before .over2 .given .1) _ (c .before .before .before .before .before .write .ensures .1))
-
-same-length-2 : tie.Need-same-length-2
-same-length-2 c = search needs
 
 returns-3 : tie.Need-returns-3
 returns-3 c = (write-told (c .before .before .before .before .before .before .before .before .before .before .before .before .before .before .pre) (c .before .before .before .before .before .before .before .before .over2 .given .1) (c .before .before .before .before .before .write .result) _ (c .before .before .before .before .before .write .ensures .0) (sym (ap (packedBy _) (c .before .reply2 .given .1))), write-left (c .before .before .before .before .before .before .before .before .before .before .before .before .before .before .pre) (c .before .before .before .before .before .before .before .before .over2 .given .1) _ (c .before .before .before .before .before .write .ensures .1))
@@ -39,13 +15,13 @@ pub write-study-spec : {M : Type 1} → statement M
 write-study-spec =
     tie.close
     (tie.spec
-    enum-known-over
-    enum-known-over-2
-    write-requires
-    enum-known-reply
-    enum-known-reply-2
-    returns
-    same-length
+    (λ c. search needs)
+    (λ c. search needs)
+    (λ c κs. search needs)
+    (λ c. search needs)
+    (λ c. search needs)
+    (λ c. search needs)
+    (λ c. search needs)
     returns-2
-    same-length-2
+    (λ c. search needs)
     returns-3)

@@ -8,15 +8,6 @@ use borrow.Author.Needs.{needs}
 use Rattle.printing.proofs.blocked_sheet.Statement.{statement}
 use Rattle.printing.proofs.blocked_sheet.Tie as tie
 
-slice-aggregate-block-by-value : tie.Need-slice-aggregate-block-by-value
-slice-aggregate-block-by-value c = search needs
-
-block-by-value-requires : tie.Need-block-by-value-requires
-block-by-value-requires c κs = search needs
-
-sheet-text-requires : tie.Need-sheet-text-requires
-sheet-text-requires c κs = search needs
-
 returns : tie.Need-returns
 returns c =
     let a = c .before .before .before .before .before .before .before .args in
@@ -27,4 +18,4 @@ returns c =
 pub blocked-sheet-spec : {M : Type 1} → statement M
 blocked-sheet-spec =
     tie.close
-    (tie.spec slice-aggregate-block-by-value block-by-value-requires sheet-text-requires returns)
+    (tie.spec (λ c. search needs) (λ c κs. search needs) (λ c κs. search needs) returns)

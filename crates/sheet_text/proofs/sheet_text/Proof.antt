@@ -4,14 +4,8 @@ use borrow.Author.Needs.{needs}
 use Rattle.sheet_text.proofs.sheet_text.Statement.{statement}
 use Rattle.sheet_text.proofs.sheet_text.Tie as tie
 
-slice-aggregate-put-sheet : tie.Need-slice-aggregate-put-sheet
-slice-aggregate-put-sheet c = search needs
-
-put-sheet-requires : tie.Need-put-sheet-requires
-put-sheet-requires c κs = search needs
-
 returns : tie.Need-returns
 returns c = (c .before .put-sheet .ensures .0, puts-front (c .before .put-sheet .ensures .1))
 
 pub sheet-text-spec : {M : Type 1} → statement M
-sheet-text-spec = tie.close (tie.spec slice-aggregate-put-sheet put-sheet-requires returns)
+sheet-text-spec = tie.close (tie.spec (λ c. search needs) (λ c κs. search needs) returns)

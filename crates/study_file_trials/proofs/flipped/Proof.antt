@@ -5,31 +5,10 @@ use Rattle.study_file_trials.proofs.flipped.Statement.{statement}
 use Rattle.study_file_trials.proofs.flipped.Tie as tie
 
 abbrev Inv-loop : tie.InvT-loop
-Inv-loop t₀ p₀ t p = p ≤ 192
+Inv-loop all₀ p₀ all p = p ≤ 192
 
 abbrev μ-loop : tie.MeasureT-loop
-μ-loop t₀ p₀ t p = 192 - p
-
-loop-holds : tie.Need-loop-holds Inv-loop μ-loop
-loop-holds c = search needs
-
-flip-told-requires : tie.Need-flip-told-requires Inv-loop μ-loop
-flip-told-requires c κs = search needs
-
-see-requires : tie.Need-see-requires Inv-loop μ-loop
-see-requires c κs = search needs
-
-add-p : tie.Need-add-p Inv-loop μ-loop
-add-p c = search needs
-
-loop-less : tie.Need-loop-less Inv-loop μ-loop
-loop-less c = search needs
-
-loop-again : tie.Need-loop-again Inv-loop μ-loop
-loop-again c = search needs
-
-returns : tie.Need-returns Inv-loop μ-loop
-returns c = search needs
+μ-loop all₀ p₀ all p = 192 - p
 
 pub flipped-spec : {M : Type 1} → statement M
 flipped-spec =
@@ -37,10 +16,11 @@ flipped-spec =
     (tie.spec
     Inv-loop
     μ-loop
-    loop-holds
-    flip-told-requires
-    see-requires
-    add-p
-    loop-less
-    loop-again
-    returns)
+    (λ c κs. search needs)
+    (λ c κs. search needs)
+    (λ c. search needs)
+    (λ c κs. search needs)
+    (λ c. search needs)
+    (λ c. search needs)
+    (λ c. search needs)
+    (λ c. search needs))

@@ -7,21 +7,12 @@ use mathlib.Core.Path.{sym, ap, _∙_, subst}
 use Rattle.c_api.proofs.code.answer_code.Statement.{statement}
 use Rattle.c_api.proofs.code.answer_code.Tie as tie
 
-enum-told : tie.Need-enum-told
-enum-told c = search needs
-
-enum-known-answer : tie.Need-enum-known-answer
-enum-known-answer c = search needs
-
 refusal-code-requires : tie.Need-refusal-code-requires
 refusal-code-requires c κs = subst (λ a. Narrow (verdictOf a)) (c .before .answer .given .1) (c .before .before .before .pre)
-
-returns : tie.Need-returns
-returns c = search needs
 
 returns-2 : tie.Need-returns-2
 returns-2 c = c .refusal-code .ensures ∙ ap (λ a. code (verdictOf a)) (sym (c .before .before .answer .given .1))
 
 pub answer-code-spec : {M : Type 1} → statement M
 answer-code-spec =
-    tie.close (tie.spec enum-told enum-known-answer refusal-code-requires returns returns-2)
+    tie.close (tie.spec (λ c. search needs) (λ c. search needs) refusal-code-requires (λ c. search needs) returns-2)

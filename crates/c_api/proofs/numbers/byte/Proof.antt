@@ -7,11 +7,8 @@ use Rattle.c_api.proofs.numbers.byte.Tie as tie
 returns : tie.Need-returns
 returns c = cut-high _ (c .if1 .taken)
 
-cast-result : tie.Need-cast-result
-cast-result c = search needs
-
 returns-2 : tie.Need-returns-2
 returns-2 c = cut-low _ (c .if1 .left)
 
 pub byte-spec : {M : Type 1} → statement M
-byte-spec = tie.close (tie.spec returns cast-result returns-2)
+byte-spec = tie.close (tie.spec returns (λ c. search needs) returns-2)

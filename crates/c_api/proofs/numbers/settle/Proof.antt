@@ -6,25 +6,10 @@ use Rattle.c_api.specs.CallLaws.{settle-done}
 use Rattle.c_api.proofs.numbers.settle.Statement.{statement}
 use Rattle.c_api.proofs.numbers.settle.Tie as tie
 
-enum-told : tie.Need-enum-told
-enum-told c = search needs
-
-enum-told-2 : tie.Need-enum-told-2
-enum-told-2 c = search needs
-
-answer-code-requires : tie.Need-answer-code-requires
-answer-code-requires c κs = search needs
-
-returns : tie.Need-returns
-returns c = search needs
-
 put-dataset-requires : tie.Need-put-dataset-requires
 put-dataset-requires c κs =
     let p = c .before .before .before .before .before .pre in
     (p .room, p .few (ap verdictOf (c .before .before .enum-told .given .1)))
-
-same-length : tie.Need-same-length
-same-length c = search needs
 
 returns-2 : tie.Need-returns-2
 returns-2 c = settle-done _ _ (c .before .before .before .before .before .enum-told .given .1) (c .before .before .put-dataset .ensures)
@@ -33,10 +18,10 @@ pub settle-spec : {M : Type 1} → statement M
 settle-spec =
     tie.close
     (tie.spec
-    enum-told
-    enum-told-2
-    answer-code-requires
-    returns
+    (λ c. search needs)
+    (λ c. search needs)
+    (λ c κs. search needs)
+    (λ c. search needs)
     put-dataset-requires
-    same-length
+    (λ c. search needs)
     returns-2)

@@ -15,32 +15,8 @@ Inv-loop distances₀ settings₀ row next₀ n₀ distances settings next n =
 abbrev μ-loop : tie.MeasureT-loop
 μ-loop distances₀ settings₀ row next₀ n₀ distances settings next n = length row - n
 
-loop-holds : tie.Need-loop-holds Inv-loop μ-loop
-loop-holds c = search needs
-
-slice-aggregate-enter : tie.Need-slice-aggregate-enter Inv-loop μ-loop
-slice-aggregate-enter c = sym (length-take-le _ _ (omega arith))
-
-enter-requires : tie.Need-enter-requires Inv-loop μ-loop
-enter-requires c κs = search needs
-
-add-n : tie.Need-add-n Inv-loop μ-loop
-add-n c = search needs
-
-loop-less : tie.Need-loop-less Inv-loop μ-loop
-loop-less c = search needs
-
-loop-again : tie.Need-loop-again Inv-loop μ-loop
-loop-again c = search needs
-
-same-length : tie.Need-same-length Inv-loop μ-loop
-same-length c = search needs
-
-same-length-2 : tie.Need-same-length-2 Inv-loop μ-loop
-same-length-2 c = search needs
-
-returns : tie.Need-returns Inv-loop μ-loop
-returns c = search needs
+slice-aggregate-entered : tie.Need-slice-aggregate-entered Inv-loop μ-loop
+slice-aggregate-entered c = sym (length-take-le _ _ (omega arith))
 
 pub enter-all-spec : {M : Type 1} → statement M
 enter-all-spec =
@@ -48,12 +24,12 @@ enter-all-spec =
     (tie.spec
     Inv-loop
     μ-loop
-    loop-holds
-    slice-aggregate-enter
-    enter-requires
-    add-n
-    loop-less
-    loop-again
-    same-length
-    same-length-2
-    returns)
+    (λ c. search needs)
+    slice-aggregate-entered
+    (λ c κs. search needs)
+    (λ c. search needs)
+    (λ c. search needs)
+    (λ c. search needs)
+    (λ c. search needs)
+    (λ c. search needs)
+    (λ c. search needs))

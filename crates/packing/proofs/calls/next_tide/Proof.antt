@@ -6,38 +6,8 @@ use borrow.Author.Needs.{needs}
 use Rattle.packing.proofs.calls.next_tide.Statement.{statement}
 use Rattle.packing.proofs.calls.next_tide.Tie as tie
 
-next-requires : tie.Need-next-requires
-next-requires c κs = search needs
-
-enum-known-word : tie.Need-enum-known-word
-enum-known-word c = search needs
-
 read-tide-requires : tie.Need-read-tide-requires
 read-tide-requires c κs = (next-within (c .before .before .before .before .before .before .before .before .before .before .before .pre .0) (sym (c .before .before .before .before .before .before .next .ensures) ∙ c .before .before .before .before .word .given .1), c .before .before .before .before .before .before .before .before .before .before .before .pre .1, c .before .before .before .before .before .before .before .before .before .before .before .pre .2)
-
-enum-known-word-2 : tie.Need-enum-known-word-2
-enum-known-word-2 c = search needs
-
-enum-known-word-3 : tie.Need-enum-known-word-3
-enum-known-word-3 c = search needs
-
-stopped-requires : tie.Need-stopped-requires
-stopped-requires c κs = search needs
-
-enum-known-word-4 : tie.Need-enum-known-word-4
-enum-known-word-4 c = search needs
-
-stopped-requires-2 : tie.Need-stopped-requires-2
-stopped-requires-2 c κs = search needs
-
-same-length : tie.Need-same-length
-same-length c = search needs
-
-same-length-2 : tie.Need-same-length-2
-same-length-2 c = search needs
-
-same-length-3 : tie.Need-same-length-3
-same-length-3 c = search needs
 
 returns : tie.Need-returns
 returns c = turn-goes (c .before .before .before .before .before .before .before .before .before .before .before .before .before .before .before .before .before .before .args .text .now) (c .before .before .before .before .before .before .before .before .before .before .before .before .before .before .before .before .before .before .args .from) (c .before .before .before .before .before .before .before .before .before .before .before .before .before .next .ensures) _ (c .before .before .before .before .before .before .before .before .before .before .before .word .given .1) (c .before .before .before .before .before .before .read-tide .ensures)
@@ -55,17 +25,17 @@ pub next-tide-spec : {M : Type 1} → statement M
 next-tide-spec =
     tie.close
     (tie.spec
-    next-requires
-    enum-known-word
+    (λ c κs. search needs)
+    (λ c. search needs)
     read-tide-requires
-    enum-known-word-2
-    enum-known-word-3
-    stopped-requires
-    enum-known-word-4
-    stopped-requires-2
-    same-length
-    same-length-2
-    same-length-3
+    (λ c. search needs)
+    (λ c. search needs)
+    (λ c κs. search needs)
+    (λ c. search needs)
+    (λ c κs. search needs)
+    (λ c. search needs)
+    (λ c. search needs)
+    (λ c. search needs)
     returns
     returns-2
     returns-3

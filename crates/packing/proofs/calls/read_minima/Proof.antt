@@ -9,38 +9,8 @@ use borrow.Author.Needs.{needs}
 use Rattle.packing.proofs.calls.read_minima.Statement.{statement}
 use Rattle.packing.proofs.calls.read_minima.Tie as tie
 
-cast-n : tie.Need-cast-n
-cast-n c = search needs
-
-add-n : tie.Need-add-n
-add-n c = search needs
-
-array-borrow-prefix-xs : tie.Need-array-borrow-prefix-xs
-array-borrow-prefix-xs c = search needs
-
 slice-aggregate-read-row : tie.Need-slice-aggregate-read-row
 slice-aggregate-read-row c = sym (length-take-le (c .before .before .before .before .before .args .dataset .k + 1) (replicate 9 0) (omega (arith, c .before .before .before .before .before .pre .1 .dataset .k-high)))
-
-read-row-requires : tie.Need-read-row-requires
-read-row-requires c κs = search needs
-
-enum-known-row : tie.Need-enum-known-row
-enum-known-row c = search needs
-
-stopped-requires : tie.Need-stopped-requires
-stopped-requires c κs = search needs
-
-enum-known-row-2 : tie.Need-enum-known-row-2
-enum-known-row-2 c = search needs
-
-minima-of-requires : tie.Need-minima-of-requires
-minima-of-requires c κs = search needs
-
-set-minima-requires : tie.Need-set-minima-requires
-set-minima-requires c κs = search needs
-
-called-requires : tie.Need-called-requires
-called-requires c κs = search needs
 
 returns : tie.Need-returns
 returns c = minima-stops (c .before .before .before .before .before .before .before .before .before .before .before .pre .0) (c .before .before .before .before .before .before .before .before .before .before .before .pre .1) (c .before .before .before .before .before .read-row .last .1 .1 .0) (c .before .before .before .before .before .read-row .ensures) (length-take-le (c .before .before .before .before .before .before .before .before .before .before .before .args .dataset .k + 1) (replicate 9 0) (omega (arith, c .before .before .before .before .before .before .before .before .before .before .before .pre .1 .dataset .k-high))) (c .before .before .row .given .1) (c .stopped .ensures)
@@ -52,16 +22,16 @@ pub read-minima-spec : {M : Type 1} → statement M
 read-minima-spec =
     tie.close
     (tie.spec
-    cast-n
-    add-n
-    array-borrow-prefix-xs
+    (λ c. search needs)
+    (λ c. search needs)
+    (λ c. search needs)
     slice-aggregate-read-row
-    read-row-requires
-    enum-known-row
-    stopped-requires
-    enum-known-row-2
-    minima-of-requires
-    set-minima-requires
-    called-requires
+    (λ c κs. search needs)
+    (λ c. search needs)
+    (λ c κs. search needs)
+    (λ c. search needs)
+    (λ c κs. search needs)
+    (λ c κs. search needs)
+    (λ c κs. search needs)
     returns
     returns-2)

@@ -20,23 +20,8 @@ loop-holds c = (record { within = c .before .before .before .before .pre .0 .0; 
 next-tide-requires : tie.Need-next-tide-requires Inv-loop μ-loop
 next-tide-requires c κs = let m = c .before .before .before .loop .inv .0 in (m .within, m .passed, c .before .before .before .loop .inv .1)
 
-enum-known-step : tie.Need-enum-known-step Inv-loop μ-loop
-enum-known-step c = search needs
-
-same-length : tie.Need-same-length Inv-loop μ-loop
-same-length c = omega arith
-
-same-length-2 : tie.Need-same-length-2 Inv-loop μ-loop
-same-length-2 c = omega arith
-
-same-length-3 : tie.Need-same-length-3 Inv-loop μ-loop
-same-length-3 c = omega arith
-
 returns : tie.Need-returns Inv-loop μ-loop
 returns c = midway-ends (c .before .before .before .before .before .before .before .before .before .before .before .before .before .before .loop .inv .0) (c .before .before .before .before .before .before .before .before .before .before .next-tide .ensures) (c .before .before .step .given .1)
-
-enum-told : tie.Need-enum-told Inv-loop μ-loop
-enum-told c = search needs
 
 loop-less : tie.Need-loop-less Inv-loop μ-loop
 loop-less c = omega (arith, midway-size (c .before .before .before .before .before .before .before .before .before .before .before .before .before .before .loop .inv .0) (c .before .before .before .before .before .before .before .before .before .before .next-tide .ensures) (c .before .before .enum-told .given .1), c .before .before .before .before .before .before .before .before .before .before .before .before .before .before .loop .inv .0 .passed .dataset .few)
@@ -52,11 +37,11 @@ read-tides-spec =
     μ-loop
     loop-holds
     next-tide-requires
-    enum-known-step
-    same-length
-    same-length-2
-    same-length-3
+    (λ c. search needs)
+    (λ c. omega arith)
+    (λ c. omega arith)
+    (λ c. omega arith)
     returns
-    enum-told
+    (λ c. search needs)
     loop-less
     loop-again)

@@ -5,9 +5,6 @@ use borrow.Author.Needs.{needs}
 use Rattle.packing.proofs.numbers.narrow.Statement.{statement}
 use Rattle.packing.proofs.numbers.narrow.Tie as tie
 
-cast-result : tie.Need-cast-result
-cast-result c = search needs
-
 returns : tie.Need-returns
 unfolding narrowed
 returns c = rw (lt-ltb _ 256 (c .if1 .taken))
@@ -17,4 +14,4 @@ unfolding narrowed
 returns-2 c = rw (le-ltb _ 256 (c .if1 .left))
 
 pub narrow-spec : {M : Type 1} → statement M
-narrow-spec = tie.close (tie.spec cast-result returns returns-2)
+narrow-spec = tie.close (tie.spec (λ c. search needs) returns returns-2)

@@ -5,21 +5,6 @@ use borrow.Author.Needs.{needs}
 use Rattle.packing.proofs.numbers.number.Statement.{statement}
 use Rattle.packing.proofs.numbers.number.Tie as tie
 
-next-requires : tie.Need-next-requires
-next-requires c κs = search needs
-
-enum-known-word : tie.Need-enum-known-word
-enum-known-word c = search needs
-
-enum-known-word-2 : tie.Need-enum-known-word-2
-enum-known-word-2 c = search needs
-
-enum-known-word-3 : tie.Need-enum-known-word-3
-enum-known-word-3 c = search needs
-
-enum-known-word-4 : tie.Need-enum-known-word-4
-enum-known-word-4 c = search needs
-
 returns : tie.Need-returns
 returns c = number-is (c .before .before .before .before .before .args .text .now) (c .before .before .before .before .before .args .from) (c .before .before .before .next .ensures) (c .before .word .given .1) refl
 
@@ -36,11 +21,11 @@ pub number-spec : {M : Type 1} → statement M
 number-spec =
     tie.close
     (tie.spec
-    next-requires
-    enum-known-word
-    enum-known-word-2
-    enum-known-word-3
-    enum-known-word-4
+    (λ c κs. search needs)
+    (λ c. search needs)
+    (λ c. search needs)
+    (λ c. search needs)
+    (λ c. search needs)
     returns
     returns-2
     returns-3

@@ -20,26 +20,11 @@ loop-holds c = (omega arith, refl, row-none (c .before .before .pre))
 number-requires : tie.Need-number-requires Inv-loop μ-loop
 number-requires c κs = c .before .loop .inv .2 .within
 
-enum-known-given : tie.Need-enum-known-given Inv-loop μ-loop
-enum-known-given c = search needs
-
 same-length : tie.Need-same-length Inv-loop μ-loop
 same-length c = c .before .before .before .before .before .loop .inv .1
 
 returns : tie.Need-returns Inv-loop μ-loop
 returns c = row-stops _ (c .before .before .before .before .before .loop .inv .2) (c .before .before .before .number .ensures) (c .before .given .given .1) (omega arith)
-
-enum-known-given-2 : tie.Need-enum-known-given-2 Inv-loop μ-loop
-enum-known-given-2 c = search needs
-
-mul-row : tie.Need-mul-row Inv-loop μ-loop
-mul-row c = omega arith
-
-slice-write-row : tie.Need-slice-write-row Inv-loop μ-loop
-slice-write-row c = omega arith
-
-add-i : tie.Need-add-i Inv-loop μ-loop
-add-i c = omega arith
 
 loop-less : tie.Need-loop-less Inv-loop μ-loop
 loop-less c = simp length-set (omega arith)
@@ -61,13 +46,13 @@ read-row-spec =
     μ-loop
     loop-holds
     number-requires
-    enum-known-given
+    (λ c. search needs)
     same-length
     returns
-    enum-known-given-2
-    mul-row
-    slice-write-row
-    add-i
+    (λ c. search needs)
+    (λ c. omega arith)
+    (λ c. omega arith)
+    (λ c. omega arith)
     loop-less
     loop-again
     same-length-2

@@ -10,12 +10,9 @@ returns : tie.Need-returns
 unfolding begins
 returns c = rw (c .if1 .taken)
 
-ends-word-requires : tie.Need-ends-word-requires
-ends-word-requires c κs = search needs
-
 returns-2 : tie.Need-returns-2
 unfolding begins
 returns-2 c = rw (c .before .if1 .left) (ap not (c .ends-word .ensures))
 
 pub begins-spec : {M : Type 1} → statement M
-begins-spec = tie.close (tie.spec returns ends-word-requires returns-2)
+begins-spec = tie.close (tie.spec returns (λ c κs. search needs) returns-2)

@@ -4,35 +4,11 @@ use borrow.Author.Needs.{needs}
 use Rattle.packing.proofs.words.next.Statement.{statement}
 use Rattle.packing.proofs.words.next.Tie as tie
 
-skip-requires : tie.Need-skip-requires
-skip-requires c κs = search needs
-
 word-end-requires : tie.Need-word-end-requires
 word-end-requires c κs = start-inside (c .before .before .pre) (c .skip .ensures)
 
 returns : tie.Need-returns
 returns c = next-end (c .before .before .before .before .args .text .now) (c .before .before .before .before .args .from) (c .before .before .skip .ensures) (c .before .word-end .result) (c .before .word-end .ensures .0) (c .if1 .taken)
-
-sub-numeral-of : tie.Need-sub-numeral-of
-sub-numeral-of c = search needs
-
-part-numeral-of-start : tie.Need-part-numeral-of-start
-part-numeral-of-start c = search needs
-
-part-numeral-of-end : tie.Need-part-numeral-of-end
-part-numeral-of-end c = search needs
-
-numeral-of-requires : tie.Need-numeral-of-requires
-numeral-of-requires c κs = search needs
-
-enum-known-found : tie.Need-enum-known-found
-enum-known-found c = search needs
-
-enum-told : tie.Need-enum-told
-enum-told c = search needs
-
-enum-told-2 : tie.Need-enum-told-2
-enum-told-2 c = search needs
 
 returns-2 : tie.Need-returns-2
 returns-2 c = next-number (c .before .before .before .before .before .before .before .before .before .args .text .now) (c .before .before .before .before .before .before .before .before .before .args .from) (c .before .before .before .before .before .before .before .skip .ensures) (c .before .before .before .before .before .before .word-end .result) (c .before .before .before .before .before .before .word-end .ensures .0) (c .before .before .before .before .before .if1 .left) (c .before .before .before .numeral-of .ensures) (c .before .found .given .1)
@@ -47,16 +23,16 @@ pub next-spec : {M : Type 1} → statement M
 next-spec =
     tie.close
     (tie.spec
-    skip-requires
+    (λ c κs. search needs)
     word-end-requires
     returns
-    sub-numeral-of
-    part-numeral-of-start
-    part-numeral-of-end
-    numeral-of-requires
-    enum-known-found
-    enum-told
-    enum-told-2
+    (λ c. search needs)
+    (λ c. search needs)
+    (λ c. search needs)
+    (λ c κs. search needs)
+    (λ c. search needs)
+    (λ c. search needs)
+    (λ c. search needs)
     returns-2
     returns-3
     returns-4)

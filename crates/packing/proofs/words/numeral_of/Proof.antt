@@ -20,29 +20,14 @@ abbrev μ-loop : tie.MeasureT-loop
 loop-holds : tie.Need-loop-holds Inv-loop μ-loop
 loop-holds c = (omega arith, omega arith, refl, refl)
 
-shared-slice-read-b : tie.Need-shared-slice-read-b Inv-loop μ-loop
-shared-slice-read-b c = omega arith
-
-is-digit-requires : tie.Need-is-digit-requires Inv-loop μ-loop
-is-digit-requires c κs = search needs
-
 returns : tie.Need-returns Inv-loop μ-loop
 returns c = numeral-bad (c .before .before .before .before .before .before .args .word .now) (c .before .before .before .before .loop .i) (c .before .before .before .loop-test .taken) (test-fails (c .before .is-digit .ensures) (c .if1 .taken)) (c .before .before .before .before .loop .inv .2)
 
 with-digit-requires : tie.Need-with-digit-requires Inv-loop μ-loop
 with-digit-requires c κs = (c .before .before .before .before .loop .inv .1, digit-low _ (test-passes (c .before .is-digit .ensures) (c .if1 .left)), omega (arith, c .before .before .shared-slice-known2 .given (c .before .before .before .before .loop .i)))
 
-add-i : tie.Need-add-i Inv-loop μ-loop
-add-i c = omega arith
-
-loop-less : tie.Need-loop-less Inv-loop μ-loop
-loop-less c = omega arith
-
 loop-again : tie.Need-loop-again Inv-loop μ-loop
 loop-again c = (omega arith, omega (arith, c .with-digit .ensures, capped-most (withDigit (c .before .before .before .before .before .loop .value) (getD (c .before .before .before .before .before .before .before .args .word .now) (c .before .before .before .before .before .loop .i) 0))), digits-more (c .before .before .before .before .before .before .before .args .word .now) (c .before .before .before .before .before .loop .i) (c .before .before .before .before .loop-test .taken) (test-passes (c .before .before .is-digit .ensures) (c .before .if1 .left)) (c .before .before .before .before .before .loop .inv .2), value-more (c .before .before .before .before .before .before .before .args .word .now) (c .before .before .before .before .before .loop .i) (c .before .before .before .before .before .loop .value) (c .before .before .before .before .loop-test .taken) (c .with-digit .ensures) (c .before .before .before .before .before .loop .inv .3))
-
-cast-t11 : tie.Need-cast-t11 Inv-loop μ-loop
-cast-t11 c = omega arith
 
 returns-2 : tie.Need-returns-2 Inv-loop μ-loop
 returns-2 c = numeral-number (c .before .before .before .before .args .word .now) (c .before .before .loop .i) (c .before .before .loop .value) (omega arith) (c .before .before .loop .inv .2) (c .before .before .loop .inv .3) (c .if2 .taken)
@@ -57,13 +42,13 @@ numeral-of-spec =
     Inv-loop
     μ-loop
     loop-holds
-    shared-slice-read-b
-    is-digit-requires
+    (λ c. omega arith)
+    (λ c κs. search needs)
     returns
     with-digit-requires
-    add-i
-    loop-less
+    (λ c. omega arith)
+    (λ c. omega arith)
     loop-again
-    cast-t11
+    (λ c. omega arith)
     returns-2
     returns-3)

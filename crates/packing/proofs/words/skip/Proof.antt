@@ -18,29 +18,11 @@ abbrev μ-loop : tie.MeasureT-loop
 loop-holds : tie.Need-loop-holds Inv-loop μ-loop
 loop-holds c = let w = c .before .pre in (w .inside, w .line-low, w .short, refl)
 
-shared-slice-read-b : tie.Need-shared-slice-read-b Inv-loop μ-loop
-shared-slice-read-b c = omega arith
-
-begins-requires : tie.Need-begins-requires Inv-loop μ-loop
-begins-requires c κs = search needs
-
 returns : tie.Need-returns Inv-loop μ-loop
 returns c = start-here (c .before .before .before .before .before .before .args .text .now) (c .before .before .before .before .loop .comment) (c .before .before .before .before .loop .at) (c .before .before .before .before .loop .line) (c .before .before .before .loop-test .taken) (sym (c .before .begins .ensures) ∙ c .if1 .taken) (c .before .before .before .before .loop .inv .3)
 
-comment-after-requires : tie.Need-comment-after-requires Inv-loop μ-loop
-comment-after-requires c κs = search needs
-
-newline-requires : tie.Need-newline-requires Inv-loop μ-loop
-newline-requires c κs = search needs
-
 add-line : tie.Need-add-line Inv-loop μ-loop
 add-line c = omega (arith, newline-small (getD (c .before .before .before .before .before .before .before .before .args .text .now) (c .before .before .before .before .before .before .loop .at) 0))
-
-add-at : tie.Need-add-at Inv-loop μ-loop
-add-at c = omega arith
-
-loop-less : tie.Need-loop-less Inv-loop μ-loop
-loop-less c = omega arith
 
 loop-again : tie.Need-loop-again Inv-loop μ-loop
 loop-again c = let h = newline-small (getD (c .before .before .before .before .before .before .before .before .args .text .now) (c .before .before .before .before .before .before .loop .at) 0) in (omega arith, omega arith, c .before .before .before .before .before .before .loop .inv .2, start-goes (c .before .before .before .before .before .before .before .before .args .text .now) (c .before .before .before .before .before .before .loop .comment) (c .before .before .before .before .before .before .loop .at) (c .before .before .before .before .before .before .loop .line) (c .before .before .before .before .before .loop-test .taken) (sym (c .before .before .before .begins .ensures) ∙ c .before .before .if1 .left) (c .before .comment-after .ensures) (c .newline .ensures) (c .before .before .before .before .before .before .loop .inv .3))
@@ -55,13 +37,13 @@ skip-spec =
     Inv-loop
     μ-loop
     loop-holds
-    shared-slice-read-b
-    begins-requires
+    (λ c. omega arith)
+    (λ c κs. search needs)
     returns
-    comment-after-requires
-    newline-requires
+    (λ c κs. search needs)
+    (λ c κs. search needs)
     add-line
-    add-at
-    loop-less
+    (λ c. omega arith)
+    (λ c. omega arith)
     loop-again
     returns-2)

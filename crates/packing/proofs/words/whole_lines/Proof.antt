@@ -18,20 +18,8 @@ abbrev μ-loop : tie.MeasureT-loop
 loop-holds : tie.Need-loop-holds Inv-loop μ-loop
 loop-holds c = (omega arith, omega arith, omega arith)
 
-shared-slice-read-newline : tie.Need-shared-slice-read-newline Inv-loop μ-loop
-shared-slice-read-newline c = omega arith
-
-newline-requires : tie.Need-newline-requires Inv-loop μ-loop
-newline-requires c κs = search needs
-
 add-lines : tie.Need-add-lines Inv-loop μ-loop
 add-lines c = omega (arith, newline-small (getD (c .before .before .before .before .before .args .text .now) (c .before .before .before .loop .i) 0))
-
-add-i : tie.Need-add-i Inv-loop μ-loop
-add-i c = omega arith
-
-loop-less : tie.Need-loop-less Inv-loop μ-loop
-loop-less c = omega arith
 
 loop-again : tie.Need-loop-again Inv-loop μ-loop
 loop-again c = (omega arith, omega (arith, newline-small (getD (c .before .before .before .before .before .args .text .now) (c .before .before .before .loop .i) 0)), lines-more (c .before .before .before .before .before .args .text .now) (c .before .before .before .loop .lines) (c .before .before .before .loop .i) (c .before .before .loop-test .taken) (c .newline .ensures) (c .before .before .before .loop .inv .2))
@@ -46,10 +34,10 @@ whole-lines-spec =
     Inv-loop
     μ-loop
     loop-holds
-    shared-slice-read-newline
-    newline-requires
+    (λ c. omega arith)
+    (λ c κs. search needs)
     add-lines
-    add-i
-    loop-less
+    (λ c. omega arith)
+    (λ c. omega arith)
     loop-again
     returns)

@@ -18,20 +18,8 @@ abbrev μ-loop : tie.MeasureT-loop
 loop-holds : tie.Need-loop-holds Inv-loop μ-loop
 loop-holds c = (c .before .pre, omega arith, refl)
 
-shared-slice-read-ends-word : tie.Need-shared-slice-read-ends-word Inv-loop μ-loop
-shared-slice-read-ends-word c = omega arith
-
-ends-word-requires : tie.Need-ends-word-requires Inv-loop μ-loop
-ends-word-requires c κs = search needs
-
 returns : tie.Need-returns Inv-loop μ-loop
 returns c = let w = word-ends (c .before .before .before .before .before .before .args .text .now) (c .before .before .before .before .loop .end) (c .before .before .before .loop-test .taken) (sym (c .before .ends-word .ensures) ∙ c .if1 .taken) in (omega arith, omega arith)
-
-add-end : tie.Need-add-end Inv-loop μ-loop
-add-end c = omega arith
-
-loop-less : tie.Need-loop-less Inv-loop μ-loop
-loop-less c = omega arith
 
 loop-again : tie.Need-loop-again Inv-loop μ-loop
 loop-again c = let w = word-more (c .before .before .before .before .before .before .args .text .now) (c .before .before .before .before .loop .end) (c .before .before .before .loop-test .taken) (sym (c .before .ends-word .ensures) ∙ c .if1 .left) in (omega arith, omega arith, omega arith)
@@ -46,10 +34,10 @@ word-end-spec =
     Inv-loop
     μ-loop
     loop-holds
-    shared-slice-read-ends-word
-    ends-word-requires
+    (λ c. omega arith)
+    (λ c κs. search needs)
     returns
-    add-end
-    loop-less
+    (λ c. omega arith)
+    (λ c. omega arith)
     loop-again
     returns-2)

@@ -19,17 +19,11 @@ short number block few k = line-short number block (omega arith) (k .0 .fits) (k
 put-field-requires : tie.Need-put-field-requires
 put-field-requires c κs = omega (arith, field-short 2 (c .before .before .args .number) 32 (omega arith))
 
-cast-put-field : tie.Need-cast-put-field
-cast-put-field c = search needs
-
 put-field-requires-2 : tie.Need-put-field-requires-2
 put-field-requires-2 c κs =
     let a = c .before .before .before .before .before .before .before .args in
     let s = short (a .number) (a .block) (omega arith) (c .struct-known .given) in
     omega (arith, line-length (a .number) (a .block))
-
-cast-put-field-2 : tie.Need-cast-put-field-2
-cast-put-field-2 c = search needs
 
 put-field-requires-3 : tie.Need-put-field-requires-3
 put-field-requires-3 c κs =
@@ -43,14 +37,15 @@ put-field-requires-4 c κs =
     let s = short (a .number) (a .block) (omega arith) (c .before .before .before .before .struct-known2 .given) in
     omega (arith, line-length (a .number) (a .block))
 
-same-length : tie.Need-same-length
-same-length c = search needs
-
 returns : tie.Need-returns
 returns c =
-    let a = c .before .before .before .before .before .before .before .before .before .before .before .before .before .before .before .before .before .before .before .args in
-    let p = line-put (a .number) (a .block) (c .before .before .before .before .before .before .before .before .before .before .before .before .before .before .before .before .put-field .ensures) (c .before .before .before .before .before .before .before .before .before .before .before .put-field2 .ensures) (c .before .before .before .before .before .before .put-field3 .ensures) (c .before .before .put-field4 .ensures) in
-    let s = short (a .number) (a .block) (omega arith) (c .before .before .before .before .before .before .before .struct-known2 .given) in
+    let fourth = c .before .before in
+    let third = fourth .before .before .before .before in
+    let second = third .before .before .before .before .before in
+    let first = second .before .before .before .before .before in
+    let a = first .before .before .before .args in
+    let p = line-put (a .number) (a .block) (first .put-field .ensures) (second .put-field2 .ensures) (third .put-field3 .ensures) (fourth .put-field4 .ensures) in
+    let s = short (a .number) (a .block) (omega arith) (third .before .struct-known2 .given) in
     (omega (arith, p .ends), p)
 
 pub put-line-spec : {M : Type 1} → statement M
@@ -58,10 +53,10 @@ put-line-spec =
     tie.close
     (tie.spec
     put-field-requires
-    cast-put-field
+    (λ c. search needs)
     put-field-requires-2
-    cast-put-field-2
+    (λ c. search needs)
     put-field-requires-3
     put-field-requires-4
-    same-length
+    (λ c. search needs)
     returns)

@@ -26,26 +26,8 @@ same-length c = c .before .before .loop .inv .1 .same
 returns : tie.Need-returns Inv-loop μ-loop
 returns c = (omega arith, puts-as (c .before .before .loop .inv .1) (ap (λ (k : ℕ). lines 1 (take k (c .before .before .before .before .args .t4))) (c .if1 .taken)) refl)
 
-add-put-line : tie.Need-add-put-line Inv-loop μ-loop
-add-put-line c = omega arith
-
-cast-put-line : tie.Need-cast-put-line Inv-loop μ-loop
-cast-put-line c = omega arith
-
-mul-put-line : tie.Need-mul-put-line Inv-loop μ-loop
-mul-put-line c = omega arith
-
-array-copy-out-put-line : tie.Need-array-copy-out-put-line Inv-loop μ-loop
-array-copy-out-put-line c = omega arith
-
 put-line-requires : tie.Need-put-line-requires Inv-loop μ-loop
 put-line-requires c κs = (omega arith, omega arith)
-
-add-i : tie.Need-add-i Inv-loop μ-loop
-add-i c = omega arith
-
-loop-less : tie.Need-loop-less Inv-loop μ-loop
-loop-less c = omega arith
 
 loop-again : tie.Need-loop-again Inv-loop μ-loop
 loop-again c =
@@ -70,13 +52,13 @@ put-lines-spec =
     loop-holds
     same-length
     returns
-    add-put-line
-    cast-put-line
-    mul-put-line
-    array-copy-out-put-line
+    (λ c. omega arith)
+    (λ c. omega arith)
+    (λ c. omega arith)
+    (λ c. omega arith)
     put-line-requires
-    add-i
-    loop-less
+    (λ c. omega arith)
+    (λ c. omega arith)
     loop-again
     same-length-2
     returns-2)

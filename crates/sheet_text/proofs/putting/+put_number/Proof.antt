@@ -25,94 +25,6 @@ abbrev put-number-below : ℕ → In 1 put-number-kinds.ps
 put-number-below t =
     and 1 put-number-kinds.ps (falls 1 put-number-kinds.ps _<_ μ-put-number t) put-number.Pre
 
-put-number-add-put-byte : (t : ℕ) → put-number-lts.Need-add-put-byte (
-  put-byte-reads.Asked,
-  put-byte-reads.Learnt,
-  put-number-below t,
-  put-number.Post,
-) (put-number-at t) put-number.Post
-put-number-add-put-byte t c = omega arith
-
-put-number-cast-put-byte : (t : ℕ) → put-number-lts.Need-cast-put-byte (
-  put-byte-reads.Asked,
-  put-byte-reads.Learnt,
-  put-number-below t,
-  put-number.Post,
-) (put-number-at t) put-number.Post
-put-number-cast-put-byte t c = omega arith
-
-put-number-put-byte-requires : (t : ℕ) → put-number-lts.Need-put-byte-requires (
-  put-byte-reads.Asked,
-  put-byte-reads.Learnt,
-  put-number-below t,
-  put-number.Post,
-) (put-number-at t) put-number.Post
-put-number-put-byte-requires t c κs = omega (arith, one-length (c .before .before .before .args .x) (c .before .if1 .taken))
-
-put-number-same-length : (t : ℕ) → put-number-lts.Need-same-length (
-  put-byte-reads.Asked,
-  put-byte-reads.Learnt,
-  put-number-below t,
-  put-number.Post,
-) (put-number-at t) put-number.Post
-put-number-same-length t c = c .before .before .put-byte .ensures .same
-
-put-number-returns : (t : ℕ) → put-number-lts.Need-returns (
-  put-byte-reads.Asked,
-  put-byte-reads.Learnt,
-  put-number-below t,
-  put-number.Post,
-) (put-number-at t) put-number.Post
-put-number-returns t c = puts-as (c .before .before .put-byte .ensures) (sym (decimal-one (c .before .before .before .before .before .before .args .x) (c .before .before .before .before .if1 .taken))) refl
-
-put-number-put-number-requires : (t : ℕ) → put-number-lts.Need-put-number-requires (
-  put-byte-reads.Asked,
-  put-byte-reads.Learnt,
-  put-number-below t,
-  put-number.Post,
-) (put-number-at t) put-number.Post
-put-number-put-number-requires t c κs = (omega arith, omega (arith, more-length (c .before .before .before .args .x) (c .before .if1 .left) (omega arith)))
-
-put-number-add-put-byte-2 : (t : ℕ) → put-number-lts.Need-add-put-byte-2 (
-  put-byte-reads.Asked,
-  put-byte-reads.Learnt,
-  put-number-below t,
-  put-number.Post,
-) (put-number-at t) put-number.Post
-put-number-add-put-byte-2 t c = omega arith
-
-put-number-cast-put-byte-2 : (t : ℕ) → put-number-lts.Need-cast-put-byte-2 (
-  put-byte-reads.Asked,
-  put-byte-reads.Learnt,
-  put-number-below t,
-  put-number.Post,
-) (put-number-at t) put-number.Post
-put-number-cast-put-byte-2 t c = omega arith
-
-put-number-put-byte-requires-2 : (t : ℕ) → put-number-lts.Need-put-byte-requires-2 (
-  put-byte-reads.Asked,
-  put-byte-reads.Learnt,
-  put-number-below t,
-  put-number.Post,
-) (put-number-at t) put-number.Post
-put-number-put-byte-requires-2 t c κs = omega (arith, more-length (c .before .before .before .before .before .before .before .args .x) (c .before .before .before .before .before .if1 .left) (omega arith))
-
-put-number-same-length-2 : (t : ℕ) → put-number-lts.Need-same-length-2 (
-  put-byte-reads.Asked,
-  put-byte-reads.Learnt,
-  put-number-below t,
-  put-number.Post,
-) (put-number-at t) put-number.Post
-put-number-same-length-2 t c = c .before .before .put-byte2 .ensures .same ∙ c .before .before .before .before .before .before .put-number .ensures .same
-
-put-number-returns-2 : (t : ℕ) → put-number-lts.Need-returns-2 (
-  put-byte-reads.Asked,
-  put-byte-reads.Learnt,
-  put-number-below t,
-  put-number.Post,
-) (put-number-at t) put-number.Post
-put-number-returns-2 t c = puts-as (puts-then (c .before .before .before .before .before .before .put-number .ensures) (c .before .before .put-byte2 .ensures)) (sym (decimal-more (c .before .before .before .before .before .before .before .before .before .before .args .x) (c .before .before .before .before .before .before .before .before .if1 .left) (omega arith))) refl
-
 pub +put-number-spec : {M : Type 1} → statement M
 +put-number-spec = close μ-put-number λ t. put-number-lts.spec (
   put-byte-reads.Asked,
@@ -122,14 +34,19 @@ pub +put-number-spec : {M : Type 1} → statement M
 )
     (put-number-at t)
     put-number.Post
-    (put-number-add-put-byte t)
-    (put-number-cast-put-byte t)
-    (put-number-put-byte-requires t)
-    (put-number-same-length t)
-    (put-number-returns t)
-    (put-number-put-number-requires t)
-    (put-number-add-put-byte-2 t)
-    (put-number-cast-put-byte-2 t)
-    (put-number-put-byte-requires-2 t)
-    (put-number-same-length-2 t)
-    (put-number-returns-2 t)
+    (λ c. omega arith)
+    (λ c. omega arith)
+    (λ c κs. omega (arith, one-length (c .before .before .before .args .x) (c .before .if1 .taken)))
+    (λ c. c .before .before .put-byte .ensures .same)
+    (λ c.
+    let start = c .before .before .before .before in
+    puts-as (c .before .before .put-byte .ensures) (sym (decimal-one (start .before .before .args .x) (start .if1 .taken))) refl)
+    (λ c κs. (omega arith, omega (arith, more-length (c .before .before .before .args .x) (c .before .if1 .left) (omega arith))))
+    (λ c. omega arith)
+    (λ c. omega arith)
+    (λ c κs. let start = c .before .before .before .before .before in omega (arith, more-length (start .before .before .args .x) (start .if1 .left) (omega arith)))
+    (λ c. c .before .before .put-byte2 .ensures .same ∙ c .before .before .before .before .before .before .put-number .ensures .same)
+    (λ c.
+    let start = c .before .before .before .before .before .before .before .before in
+    let put = puts-then (c .before .before .before .before .before .before .put-number .ensures) (c .before .before .put-byte2 .ensures) in
+    puts-as put (sym (decimal-more (start .before .before .args .x) (start .if1 .left) (omega arith))) refl)

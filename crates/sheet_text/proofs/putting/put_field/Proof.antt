@@ -12,12 +12,9 @@ put-number-requires c κs = let a = c .before .before .args in omega (arith, fie
 put-byte-requires : tie.Need-put-byte-requires
 put-byte-requires c κs = let a = c .before .before .before .before .before .before .args in omega (arith, field-length (a .x) (a .mark))
 
-same-length : tie.Need-same-length
-same-length c = search needs
-
 returns : tie.Need-returns
 unfolding field
 returns c = puts-then (c .before .before .before .before .before .before .put-number .ensures) (c .before .before .put-byte .ensures)
 
 pub put-field-spec : {M : Type 1} → statement M
-put-field-spec = tie.close (tie.spec put-number-requires put-byte-requires same-length returns)
+put-field-spec = tie.close (tie.spec put-number-requires put-byte-requires (λ c. search needs) returns)

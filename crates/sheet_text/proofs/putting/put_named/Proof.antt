@@ -12,12 +12,9 @@ put-bytes-requires c κs = let a = c .before .before .before .args in omega (ari
 put-field-requires : tie.Need-put-field-requires
 put-field-requires c κs = let a = c .before .before .before .before .before .before .before .args in omega (arith, named-length (a .name .now) (a .x) (a .mark))
 
-same-length : tie.Need-same-length
-same-length c = search needs
-
 returns : tie.Need-returns
 unfolding named
 returns c = puts-then (c .before .before .before .before .before .before .put-bytes .ensures) (c .before .before .put-field .ensures)
 
 pub put-named-spec : {M : Type 1} → statement M
-put-named-spec = tie.close (tie.spec put-bytes-requires put-field-requires same-length returns)
+put-named-spec = tie.close (tie.spec put-bytes-requires put-field-requires (λ c. search needs) returns)

@@ -1,0 +1,2 @@
+-- Statements: Numbers.
+pub mod Numbers

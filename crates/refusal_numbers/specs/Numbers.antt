@@ -1,0 +1,15 @@
+-- A refusal's number in code. Assumes nothing.
+use Prim.Native.Nat.{ℕ}
+use Rattle.study.specs.Refusals.{Numbered, number, seven}
+use Rattle.refusal_numbers.specs.declared.Number.{Number}
+use Rattle.refusal_numbers.specs.declared.Number.the-variants.{Alone, Seven}
+
+-- what the code's number says
+abbrev pub saidBy : Number → Numbered
+saidBy (Alone n) = number n
+saidBy (Seven i j) = seven i j
+
+-- document 01's number of a refusal; of 7 without its pair
+abbrev pub numberOf : Numbered → ℕ
+numberOf (number n) = n
+numberOf (seven i j) = 7
