@@ -23,6 +23,6 @@ pub record Posed (q : Question) : Type 0 where
 
 pub record Filled (settings allowed list : List ℕ) : Type 0 where
   pub six : length settings ≡ 6
-  pub rows : length allowed ≡ 720
+  pub rows : length allowed ≡ 14400
   pub eight : length list ≡ 8
   pub valid : (t : ℕ) → t < 6 → Between 1 8 (getD settings t 0)

@@ -74,7 +74,7 @@ fn drawn(seed: u64, s1: u64, s2: u64, s3: u64) -> Question
     }
 }
 
-fn asked(q: Question, settings: &[u8; 6], allowed: &[u8; 720], list: &mut [u8]) -> bool
+fn asked(q: Question, settings: &[u8; 6], allowed: &[u8; 14400], list: &mut [u8]) -> bool
     requires { ⌜ Posed q ⌝ }
     requires { ⌜ Filled (now settings) (now allowed) (now list) ⌝ }
 {
@@ -85,7 +85,7 @@ fn asked(q: Question, settings: &[u8; 6], allowed: &[u8; 720], list: &mut [u8]) 
 fn asked_again(
     q: Question,
     settings: &[u8; 6],
-    allowed: &mut [u8; 720],
+    allowed: &mut [u8; 14400],
     list: &mut [u8],
     s5: u64,
     s6: u64,
@@ -95,7 +95,7 @@ fn asked_again(
 {
     let t = draw(s5, 6) as usize;
     let m = draw(s6, 3) as usize;
-    allowed[t * 120 + m] = 9;
+    allowed[m * 120 + t] = 9;
     asked(q, settings, allowed, list)
 }
 
@@ -105,7 +105,7 @@ fn judged(
     found: bool,
     q: Question,
     settings: &[u8; 6],
-    allowed: &[u8; 720],
+    allowed: &[u8; 14400],
     list: &[u8; 8],
     last: u8,
 ) -> u8
@@ -138,7 +138,7 @@ fn trial(seed: u64, again: bool) -> u8 {
     let s3 = next(s2);
     let q = drawn(seed, s1, s2, s3);
     let mut settings: [u8; 6] = [0; 6];
-    let mut allowed: [u8; 720] = [0; 720];
+    let mut allowed: [u8; 14400] = [0; 14400];
     let mut list: [u8; 8] = [0; 8];
     let s4 = fill(s3, &mut settings, 1, 3);
     let s5 = fill(s4, &mut allowed, 0, 1 + draw(s2, 6));

@@ -10,7 +10,7 @@ pub struct Question {
 }
 
 // Whether each of the n tides has a block below blocks that it may go to.
-fn all_allowed(n: usize, blocks: usize, allowed: &[u8; 720], list: &[u8; 8]) -> bool
+fn all_allowed(n: usize, blocks: usize, allowed: &[u8; 14400], list: &[u8; 8]) -> bool
     requires { ⌜ n ≤ 6 ⌝ }
     requires { ⌜ blocks ≤ 3 ⌝ }
 {
@@ -20,7 +20,7 @@ fn all_allowed(n: usize, blocks: usize, allowed: &[u8; 720], list: &[u8; 8]) -> 
         if m >= blocks {
             return false;
         }
-        if allowed[t * 120 + m] == 0 {
+        if allowed[m * 120 + t] == 0 {
             return false;
         }
         t += 1;
@@ -75,7 +75,7 @@ fn meets(q: Question, settings: &[u8; 6], list: &[u8; 8], m: u8) -> bool
 }
 
 // Whether the first n places of list are an assignment.
-pub fn is_assignment(q: Question, settings: &[u8; 6], allowed: &[u8; 720], list: &[u8; 8]) -> bool
+pub fn is_assignment(q: Question, settings: &[u8; 6], allowed: &[u8; 14400], list: &[u8; 8]) -> bool
     requires { ⌜ q .n ≤ 6 ⌝ }
     requires { ⌜ q .blocks ≤ 3 ⌝ }
 {
@@ -104,7 +104,7 @@ fn advance(n: usize, blocks: usize, list: &mut [u8; 8]) -> bool
 }
 
 // Whether some list is an assignment. There are at most 729.
-pub fn exists(q: Question, settings: &[u8; 6], allowed: &[u8; 720]) -> bool
+pub fn exists(q: Question, settings: &[u8; 6], allowed: &[u8; 14400]) -> bool
     requires { ⌜ q .n ≤ 6 ⌝ }
     requires { ⌜ q .blocks ≤ 3 ⌝ }
 {
