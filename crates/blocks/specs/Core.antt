@@ -18,7 +18,7 @@ use Rattle.radii.specs.Posed.{within, posed, Proper}
 use Rattle.radii.specs.Radii.{lowest-radius}
 use Rattle.radius.specs.Front.{Front, CentresAt, front-at, front-few, front-below, centres-few}
 use Rattle.radius.specs.Assigning.{numbered, numbered-at, allowed-by, assigns}
-use Rattle.radius.specs.Attempts.{Least, Kept}
+use Rattle.radius.specs.Ascents.{Least, Kept}
 use Rattle.blocks.specs.First.{First, Agree}
 use Rattle.blocks.specs.Measured.{Measured, across-diameter, widest-diameter}
 

@@ -15,7 +15,7 @@ use Rattle.study.specs.declared.Minima.{Minima}
 use Rattle.study.specs.Problem.{block, labels}
 use Rattle.study.specs.StudyLaws.{meets-along}
 use Rattle.matching.specs.Promise.{allows, Nowhere, Assigning, Assigned, Asked, Promise}
-use Rattle.radius.specs.Attempts.{Kept, kept-same, kept-on}
+use Rattle.radius.specs.Ascents.{Kept, kept-same, kept-on}
 use Rattle.blocks.specs.Narrowed.{Narrowed, narrowed-on, narrowed-pin, narrowed-keeps, narrowed-sound, narrowed-complete}
 
 -- D and E agree on the tides below t

@@ -9,7 +9,7 @@ ghost use lib.ListN.{length};
 ghost use Rattle.lists.specs.Lists.{overwrite};
 ghost use Rattle.study.specs.Problem.{labels};
 ghost use Rattle.matching.specs.Promise.{Assigned, Asked};
-ghost use Rattle.radius.specs.Attempts.{Kept};
+ghost use Rattle.radius.specs.Ascents.{Kept};
 ghost use Rattle.blocks.specs.Narrowed.{Narrowed};
 ghost use Rattle.blocks.specs.First.{First, Tried, Settled};
 

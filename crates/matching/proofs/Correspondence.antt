@@ -14,11 +14,11 @@ use Rattle.lists.specs.Counts.{sum-same, count-into}
 use Rattle.study.specs.declared.Minima.{Minima}
 use Rattle.study.specs.Problem.{block, labels}
 use Rattle.study.specs.StudyLaws.{Meets, meets-T}
-use Rattle.matching.specs.Promise.{Assigning, Assigned, Asked}
+use Rattle.matching.specs.Promise.{allows, Assigned, Asked}
 use Rattle.matching.specs.Counting.{sum-none, sum-one, count-before, count-apart, count-none, nth, Nth, nth-is, firsts}
 use Rattle.matching.specs.Surplus.{ofSetting, surplus, own-needed, own-setting, own-in, surplus-in, surplus-not, count-own, count-surplus}
 use Rattle.matching.specs.Matching.{at, Unsaturable}
-use Rattle.matching.specs.Graph.{Edge, EdgeBy, Saturated}
+use Rattle.matching.specs.Graph.{Edge, Saturated}
 use Rattle.matching.specs.Slots.{total, blockSum, slotTest, Slots}
 use Rattle.matching.specs.Steps.{Written}
 
@@ -114,8 +114,8 @@ module _ (b : List ℕ) (setting : ℕ → ℕ) (p : ℕ → Bool) where
   same-kind (suc k) zero t h g = absurd (surplus-not b setting p t g (own-needed b setting p k t h))
   same-kind (suc k) (suc i) t h g = sym (own-setting b setting p k t h) ∙ own-setting b setting p i t g
 
-module _ (n blocks : ℕ) (M : Minima) (settings allowed list owner kind : List ℕ) (May : ℕ → ℕ → Type 0) (D : ℕ → ℕ) (ask : Asked n blocks M settings allowed list)
-    (sl : Slots blocks (M .b0) (M .b) owner kind) (asg : Assigning n blocks M settings May D) where
+module _ (n blocks : ℕ) (M : Minima) (settings allowed list owner kind : List ℕ) (D : ℕ → ℕ) (ask : Asked n blocks M settings allowed list)
+    (sl : Slots blocks (M .b0) (M .b) owner kind) (asg : Assigned n blocks M settings allowed D) where
   abbrev slots : ℕ
   slots = blocks * M .b0
 
@@ -173,10 +173,10 @@ module _ (n blocks : ℕ) (M : Minima) (settings allowed list owner kind : List 
   unfolding block
   gives-block s l = eqb→eq (D (give s)) (at owner s) (fitting-in (M .b) setting (block D (at owner s)) (at kind s) (give s) (gives s l .pass))
 
-  give-edge : (s : ℕ) → s < slots → EdgeBy May settings owner kind s (give s)
+  give-edge : (s : ℕ) → s < slots → Edge allowed settings owner kind s (give s)
   give-edge s l =
       record {
-        may = subst (May (give s)) (gives-block s l) (asg .may (give s) (gives s l .below));
+        may = subst (λ m. T (allows allowed (give s) m)) (gives-block s l) (asg .may (give s) (gives s l .below));
         suits = fitting-kind (M .b) setting (block D (at owner s)) (at kind s) (give s) (gives s l .pass);
       }
 
@@ -192,7 +192,7 @@ module _ (n blocks : ℕ) (M : Minima) (settings allowed list owner kind : List 
       (and-T (eqb (at owner u) (at owner s)) (eqb (at kind u) (at kind s)) (eq→eqb (at owner u) (at owner s) (sym m)) (eq→eqb (at kind u) (at kind s) (sym q))) a
 
   -- where no matching gives every slot a tide, there is no assignment
-  pub no-assignment : Unsaturable (EdgeBy May settings owner kind) slots n → ⊥
+  pub no-assignment : Unsaturable (Edge allowed settings owner kind) slots n → ⊥
   no-assignment un = un give (record { below = λ s l. gives s l .below; edge = give-edge; apart = give-apart })
 
 -- ---- from a matching that gives every slot a tide, written out, to an assignment

@@ -1,14 +1,14 @@
--- The slots of a tree are a Hall violator where every tide that they can hold, now by E′, is seen and none of these is free: no matching
--- gives every slot a tide. Assumes nothing.
+-- The slots of a tree that are all scanned, with no free tide seen, are a Hall violator: no matching gives every slot a tide. Assumes nothing.
 use mathlib.Core.Path.{_≡_, sym, ap, _∙_}
 use mathlib.Core.List.{List}
-use Prim.Native.Nat.{ℕ, _-_, _<_}
+use Prim.Native.Nat.{ℕ, _-_, _≤_, _<_}
 use native.Mathlib.Omega.{arith}
 use Rattle.lists.specs.Counts.{pigeonhole}
-use Rattle.matching.specs.Matching.{at, Saturating, Matching, Tree, Closed}
+use Rattle.matching.specs.Matching.{at, Saturating, Unsaturable, Matching, Tree, Closed}
 
-module _ (E E′ : ℕ → ℕ → Type 0) (slots tides tail : ℕ) (tide slot from rank queue : List ℕ) (v : Matching E slots tides tide slot)
-    (tr : Tree E slots tides tail tide slot from rank queue) (cl : Closed E′ slots tides tail from rank) (g : ℕ → ℕ) (sat : Saturating E′ slots tides g) where
+module _ (E : ℕ → ℕ → Type 0) (slots tides tail : ℕ) (tide slot from rank queue : List ℕ) (small : slots ≤ 120)
+    (v : Matching E slots tides tide slot) (tr : Tree E slots tides tail tide slot from rank queue) (cl : Closed E slots tides tail from rank)
+    (g : ℕ → ℕ) (sat : Saturating E slots tides g) where
   -- the tide of the i-th slot of the tree
   abbrev tideOf : ℕ → ℕ
   tideOf i = g (at queue i)
@@ -50,8 +50,8 @@ module _ (E E′ : ℕ → ℕ → Type 0) (slots tides tail : ℕ) (tide slot f
       let q : at queue i ≡ at queue j = sat .apart _ _ (tr .entry i hi) (tr .entry j hj) t in
       sym (tr .place i hi) ∙ ap (at rank) q ∙ tr .place j hj
 
-  pub hall : ⊥
-  hall =
+  absurdity : ⊥
+  absurdity =
       let some = tr .some in
       let l =
       pigeonhole
@@ -61,3 +61,7 @@ module _ (E E′ : ℕ → ℕ → Type 0) (slots tides tail : ℕ) (tide slot f
       (λ i h. omega (arith, next-lt i h, next-pos i h))
       (λ i j hi hj e. next-inj i j hi hj (omega (arith, next-pos i hi, next-pos j hj))) in
       omega arith
+
+pub hall : (E : ℕ → ℕ → Type 0) (slots tides tail : ℕ) (tide slot from rank queue : List ℕ) → slots ≤ 120
+    → Matching E slots tides tide slot → Tree E slots tides tail tide slot from rank queue → Closed E slots tides tail from rank → Unsaturable E slots tides
+hall E slots tides tail tide slot from rank queue small v tr cl g sat = absurdity E slots tides tail tide slot from rank queue small v tr cl g sat

@@ -2,7 +2,6 @@
 pub mod Pairs
 pub mod Laying
 pub mod Hall
-pub mod Violators
 pub mod Push
 pub mod Shift
 pub mod Turns

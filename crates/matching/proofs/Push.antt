@@ -124,13 +124,6 @@ module _ (E : ℕ → ℕ → Type 0) (slots tides tail : ℕ) (tide slot from r
       go (yes q) = old q
       go (no n) = new (omega arith)
 
-  known′ : (x : ℕ) → x < tides → at from′ x < 120 → at from′ x < slots
-  known′ x xl l = go (ℕ-discrete x t)
-    where
-      go : Dec (x ≡ t) → at from′ x < slots
-      go (yes q) = rw (q, from-t) sl
-      go (no n) = let b = from-other x n in let k = tr .known x xl (omega arith) in omega arith
-
   pub pushed : Tree E slots tides (tail + 1) tide slot from′ rank′ queue′
   pushed =
       record {
@@ -146,7 +139,6 @@ module _ (E : ℕ → ℕ → Type 0) (slots tides tail : ℕ) (tide slot from r
         home =
             λ x xl l.
             slot-case x l (λ q. rw (q, rank-h) queue-tail) (λ k b. rw b (queue-old _ (tr .ranked x xl k) ∙ tr .home x xl k));
-        known = known′;
         seen = λ x xl l. tide-case x l (λ q. rw (q, from-t) e) (λ k b. rw b (tr .seen x xl k));
         holder = λ x xl l. tide-case x l (λ q. rw q hl) (λ k b. tr .holder x xl k);
         rises = λ x xl l. tide-case x l (λ q. rw (q, from-t, rank-old s sr, rank-h) (tr .ranked s sl sr))

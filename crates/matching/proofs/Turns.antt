@@ -1,20 +1,17 @@
 -- The turns of the loops that build a matching, on plain lists: `scan`, `shift`, `visit`, `adopt`, `grow`, `improve`, `saturate`. Assumes nothing.
 use mathlib.Core.Path.{_≡_, refl, sym, ap, _∙_, subst, subst₂}
-use mathlib.Core.Logic.{_⊎_, inl, inr, ⊎-elim}
+use mathlib.Core.Logic.{_⊎_, inl, ⊎-elim}
 use mathlib.Core.List.{List}
 use Prim.Native.Nat.{ℕ, _+_, _*_, _≤_, _<_}
 use native.Mathlib.Decide.{ℕ-discrete, decLt}
 use native.Mathlib.Omega.{arith}
 use lib.ListN.{length, set, replicate, length-set, length-replicate, getD-replicate}
 use lib.Seq.{getD-set-same, getD-set-other}
-use Rattle.lists.specs.Tests.{split}
-use Rattle.matching.specs.Promise.{helps, Idle}
 use Rattle.matching.specs.Matching.{at, Matching, Tree, Kept, Closed, freed}
-use Rattle.matching.specs.Graph.{EdgeAt, Edge, Sized, EdgeBy, Scanning, Marked, Covered, Passed, Free, Searched, Violator, Augmented, Shifting, Saturated}
+use Rattle.matching.specs.Graph.{EdgeAt, Edge, Sized, Scanning, Marked, Free, Searched, Augmented, Shifting, Saturated}
 use Rattle.matching.proofs.Push.{pushed, push-seen, push-here, push-rank, room, queue-old, rank-old}
 use Rattle.matching.proofs.Shift.{swapped, swap-free, swap-kept, swap-here, swap-root, swap-falls, swap-next, swap-edge, swap-path, tree-path}
 use Rattle.matching.proofs.Hall.{hall}
-use Rattle.matching.proofs.Violators.{not-both, helps-by}
 
 -- what holds of each index below i, and of i, holds of each below i + 1
 upto-case : {A : Type 0} (i k : ℕ) → k < i + 1 → (k ≡ i → A) → (k < i → A) → A
@@ -170,12 +167,8 @@ module _ (allowed settings owner kind : List ℕ) (slots tides : ℕ) (z : Sized
             (record { may = e .may; suits = ⊎-elim (λ q. inl q) (λ q. subst (λ (i : ℕ). (i ≡ 0) ⊎ (at settings t ≡ i)) (sym q) (e .suits)) w });
       }
 
-  -- nothing new is marked
-  pub visit-same : Covered mark (at owner s) (at kind s) → Passed allowed settings slots tides (at owner s) (at kind s) 120 mark mark from
-  visit-same c = record { end = refl; marked = mk; covered = c; kept = λ i h. h }
-
   -- the slot is scanned, and its block and kind marked
-  visit-marked : (start f tail : ℕ) (tide slot rank queue from′ rank′ queue′ : List ℕ)
+  pub visit-marked : (start f tail : ℕ) (tide slot rank queue from′ rank′ queue′ : List ℕ)
       → Scanning E slots tides s start f tail tide slot from rank queue from′ rank′ queue′ → tides ≤ f
       → Marked allowed settings slots tides (set mark (at owner s * 9 + at kind s) 1) from′
   visit-marked start f tail tide slot rank queue from′ rank′ queue′ sc h =
@@ -190,24 +183,6 @@ module _ (allowed settings owner kind : List ℕ) (slots tides : ℕ) (z : Sized
           sc .done t (omega arith) tl (subst₂ (λ (i j : ℕ). EdgeAt allowed settings i j t) x y e)
       go m k ml kl g t tl e (no q) =
           sc .seen t tl (mk .seen m k ml kl (λ r. g (getD-set-other mark (at owner s * 9 + at kind s) (m * 9 + k) 1 0 q ∙ r)) t tl e)
-
-  pub visit-new : (start f tail : ℕ) (tide slot rank queue from′ rank′ queue′ : List ℕ)
-      → Scanning E slots tides s start f tail tide slot from rank queue from′ rank′ queue′ → tides ≤ f → f ≡ 120
-      → Passed allowed settings slots tides (at owner s) (at kind s) f mark (set mark (at owner s * 9 + at kind s) 1) from′
-  visit-new start f tail tide slot rank queue from′ rank′ queue′ sc h e =
-      record {
-        end = e;
-        marked = visit-marked start f tail tide slot rank queue from′ rank′ queue′ sc h;
-        covered = inr (λ q. let b = here in omega arith);
-        kept = λ i g q. go i g q (ℕ-discrete i (at owner s * 9 + at kind s));
-      }
-    where
-      here : at (set mark (at owner s * 9 + at kind s) 1) (at owner s * 9 + at kind s) ≡ 1
-      here = getD-set-same mark (at owner s * 9 + at kind s) 1 0 (let c = class-below in omega (arith, mk .long))
-
-      go : (i : ℕ) → (at mark i ≡ 0 → ⊥) → at (set mark (at owner s * 9 + at kind s) 1) i ≡ 0 → Dec (i ≡ at owner s * 9 + at kind s) → ⊥
-      go i g q (yes e) = let b = here in let c : at (set mark (at owner s * 9 + at kind s) 1) i ≡ 1 = rw e b in omega arith
-      go i g q (no n) = g (sym (getD-set-other mark (at owner s * 9 + at kind s) i 1 0 n) ∙ q)
 
 pub blank-marked : (allowed settings from : List ℕ) (slots tides : ℕ) → Marked allowed settings slots tides (replicate 1080 0) from
 blank-marked allowed settings from slots tides =
@@ -239,63 +214,36 @@ pub given : (E : ℕ → ℕ → Type 0) (slots tides : ℕ) (tide slot : List �
 given E slots tides tide slot small few v s t sl tl free e tide′ slot′ e₁ e₂ = rw (e₁, e₂) (swapped E slots tides tide slot small few v s t sl tl free e)
 
 -- ---- the search
-pub record Growing (E : ℕ → ℕ → Type 0) (owner kind : List ℕ) (slots tides root head tail : ℕ) (tide slot from rank queue mark : List ℕ) : Type 0 where
+pub record Growing (E : ℕ → ℕ → Type 0) (slots tides root head tail : ℕ) (tide slot from rank queue : List ℕ) : Type 0 where
   pub tree : Tree E slots tides tail tide slot from rank queue
   pub front : at queue 0 ≡ root
-  pub covered : (s : ℕ) → s < slots → at rank s < head → Covered mark (at owner s) (at kind s)
+  pub closed : Closed E slots tides head from rank
   pub within : head ≤ tail
 
-module _ (allowed settings owner kind : List ℕ) (slots tides root : ℕ) (tide slot : List ℕ) (z : Sized allowed settings owner kind slots tides)
-    (v : Matching (Edge allowed settings owner kind) slots tides tide slot) where
-  abbrev G : ℕ → ℕ → Type 0
-  G = Edge allowed settings owner kind
+module _ (E : ℕ → ℕ → Type 0) (slots tides root : ℕ) (tide slot : List ℕ) (small : slots ≤ 120) (few : tides ≤ 120) (v : Matching E slots tides tide slot) where
+  pub grow-start : (from rank queue : List ℕ) → Tree E slots tides 1 tide slot from rank queue → root ≡ at queue 0
+      → Growing E slots tides root 0 1 tide slot from rank queue
+  grow-start from rank queue tr e =
+      record { tree = tr; front = sym e; closed = λ s sl h. absurd (omega arith); within = omega arith }
 
-  pub grow-start : (from rank queue mark : List ℕ) → Tree G slots tides 1 tide slot from rank queue → root ≡ at queue 0
-      → Growing G owner kind slots tides root 0 1 tide slot from rank queue mark
-  grow-start from rank queue mark tr e =
-      record { tree = tr; front = sym e; covered = λ s sl h. absurd (omega arith); within = omega arith }
-
-  module _ (head tail : ℕ) (from rank queue mark : List ℕ) (gr : Growing G owner kind slots tides root head tail tide slot from rank queue mark) where
+  module _ (head tail : ℕ) (from rank queue : List ℕ) (gr : Growing E slots tides root head tail tide slot from rank queue) where
     pub grow-in-tree : head < tail → at rank (at queue head) < 120
-    grow-in-tree h = let p = gr .tree .place head h in let f = gr .tree .few in omega (arith, z .few-slots)
+    grow-in-tree h = let p = gr .tree .place head h in let f = gr .tree .few in omega arith
 
-    pub grow-none : (s f : ℕ) → tides ≤ f → Searched G slots tides root s f tide slot from rank
-    grow-none s f c =
+    pub grow-none : (s f : ℕ) → tides ≤ f → tail ≤ head → Searched E slots tides root s f tide slot from rank
+    grow-none s f c h =
+        let q : head ≡ tail = let w = gr .within in omega arith in
         record {
           found = λ l. absurd (omega arith);
           below = λ l. absurd (omega arith);
           in-tree = λ l. absurd (omega arith);
           path = λ l. absurd (omega arith);
+          none = λ _. hall E slots tides tail tide slot from rank queue small v (gr .tree) (rw q at (gr .closed));
         }
 
-    -- all slots of the tree are scanned
-    pub grow-violator : Marked allowed settings slots tides mark from → tail ≤ head → Violator allowed settings owner kind slots tides from mark
-    grow-violator mk h g sat = hall G (EdgeBy (Idle settings allowed from mark) settings owner kind) slots tides tail tide slot from rank queue v (gr .tree) closed g sat
-      where
-        -- a tide that may go to the block of a scanned slot, and one that would help there, are seen
-        closed : Closed (EdgeBy (Idle settings allowed from mark) settings owner kind) slots tides tail from rank
-        closed s sl l t tl e = by (e .may) (gr .covered s sl (let w = gr .within in omega arith))
-          where
-            zero-kind : (at mark (at owner s * 9) ≡ 0 → ⊥) → at mark (at owner s * 9 + 0) ≡ 0 → ⊥
-            zero-kind c q = c (ap (at mark) (omega arith) ∙ q)
-
-            -- the mark that covers s is one for the tide's setting or for any
-            suiting : Covered mark (at owner s) (at kind s) → Covered mark (at owner s) (at settings t)
-            suiting (inl c) = inl c
-            suiting (inr c) = ⊎-elim (λ q. inl (λ r. c (ap (λ k. at mark (at owner s * 9 + k)) q ∙ ap (at mark) (omega arith) ∙ r)))
-                (λ q. inr (λ r. c (ap (λ k. at mark (at owner s * 9 + k)) (sym q) ∙ r))) (e .suits)
-
-            by : Idle settings allowed from mark t (at owner s) → Covered mark (at owner s) (at kind s) → at from t < slots
-            by (inl a) (inl c) = mk .seen (at owner s) 0 (z .blocks s sl) (omega arith) (zero-kind c) t tl (record { may = a; suits = inl refl })
-            by (inl a) (inr c) = mk .seen (at owner s) (at kind s) (z .blocks s sl) (z .kinds s sl) c t tl (record { may = a; suits = e .suits })
-            by (inr u) c =
-                ⊎-elim (λ k. gr .tree .known t tl k)
-                (λ k. absurd (not-both (helps settings from mark t (at owner s)) u (helps-by settings from mark t (at owner s) k (suiting c))))
-                (split (at from t) 120)
-
     module _ (h : head < tail) (f tail′ : ℕ) (from′ rank′ queue′ : List ℕ)
-        (sc : Scanning G slots tides (at queue head) tail f tail′ tide slot from rank queue from′ rank′ queue′) where
-      pub grow-found : f < tides → Free G slots (at queue head) f slot → Searched G slots tides root (at queue head) f tide slot from′ rank′
+        (sc : Scanning E slots tides (at queue head) tail f tail′ tide slot from rank queue from′ rank′ queue′) where
+      pub grow-found : f < tides → Free E slots (at queue head) f slot → Searched E slots tides root (at queue head) f tide slot from′ rank′
       grow-found l fr =
           let i = sc .in-tree in
           record {
@@ -304,35 +252,32 @@ module _ (allowed settings owner kind : List ℕ) (slots tides root : ℕ) (tide
             in-tree = λ _. i;
             path =
                 λ _.
-                rw (← (gr .front), ← (sc .front)) (tree-path G slots tides tail′ (at rank′ (at queue head) + 1) tide slot from′ rank′ queue′ v (sc .tree) (omega arith));
+                rw (← (gr .front), ← (sc .front)) (tree-path E slots tides tail′ (at rank′ (at queue head) + 1) tide slot from′ rank′ queue′ v (sc .tree) (omega arith));
+            none = λ g. absurd (omega arith);
           }
 
-      pub grow-again : (mark′ : List ℕ) → Passed allowed settings slots tides (at owner (at queue head)) (at kind (at queue head)) f mark mark′ from′
-          → Growing G owner kind slots tides root (head + 1) tail′ tide slot from′ rank′ queue′ mark′
-      grow-again mark′ pa =
+      pub grow-again : f ≡ 120 → Growing E slots tides root (head + 1) tail′ tide slot from′ rank′ queue′
+      grow-again e =
           record {
             tree = sc .tree;
             front = sc .front ∙ gr .front;
-            covered =
-                λ s sl l.
+            closed =
+                λ s sl l t tl p.
                 upto-case
                 head
                 (at rank′ s)
                 l
-                (λ q. subst (λ x. Covered mark′ (at owner x) (at kind x)) (sym (here s sl q)) (pa .covered))
-                (λ k. let o = sc .old s sl (omega arith) in still (at owner s) (at kind s) (gr .covered s sl (omega arith)));
+                (λ q. sc .done t (omega arith) tl (rw (← (here s sl q)) p))
+                (λ k. let o = sc .old s sl (omega arith) in sc .seen t tl (gr .closed s sl (omega arith) t tl p));
             within = let g = sc .grown in omega arith;
           }
         where
-          still : (m k : ℕ) → Covered mark m k → Covered mark′ m k
-          still m k c = ⊎-elim (λ q. inl (pa .kept (m * 9) q)) (λ q. inr (pa .kept (m * 9 + k) q)) c
-
           -- the slot of rank head is the one scanned
           here : (s : ℕ) → s < slots → at rank′ s ≡ head → s ≡ at queue head
           here s sl q =
               let o = sc .old s sl (omega arith) in
               let w = gr .tree .few in
-              let hm = gr .tree .home s sl (omega (arith, z .few-slots)) in
+              let hm = gr .tree .home s sl (omega arith) in
               sym hm ∙ ap (at queue) (o ∙ q)
 
 -- ---- the tree of the root alone
@@ -381,7 +326,6 @@ module _ (E : ℕ → ℕ → Type 0) (slots tides root : ℕ) (tide slot : List
         place = λ i l. let z : i ≡ 0 = omega arith in rw (z, queue-root) rank-root;
         ranked = λ s sl h. let q = only s sl h in rw (q, rank-root) (omega arith);
         home = λ s sl h. let q = only s sl h in rw (q, rank-root) queue-root;
-        known = λ t tl h. let b = blank-at t (omega arith) in absurd (omega arith);
         seen = λ t tl h. let b = blank-at t (omega arith) in absurd (omega arith);
         holder = λ t tl h. let b = blank-at t (omega arith) in absurd (omega arith);
         rises = λ t tl h. let b = blank-at t (omega arith) in absurd (omega arith);

@@ -6,22 +6,15 @@ use mathlib.Core.Logic.{_⊎_}
 use Prim.Native.Nat.{ℕ, _+_, _*_, _≤_, _<_}
 use lib.Dec.{T}
 use lib.ListN.{length}
-use Rattle.matching.specs.Promise.{allows, Idle}
+use Rattle.matching.specs.Promise.{allows}
 use Rattle.matching.specs.Matching.{at, Matching, Tree, Path, Kept, Unsaturable}
 
--- a slot of block m and kind k can hold the tide t: by May the tide may go to the block, and the kind is 0 or the tide's setting
-pub record Fits (May : ℕ → ℕ → Type 0) (settings : List ℕ) (m k t : ℕ) : Type 0 where
-  pub may : May t m
+-- a slot of block m and kind k can hold the tide t: the tide may go to the block, and the kind is 0 or the tide's setting
+pub record EdgeAt (allowed settings : List ℕ) (m k t : ℕ) : Type 0 where
+  pub may : T (allows allowed t m)
   pub suits : (k ≡ 0) ⊎ (at settings t ≡ k)
 
--- so by the table
-abbrev pub EdgeAt : (allowed settings : List ℕ) (m k t : ℕ) → Type 0
-EdgeAt allowed settings = Fits (λ t m. T (allows allowed t m)) settings
-
 -- the same of the slot s, by the tables of blocks and kinds
-abbrev pub EdgeBy : (May : ℕ → ℕ → Type 0) (settings owner kind : List ℕ) (s t : ℕ) → Type 0
-EdgeBy May settings owner kind s t = Fits May settings (at owner s) (at kind s) t
-
 abbrev pub Edge : (allowed settings owner kind : List ℕ) (s t : ℕ) → Type 0
 Edge allowed settings owner kind s t = EdgeAt allowed settings (at owner s) (at kind s) t
 
@@ -61,32 +54,23 @@ pub record Marked (allowed settings : List ℕ) (slots tides : ℕ) (mark from :
   pub long : length mark ≡ 1080
   pub seen : (m k : ℕ) → m < 120 → k ≤ 8 → (at mark (m * 9 + k) ≡ 0 → ⊥) → (t : ℕ) → t < tides → EdgeAt allowed settings m k t → at from t < slots
 
--- block m has a mark for the kind k or for any
-abbrev pub Covered : (mark : List ℕ) (m k : ℕ) → Type 0
-Covered mark m k = (at mark (m * 9) ≡ 0 → ⊥) ⊎ (at mark (m * 9 + k) ≡ 0 → ⊥)
-
--- no free tide was met from a slot of block m and kind k
-pub record Passed (allowed settings : List ℕ) (slots tides m k f : ℕ) (mark₀ mark from : List ℕ) : Type 0 where
+-- no free tide was met
+pub record Passed (allowed settings : List ℕ) (slots tides f : ℕ) (mark from : List ℕ) : Type 0 where
   pub end : f ≡ 120
   pub marked : Marked allowed settings slots tides mark from
-  pub covered : Covered mark m k
-  pub kept : (i : ℕ) → (at mark₀ i ≡ 0 → ⊥) → at mark i ≡ 0 → ⊥
 
 -- f is a free tide that the slot s can hold
 pub record Free (E : ℕ → ℕ → Type 0) (slots s f : ℕ) (slot : List ℕ) : Type 0 where
   pub edge : E s f
   pub free : slots ≤ at slot f
 
--- the search ended at a tree
+-- the search ended at a tree: all of it is scanned where no free tide was met
 pub record Searched (E : ℕ → ℕ → Type 0) (slots tides root s f : ℕ) (tide slot from rank : List ℕ) : Type 0 where
   pub found : f < tides → Free E slots s f slot
   pub below : f < tides → s < slots
   pub in-tree : f < tides → at rank s < 120
   pub path : f < tides → Path E slots tides root (at rank s + 1) tide from rank
-
--- a Hall violator: no matching gives every slot a tide, even where each tide may also go wherever that would not help
-abbrev pub Violator : (allowed settings owner kind : List ℕ) (slots tides : ℕ) (from mark : List ℕ) → Type 0
-Violator allowed settings owner kind slots tides from mark = Unsaturable (EdgeBy (Idle settings allowed from mark) settings owner kind) slots tides
+  pub none : tides ≤ f → Unsaturable E slots tides
 
 -- what a new pair of tables keeps of the old ones: a matching, and each slot's tide
 pub record Augmented (E : ℕ → ℕ → Type 0) (slots tides root : ℕ) (tide tide′ slot′ : List ℕ) : Type 0 where

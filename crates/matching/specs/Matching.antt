@@ -40,7 +40,6 @@ pub record Tree (E : ℕ → ℕ → Type 0) (slots tides tail : ℕ) (tide slot
   pub place : (i : ℕ) → i < tail → at rank (at queue i) ≡ i
   pub ranked : (s : ℕ) → s < slots → at rank s < 120 → at rank s < tail
   pub home : (s : ℕ) → s < slots → at rank s < 120 → at queue (at rank s) ≡ s
-  pub known : (t : ℕ) → t < tides → at from t < 120 → at from t < slots
   pub seen : (t : ℕ) → t < tides → at from t < slots → E (at from t) t
   pub holder : (t : ℕ) → t < tides → at from t < slots → at slot t < slots
   pub rises : (t : ℕ) → t < tides → at from t < slots → at rank (at from t) < at rank (at slot t)

@@ -2,10 +2,9 @@
 -- number, and an assignment gives each tide the number of its block. Assumes nothing.
 use Prim.Native.Nat.{ℕ, _+_, _*_, _≤_, _<_}
 use mathlib.Core.Path.{_≡_}
-use mathlib.Core.Bool.{Bool, true, false, not, _&&_, _||_}
-use mathlib.Core.Logic.{_⊎_}
+use mathlib.Core.Bool.{Bool, true, false, not}
 use mathlib.Core.List.{List}
-use lib.Dec.{T, eqb, leb}
+use lib.Dec.{T, eqb}
 use lib.ListN.{length, drop, getD}
 use Rattle.lists.specs.Lists.{sum}
 use Rattle.study.specs.declared.Minima.{Minima}
@@ -35,19 +34,6 @@ pub record Assigning (n blocks : ℕ) (M : Minima) (settings : List ℕ) (May : 
 abbrev pub Assigned : (n blocks : ℕ) (M : Minima) (settings allowed : List ℕ) (D : ℕ → ℕ) → Type 0
 Assigned n blocks M settings allowed = Assigning n blocks M settings (λ t m. T (allows allowed t m))
 
--- A Hall violator, as a failed search leaves it, is slots that can together hold too few tides. The slots of block m and kind k are
--- among them where mark has another number than 0 at m * 9 + k; the tides that they can hold have numbers below 120 in from.
-abbrev pub marked : (mark : List ℕ) (m k : ℕ) → Bool
-marked mark m k = not (eqb (getD mark (m * 9 + k) 0) 0)
-
--- it could help to let tide t go to block m: t is not among the tides, and a slot of the violator in m would hold it
-unfoldable pub helps : (settings from mark : List ℕ) (t m : ℕ) → Bool
-helps settings from mark t m = leb 120 (getD from t 0) && (marked mark m 0 || marked mark m (getD settings t 0))
-
--- tide t may go to block m, or that would not help
-abbrev pub Idle : (settings allowed from mark : List ℕ) (t m : ℕ) → Type 0
-Idle settings allowed from mark t m = T (allows allowed t m) ⊎ T (not (helps settings from mark t m))
-
 -- what `search` may assume
 pub record Asked (n blocks : ℕ) (M : Minima) (settings allowed list : List ℕ) : Type 0 where
   pub few-tides : n ≤ 120
@@ -60,19 +46,11 @@ pub record Asked (n blocks : ℕ) (M : Minima) (settings allowed list : List ℕ
   pub setting-low : (t : ℕ) → t < n → 1 ≤ getD settings t 0
   pub setting-high : (t : ℕ) → t < n → getD settings t 0 ≤ 8
 
--- what a search promises of its answer r and of the list that it leaves, list′
-pub record Settled (n blocks : ℕ) (M : Minima) (settings allowed : List ℕ) (May : ℕ → ℕ → Type 0) (list list′ : List ℕ) (r : Bool) : Type 0 where
+-- what `search` promises of its answer r and of the list that it leaves, list′
+pub record Promise (n blocks : ℕ) (M : Minima) (settings allowed list list′ : List ℕ) (r : Bool) : Type 0 where
   -- on yes the list is an assignment
   pub found : r ≡ true → Assigned n blocks M settings allowed (labels list′)
-  -- on no there is none, even by May
-  pub none : r ≡ false → (D : ℕ → ℕ) → Assigning n blocks M settings May D → ⊥
+  -- on no there is none
+  pub none : r ≡ false → (D : ℕ → ℕ) → Assigned n blocks M settings allowed D → ⊥
   pub same-length : length list′ ≡ length list
   pub rest : drop n list′ ≡ drop n list
-
--- what `search` promises
-abbrev pub Promise : (n blocks : ℕ) (M : Minima) (settings allowed list list′ : List ℕ) (r : Bool) → Type 0
-Promise n blocks M settings allowed = Settled n blocks M settings allowed (λ t m. T (allows allowed t m))
-
--- what `search_or_violator` promises: on no there is none, even where each tide may also go wherever that would not help
-abbrev pub PromiseOrViolator : (n blocks : ℕ) (M : Minima) (settings allowed list list′ from mark : List ℕ) (r : Bool) → Type 0
-PromiseOrViolator n blocks M settings allowed list list′ from mark = Settled n blocks M settings allowed (Idle settings allowed from mark) list list′

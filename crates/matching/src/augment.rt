@@ -1,12 +1,11 @@
 // A matching that gives every slot a tide, by augmenting paths. tide[s] is the tide that the slot s
 // holds and slot[t] the slot that holds the tide t: 120 where there is none.
-use crate::violator::Outcome;
 ghost use mathlib.Core.Path.{_≡_};
 ghost use mathlib.Core.Bool.{true, false};
 ghost use Prim.Native.Nat.{_+_, _<_, _≤_};
 ghost use lib.ListN.{length, set};
-ghost use Rattle.matching.specs.Matching.{at, Matching, Tree, Path, freed};
-ghost use Rattle.matching.specs.Graph.{EdgeAt, Edge, Decides, Sized, Wanted, Scanning, Marked, Passed, Free, Searched, Violator, Augmented, Saturated};
+ghost use Rattle.matching.specs.Matching.{at, Matching, Tree, Path, Unsaturable, freed};
+ghost use Rattle.matching.specs.Graph.{EdgeAt, Edge, Decides, Sized, Wanted, Scanning, Marked, Passed, Free, Searched, Augmented, Saturated};
 
 // The length of the queue after a scan, and the free tide that was met, or 120.
 pub struct Scanned {
@@ -180,7 +179,7 @@ fn visit(
     requires { ⌜ Marked (now allowed) (now settings) slots tides (now mark) (now from) ⌝ }
     ensures { λ r. ⌜ Scanning (Edge (now (allowed .entry)) (now (settings .entry)) (now (owner .entry)) (now (kind .entry))) slots tides s start (r .free) (r .tail) (now (tide .entry)) (now (slot .entry)) (now (from .entry)) (now (rank .entry)) (now (queue .entry)) (now (from .exit)) (now (rank .exit)) (now (queue .exit)) ⌝ }
     ensures { λ r. ⌜ (r .free < tides → Free (Edge (now (allowed .entry)) (now (settings .entry)) (now (owner .entry)) (now (kind .entry))) slots s (r .free) (now (slot .entry))) ⌝ }
-    ensures { λ r. ⌜ (tides ≤ r .free → Passed (now (allowed .entry)) (now (settings .entry)) slots tides (at (now (owner .entry)) s) (at (now (kind .entry)) s) (r .free) (now (mark .entry)) (now (mark .exit)) (now (from .exit))) ⌝ }
+    ensures { λ r. ⌜ (tides ≤ r .free → Passed (now (allowed .entry)) (now (settings .entry)) slots tides (r .free) (now (mark .exit)) (now (from .exit))) ⌝ }
 {
     let any = owner[s] * 9;
     if mark[any] != 0 {
@@ -235,7 +234,6 @@ fn grow(
     requires { ⌜ Tree (Edge (now allowed) (now settings) (now owner) (now kind)) slots tides 1 (now tide) (now slot) (now from) (now rank) (now queue) ⌝ }
     requires { ⌜ Marked (now allowed) (now settings) slots tides (now mark) (now from) ⌝ }
     ensures { λ r. ⌜ Searched (Edge (now (allowed .entry)) (now (settings .entry)) (now (owner .entry)) (now (kind .entry))) slots tides (at (now (queue .entry)) 0) (r .slot) (r .tide) (now (tide .entry)) (now (slot .entry)) (now (from .exit)) (now (rank .exit)) ⌝ }
-    ensures { λ r. ⌜ (tides ≤ r .tide → Violator (now (allowed .entry)) (now (settings .entry)) (now (owner .entry)) (now (kind .entry)) slots tides (now (from .exit)) (now (mark .exit))) ⌝ }
 {
     let mut head = 0;
     let mut tail = 1;
@@ -309,7 +307,8 @@ fn shift(
     }
 }
 
-// Gives the free slot root a tide, and leaves every slot that has one with one; or a Hall violator.
+// Gives the free slot root a tide, and leaves every slot that has one with one. False where no
+// matching gives every slot a tide.
 fn improve(
     allowed: &[u8],
     settings: &[u8],
@@ -320,13 +319,13 @@ fn improve(
     tide: &mut [usize; 120],
     slot: &mut [usize; 120],
     root: usize,
-) -> Outcome
+) -> bool
     requires { ⌜ Sized (now allowed) (now settings) (now owner) (now kind) slots tides ⌝ }
     requires { ⌜ Matching (Edge (now allowed) (now settings) (now owner) (now kind)) slots tides (now tide) (now slot) ⌝ }
     requires { ⌜ root < slots ⌝ }
     requires { ⌜ tides ≤ at (now tide) root ⌝ }
-    ensures { λ r. ⌜ (r .found ≡ true → Augmented (Edge (now (allowed .entry)) (now (settings .entry)) (now (owner .entry)) (now (kind .entry))) slots tides root (now (tide .entry)) (now (tide .exit)) (now (slot .exit))) ⌝ }
-    ensures { λ r. ⌜ (r .found ≡ false → Violator (now (allowed .entry)) (now (settings .entry)) (now (owner .entry)) (now (kind .entry)) slots tides (r .from) (r .mark)) ⌝ }
+    ensures { λ r. ⌜ (r ≡ true → Augmented (Edge (now (allowed .entry)) (now (settings .entry)) (now (owner .entry)) (now (kind .entry))) slots tides root (now (tide .entry)) (now (tide .exit)) (now (slot .exit))) ⌝ }
+    ensures { λ r. ⌜ (r ≡ false → Unsaturable (Edge (now (allowed .entry)) (now (settings .entry)) (now (owner .entry)) (now (kind .entry))) slots tides) ⌝ }
 {
     let mut from: [usize; 120] = [120; 120];
     let mut rank: [usize; 120] = [120; 120];
@@ -351,11 +350,7 @@ fn improve(
     let s = r.slot;
     let t = r.tide;
     if t >= tides {
-        return Outcome {
-            found: false,
-            from: from,
-            mark: mark,
-        };
+        return false;
     }
     shift(
         allowed,
@@ -372,14 +367,10 @@ fn improve(
         s,
         t,
     );
-    Outcome {
-        found: true,
-        from: from,
-        mark: mark,
-    }
+    true
 }
 
-// Gives every slot a tide, starting from any matching; or a Hall violator.
+// Gives every slot a tide, starting from any matching. False where no matching does.
 pub fn saturate(
     allowed: &[u8],
     settings: &[u8],
@@ -389,27 +380,22 @@ pub fn saturate(
     tides: usize,
     tide: &mut [usize; 120],
     slot: &mut [usize; 120],
-) -> Outcome
+) -> bool
     requires { ⌜ Sized (now allowed) (now settings) (now owner) (now kind) slots tides ⌝ }
     requires { ⌜ Matching (Edge (now allowed) (now settings) (now owner) (now kind)) slots tides (now tide) (now slot) ⌝ }
-    ensures { λ r. ⌜ (r .found ≡ true → Saturated (Edge (now (allowed .entry)) (now (settings .entry)) (now (owner .entry)) (now (kind .entry))) slots tides slots (now (tide .exit)) (now (slot .exit))) ⌝ }
-    ensures { λ r. ⌜ (r .found ≡ false → Violator (now (allowed .entry)) (now (settings .entry)) (now (owner .entry)) (now (kind .entry)) slots tides (r .from) (r .mark)) ⌝ }
+    ensures { λ r. ⌜ (r ≡ true → Saturated (Edge (now (allowed .entry)) (now (settings .entry)) (now (owner .entry)) (now (kind .entry))) slots tides slots (now (tide .exit)) (now (slot .exit))) ⌝ }
+    ensures { λ r. ⌜ (r ≡ false → Unsaturable (Edge (now (allowed .entry)) (now (settings .entry)) (now (owner .entry)) (now (kind .entry))) slots tides) ⌝ }
 {
     // How many slots are still to be looked at.
     let mut left = slots;
     while left > 0 {
         let s = slots - left;
         if tide[s] >= tides {
-            let r = improve(allowed, settings, owner, kind, slots, tides, tide, slot, s);
-            if !r.found {
-                return r;
+            if !improve(allowed, settings, owner, kind, slots, tides, tide, slot, s) {
+                return false;
             }
         }
         left -= 1;
     }
-    Outcome {
-        found: true,
-        from: [120; 120],
-        mark: [0; 1080],
-    }
+    true
 }

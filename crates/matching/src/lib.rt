@@ -6,17 +6,15 @@ mod augment;
 mod slots;
 mod start;
 pub mod table;
-pub mod violator;
 
 use crate::assign::write_list;
 use crate::assign::write_partial;
 use crate::augment::saturate;
 use crate::slots::lay_out;
 use crate::start::adopt;
-use crate::violator::Outcome;
 use study::Minima;
 ghost use Prim.Native.Nat.{_*_, _≤_};
-ghost use Rattle.matching.specs.Promise.{Asked, Promise, PromiseOrViolator};
+ghost use Rattle.matching.specs.Promise.{Asked, Promise};
 ghost use Rattle.matching.specs.Slots.{Slots};
 
 // Whether there is an assignment, which is then left in the first n places of list. What list holds
@@ -33,30 +31,9 @@ pub fn search(
     requires { ⌜ Asked n blocks minima (now settings) (now allowed) (now list) ⌝ }
     ensures { λ r. ⌜ Promise n blocks minima (now (settings .entry)) (now (allowed .entry)) (now (list .entry)) (now (list .exit)) r ⌝ }
 {
-    let r = search_or_violator(n, blocks, minima, settings, allowed, list);
-    r.found
-}
-
-// The same, and on no a Hall violator, which tells what would have to be allowed too.
-pub fn search_or_violator(
-    n: usize,
-    blocks: usize,
-    minima: Minima,
-    settings: &[u8],
-    allowed: &[u8],
-    list: &mut [u8],
-) -> Outcome
-    requires { ⌜ Asked n blocks minima (now settings) (now allowed) (now list) ⌝ }
-    ensures { λ r. ⌜ PromiseOrViolator n blocks minima (now (settings .entry)) (now (allowed .entry)) (now (list .entry)) (now (list .exit)) (r .from) (r .mark) (r .found) ⌝ }
-{
     let b0 = minima.b0 as usize;
     if blocks * b0 > n {
-        // Nothing helps.
-        return Outcome {
-            found: false,
-            from: [120; 120],
-            mark: [0; 1080],
-        };
+        return false;
     }
     let b = minima.b;
     let mut owner: [usize; 120] = [0; 120];
@@ -87,11 +64,11 @@ fn match_slots(
     kind: &[u8; 120],
     next: &mut [u8; 1080],
     list: &mut [u8],
-) -> Outcome
+) -> bool
     requires { ⌜ Asked n blocks minima (now settings) (now allowed) (now list) ⌝ }
     requires { ⌜ blocks * minima .b0 ≤ n ⌝ }
     requires { ⌜ Slots blocks (minima .b0) (minima .b) (now owner) (now kind) ⌝ }
-    ensures { λ r. ⌜ PromiseOrViolator n blocks minima (now (settings .entry)) (now (allowed .entry)) (now (list .entry)) (now (list .exit)) (r .from) (r .mark) (r .found) ⌝ }
+    ensures { λ r. ⌜ Promise n blocks minima (now (settings .entry)) (now (allowed .entry)) (now (list .entry)) (now (list .exit)) r ⌝ }
 {
     let slots = blocks * (minima.b0 as usize);
     let mut tide: [usize; 120] = [120; 120];
@@ -108,7 +85,7 @@ fn match_slots(
         next,
         list,
     );
-    let r = saturate(
+    if !saturate(
         allowed,
         settings,
         owner,
@@ -117,19 +94,13 @@ fn match_slots(
         n,
         &mut tide,
         &mut slot,
-    );
-    if !r.found {
+    ) {
         write_partial(n, owner, slots, &slot, list);
-        return r;
+        return false;
     }
     if !write_list(allowed, n, blocks, owner, slots, &slot, list) {
         write_partial(n, owner, slots, &slot, list);
-        // A tide may go nowhere: anything could help.
-        return Outcome {
-            found: false,
-            from: [120; 120],
-            mark: [1; 1080],
-        };
+        return false;
     }
-    r
+    true
 }

@@ -56,8 +56,26 @@ module _ {d s : List ℕ} {n : ℕ} {M : Minima} (Q : Proper d s n M) (g count :
       below : (t : ℕ) → t < n → labels xs t - 1 < count
       below t l = omega (arith, B .low t l, B .high t l, F .long)
 
+  -- and back
+  pub assigns-by : (May : ℕ → ℕ → Type 0) → ((t m : ℕ) → t < n → m < count → May t m → at d (getD cs m 0) t ≤ g)
+      → (D : ℕ → ℕ) → Assigning n count M s May D → Assignment P g (numbered n D)
+  unfolding posed numbered centreOf block
+  assigns-by May near D B =
+      record {
+        long = length-tabulate n (λ t. suc (D t));
+        low = λ t l. omega (arith, numbered-at n D t l);
+        high = λ t l. omega (arith, numbered-at n D t l, B .below t l, F .long);
+        near = λ t l.
+            let e : labels (numbered n D) t - 1 ≡ D t = omega (arith, numbered-at n D t l) in
+            rw (e, centre-dist (D t) t (B .below t l) l) (near t (D t) l (B .below t l) (B .may t l));
+        enough = λ m a k.
+            Q .lawful .upward (block D (m - 1)) (block (labels (numbered n D)) m)
+            (λ t l u. eq→eqb (labels (numbered n D) t) m (let e = eqb→eq (D t) (m - 1) u in omega (arith, numbered-at n D t l)))
+            (B .enough (m - 1) (omega (arith, F .long)));
+      }
+
   module _ (allowed : List ℕ) (A : (t m : ℕ) → t < n → m < count → at allowed m t ≡ entry d cs g t m) where
-    pub near-allows : (t m : ℕ) → t < n → m < count → at d (getD cs m 0) t ≤ g → T (allows allowed t m)
+    near-allows : (t m : ℕ) → t < n → m < count → at d (getD cs m 0) t ≤ g → T (allows allowed t m)
     unfolding allows
     near-allows t m l k h =
         subst (λ z. T (not (eqb z 0))) (sym (A t m l k ∙ ap bit (T-true (leb (at d (getD cs m 0) t) g) (le→leb (at d (getD cs m 0) t) g h)))) tt
@@ -70,23 +88,9 @@ module _ {d s : List ℕ} {n : ℕ} {M : Minima} (Q : Proper d s n M) (g count :
         set true u = tt
         set false u = u
 
-    -- so it is one that the table of g allows
+    -- so by the table of g, and back
     pub allowed-by : (xs : List ℕ) → Assignment P g xs → Assigned n count M s allowed (λ t. labels xs t - 1)
     allowed-by = assigning-by (λ t m. T (allows allowed t m)) near-allows
 
-    -- and back
     pub assigns : (D : ℕ → ℕ) → Assigned n count M s allowed D → Assignment P g (numbered n D)
-    unfolding posed numbered centreOf block
-    assigns D B =
-        record {
-          long = length-tabulate n (λ t. suc (D t));
-          low = λ t l. omega (arith, numbered-at n D t l);
-          high = λ t l. omega (arith, numbered-at n D t l, B .below t l, F .long);
-          near = λ t l.
-              let e : labels (numbered n D) t - 1 ≡ D t = omega (arith, numbered-at n D t l) in
-              rw (e, centre-dist (D t) t (B .below t l) l) (allows-near t (D t) l (B .below t l) (B .may t l));
-          enough = λ m a k.
-              Q .lawful .upward (block D (m - 1)) (block (labels (numbered n D)) m)
-              (λ t l u. eq→eqb (labels (numbered n D) t) m (let e = eqb→eq (D t) (m - 1) u in omega (arith, numbered-at n D t l)))
-              (B .enough (m - 1) (omega (arith, F .long)));
-        }
+    assigns = assigns-by (λ t m. T (allows allowed t m)) allows-near

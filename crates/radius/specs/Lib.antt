@@ -4,4 +4,4 @@ pub mod Tally
 pub mod Bounds
 pub mod Table
 pub mod Assigning
-pub mod Attempts
+pub mod Ascents

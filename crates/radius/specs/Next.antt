@@ -4,11 +4,9 @@ use native.Mathlib.Omega.{arith}
 use mathlib.Core.Path.{_≡_, refl, sym, subst}
 use mathlib.Core.Logic.{_⊎_, inl, inr, ⊎-elim}
 use mathlib.Core.List.{List}
-use lib.Dec.{T}
 use lib.ListN.{getD}
 use Rattle.lists.specs.Lists.{at}
 use Rattle.lists.specs.Tests.{split}
-use Rattle.matching.specs.Promise.{helps}
 
 pub record Next (Of : ℕ → Type 0) (g start r : ℕ) : Type 0 where
   pub most : r ≤ start
@@ -41,14 +39,6 @@ InRow d c t x = (u : ℕ) × (u < t) × (x ≡ at d c u)
 abbrev pub InRows : List ℕ → ℕ → (ℕ → ℕ) → ℕ → ℕ → Type 0
 InRows d n f m x = (i : ℕ) × (i < m) × InRow d (f i) n x
 
--- of tide c, the centre of block m, from the tides below t that could help there
-abbrev pub InBlock : (d s from mark : List ℕ) (c m t x : ℕ) → Type 0
-InBlock d s from mark c m t x = (u : ℕ) × (u < t) × T (helps s from mark u m) × (x ≡ at d c u)
-
--- of the centres of the blocks below m from the tides below n that could help there
-abbrev pub InBlocks : (d s from mark cs : List ℕ) (n m x : ℕ) → Type 0
-InBlocks d s from mark cs n m x = (i : ℕ) × (i < m) × InBlock d s from mark (getD cs i 0) i n x
-
 -- of tide i of a table from the later ones below m
 abbrev pub InLater : List ℕ → List ℕ → ℕ → ℕ → ℕ → Type 0
 InLater d cs i m x = (j : ℕ) × (i < j) × (j < m) × (x ≡ at d (getD cs i 0) (getD cs j 0))
@@ -72,22 +62,6 @@ module _ (d : List ℕ) (g start best r : ℕ) where
   rows-step n f m =
       next-more (InRows d n f m) (InRow d (f m) n) (InRows d n f (m + 1)) g start best r
       (λ x w. last (λ i. InRow d (f i) n x) (InRows d n f m x ⊎ InRow d (f m) n x) m (w .0) (w .1) (λ k. inl (w .0, k, w .2)) (λ e. inr e) (w .2))
-      (λ x v. (v .0, omega (arith, v .1), v .2)) (λ x u. (m, omega arith, u))
-
-  pub block-step : (s from mark : List ℕ) (c m t : ℕ) → Next (InBlock d s from mark c m t) g start best → Next (λ y. T (helps s from mark t m) × (y ≡ at d c t)) g best r
-      → Next (InBlock d s from mark c m (t + 1)) g start r
-  block-step s from mark c m t =
-      next-more (InBlock d s from mark c m t) (λ y. T (helps s from mark t m) × (y ≡ at d c t)) (InBlock d s from mark c m (t + 1)) g start best r
-      (λ x w. last (λ u. T (helps s from mark u m) × (x ≡ at d c u)) (InBlock d s from mark c m t x ⊎ (T (helps s from mark t m) × (x ≡ at d c t))) t (w .0) (w .1)
-      (λ k. inl (w .0, k, w .2, w .3)) (λ e. inr e) (w .2, w .3))
-      (λ x v. (v .0, omega (arith, v .1), v .2, v .3)) (λ x e. (t, omega arith, e .0, e .1))
-
-  pub blocks-step : (s from mark cs : List ℕ) (n m : ℕ) → Next (InBlocks d s from mark cs n m) g start best → Next (InBlock d s from mark (getD cs m 0) m n) g best r
-      → Next (InBlocks d s from mark cs n (m + 1)) g start r
-  blocks-step s from mark cs n m =
-      next-more (InBlocks d s from mark cs n m) (InBlock d s from mark (getD cs m 0) m n) (InBlocks d s from mark cs n (m + 1)) g start best r
-      (λ x w. last (λ i. InBlock d s from mark (getD cs i 0) i n x) (InBlocks d s from mark cs n m x ⊎ InBlock d s from mark (getD cs m 0) m n x) m (w .0) (w .1)
-      (λ k. inl (w .0, k, w .2)) (λ e. inr e) (w .2))
       (λ x v. (v .0, omega (arith, v .1), v .2)) (λ x u. (m, omega arith, u))
 
   pub later-step : (cs : List ℕ) (i m : ℕ) → i < m → Next (InLater d cs i m) g start best → Next (λ y. y ≡ at d (getD cs i 0) (getD cs m 0)) g best r

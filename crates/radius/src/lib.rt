@@ -1,5 +1,5 @@
-// The least radius with an assignment, through the promise of the matching search alone. Radii are tried upwards; each is tried, or
-// lies between two others where nothing that could help changes.
+// The least radius with an assignment, through the promise of the matching search alone. The radii are taken upwards, as far at a time
+// as the centres stay; there, and only there, existence is monotone, and the least radius is found by bisection.
 pub mod bound;
 pub mod centres;
 pub mod counts;
@@ -9,20 +9,20 @@ mod table;
 use crate::bound::lower_bound;
 use crate::centres::find_centres;
 use crate::next::first_from;
-use crate::next::next_in_blocks;
 use crate::next::next_in_pairs;
 use crate::table::allow;
-use matching::search_or_violator;
+use matching::search;
 use study::Minima;
 ghost use mathlib.Core.Path.{_≡_};
-ghost use Prim.Native.Nat.{_<_, _≤_};
+ghost use Prim.Native.Nat.{_-_, _<_, _≤_};
 ghost use lib.ListN.{length};
 ghost use Rattle.radii.specs.Posed.{posed, Proper, Sized};
 ghost use Rattle.radii.specs.Radii.{Lowest, Ahead};
-ghost use Rattle.radius.specs.Attempts.{Steady, Attempt, Ascent, Least, Kept};
+ghost use Rattle.radius.specs.Front.{CentresAt};
+ghost use Rattle.radius.specs.Ascents.{Steady, Some, Tried, Bisected, Ascent, Least, Kept};
 
-// Whether there is an assignment at g: then g, and list is one. Else the next radius to look at, up to limit.
-fn attempt(
+// Whether there is an assignment at g, which is then left in list. The table is that of g.
+fn assignable(
     distances: &[u32],
     settings: &[u8],
     n: usize,
@@ -30,39 +30,67 @@ fn attempt(
     centres: &[usize; 120],
     count: usize,
     g: u32,
+    allowed: &mut [u8],
+    list: &mut [u8],
+) -> bool
+    requires { ⌜ Sized (now distances) (now settings) n minima ⌝ }
+    requires { ⌜ Proper (now distances) (now settings) n minima ⌝ }
+    requires { ⌜ CentresAt (now distances) n g count (now centres) ⌝ }
+    requires { ⌜ (14400 ≤ length (now allowed)) × (n ≤ length (now list)) ⌝ }
+    ensures { λ r. ⌜ Tried (now (distances .entry)) (now (settings .entry)) n minima (now (centres .entry)) count g (now (allowed .entry)) (now (allowed .exit)) (now (list .exit)) r ⌝ }
+    ensures { λ _. ⌜ Kept n (now (list .entry)) (now (list .exit)) ⌝ }
+{
+    allow(distances, n, centres, count, g, allowed);
+    search(n, count, minima, settings, allowed, list)
+}
+
+// The least radius with an assignment from start on, where the centres stay below limit and there is one at limit - 1: while the
+// centres stay, a greater radius only allows more.
+fn bisect(
+    distances: &[u32],
+    settings: &[u8],
+    n: usize,
+    minima: Minima,
+    centres: &[usize; 120],
+    count: usize,
+    start: u32,
     limit: u32,
     allowed: &mut [u8],
     list: &mut [u8],
 ) -> u32
     requires { ⌜ Sized (now distances) (now settings) n minima ⌝ }
     requires { ⌜ Proper (now distances) (now settings) n minima ⌝ }
-    requires { ⌜ Steady (now distances) n g limit count (now centres) ⌝ }
-    requires { ⌜ (g < limit) × (14400 ≤ length (now allowed)) × (n ≤ length (now list)) ⌝ }
-    ensures { λ r. ⌜ Attempt (now (distances .entry)) (now (settings .entry)) n minima (now (centres .entry)) count g limit r (now (allowed .entry)) (now (allowed .exit)) (now (list .exit)) ⌝ }
+    requires { ⌜ Steady (now distances) n start limit count (now centres) ⌝ }
+    requires { ⌜ Some (posed (now distances) (now settings) n minima) (limit - 1) ⌝ }
+    requires { ⌜ (start < limit) × (14400 ≤ length (now allowed)) × (n ≤ length (now list)) ⌝ }
+    ensures { λ r. ⌜ Bisected (now (distances .entry)) (now (settings .entry)) n minima start limit r ⌝ }
+    ensures { λ _. ⌜ length (now (allowed .exit)) ≡ length (now (allowed .entry)) ⌝ }
     ensures { λ _. ⌜ Kept n (now (list .entry)) (now (list .exit)) ⌝ }
 {
-    allow(distances, n, centres, count, g, allowed);
-    let r = search_or_violator(n, count, minima, settings, allowed, list);
-    if r.found {
-        return g;
+    let mut low = start;
+    let mut high = limit - 1;
+    while low < high {
+        let mid = low + (high - low) / 2;
+        if assignable(
+            distances,
+            settings,
+            n,
+            minima,
+            centres,
+            count,
+            mid,
+            allowed,
+            list,
+        ) {
+            high = mid;
+        } else {
+            low = mid + 1;
+        }
     }
-    let from = r.from;
-    let mark = r.mark;
-    next_in_blocks(
-        distances,
-        settings,
-        n,
-        minima,
-        centres,
-        count,
-        &from,
-        &mark,
-        g,
-        limit,
-    )
+    low
 }
 
-// The least radius with an assignment from start on, or limit: the centres stay below it.
+// The least radius with an assignment from start on, which is then left in list, or limit: the centres stay below it.
 fn ascend(
     distances: &[u32],
     settings: &[u8],
@@ -83,26 +111,43 @@ fn ascend(
     ensures { λ r. ⌜ Ascent (now (distances .entry)) (now (settings .entry)) n minima (now (centres .entry)) count start limit r (now (allowed .entry)) (now (allowed .exit)) (now (list .exit)) ⌝ }
     ensures { λ _. ⌜ Kept n (now (list .entry)) (now (list .exit)) ⌝ }
 {
-    let mut g = start;
-    while g < limit {
-        let next = attempt(
-            distances,
-            settings,
-            n,
-            minima,
-            centres,
-            count,
-            g,
-            limit,
-            allowed,
-            list,
-        );
-        if next <= g {
-            return g;
-        }
-        g = next;
+    if !assignable(
+        distances,
+        settings,
+        n,
+        minima,
+        centres,
+        count,
+        limit - 1,
+        allowed,
+        list,
+    ) {
+        return limit;
     }
-    limit
+    let g = bisect(
+        distances,
+        settings,
+        n,
+        minima,
+        centres,
+        count,
+        start,
+        limit,
+        allowed,
+        list,
+    );
+    assignable(
+        distances,
+        settings,
+        n,
+        minima,
+        centres,
+        count,
+        g,
+        allowed,
+        list,
+    );
+    g
 }
 
 pub struct Found {

@@ -1,14 +1,8 @@
 // The next radius to look at: the least above g of some of the distances.
-use matching::violator::helps;
-use matching::violator::involved;
-use study::Minima;
 ghost use mathlib.Core.Path.{_≡_};
 ghost use Prim.Native.Nat.{ℕ, _*_, _<_, _≤_};
-ghost use lib.Dec.{T};
 ghost use lib.ListN.{length, getD};
-ghost use Rattle.matching.specs.Promise.{helps};
-ghost use Rattle.radii.specs.Posed.{Sized};
-ghost use Rattle.radius.specs.Next.{Next, InRow, InBlock, InBlocks, InLater, InPairs, InAll, FirstFrom};
+ghost use Rattle.radius.specs.Next.{Next, InRow, InLater, InPairs, InAll, FirstFrom};
 
 // The lesser of best and x, where x is above g.
 fn closer(x: u32, g: u32, best: u32) -> u32
@@ -33,99 +27,6 @@ fn next_in_row(distances: &[u32], n: usize, c: usize, g: u32, start: u32) -> u32
     while t < n {
         best = closer(distances[c * 120 + t], g, best);
         t += 1;
-    }
-    best
-}
-
-// The same of the distance x of the tide t from the centre of block m, where the tide could help there.
-fn closer_helping(
-    settings: &[u8],
-    from: &[usize; 120],
-    mark: &[u8; 1080],
-    t: usize,
-    m: usize,
-    x: u32,
-    g: u32,
-    best: u32,
-) -> u32
-    requires { ⌜ (t < 120) × (m < 120) × (t < length (now settings)) × (getD (now settings) t 0 ≤ 8) ⌝ }
-    ensures { λ r. ⌜ Next (λ (y : ℕ). T (helps (now (settings .entry)) (now (from .entry)) (now (mark .entry)) t m) × (y ≡ x)) g best r ⌝ }
-{
-    if x <= g {
-        return best;
-    }
-    if x >= best {
-        return best;
-    }
-    if helps(settings, from, mark, t, m) {
-        return x;
-    }
-    best
-}
-
-// Over the distances of tide c, the centre of block m, from the tides that could help there.
-fn next_in_block(
-    distances: &[u32],
-    settings: &[u8],
-    n: usize,
-    minima: Minima,
-    from: &[usize; 120],
-    mark: &[u8; 1080],
-    c: usize,
-    m: usize,
-    g: u32,
-    start: u32,
-) -> u32
-    requires { ⌜ Sized (now distances) (now settings) n minima ⌝ }
-    requires { ⌜ (c < n) × (m < 120) ⌝ }
-    ensures { λ r. ⌜ Next (InBlock (now (distances .entry)) (now (settings .entry)) (now (from .entry)) (now (mark .entry)) c m n) g start r ⌝ }
-{
-    if !involved(mark, m) {
-        return start;
-    }
-    let mut best = start;
-    let mut t = 0;
-    while t < n {
-        best = closer_helping(settings, from, mark, t, m, distances[c * 120 + t], g, best);
-        t += 1;
-    }
-    best
-}
-
-// Over the distances of all centres from the tides that could help in their blocks.
-pub fn next_in_blocks(
-    distances: &[u32],
-    settings: &[u8],
-    n: usize,
-    minima: Minima,
-    centres: &[usize; 120],
-    count: usize,
-    from: &[usize; 120],
-    mark: &[u8; 1080],
-    g: u32,
-    start: u32,
-) -> u32
-    requires { ⌜ Sized (now distances) (now settings) n minima ⌝ }
-    requires { ⌜ count ≤ 120 ⌝ }
-    requires { ⌜ ((m : ℕ) → m < count → getD (now centres) m 0 < n) ⌝ }
-    ensures { λ r. ⌜ Next (InBlocks (now (distances .entry)) (now (settings .entry)) (now (from .entry)) (now (mark .entry)) (now (centres .entry)) n count) g start r ⌝ }
-{
-    let mut best = start;
-    let mut m = 0;
-    while m < count {
-        best = next_in_block(
-            distances,
-            settings,
-            n,
-            minima,
-            from,
-            mark,
-            centres[m],
-            m,
-            g,
-            best,
-        );
-        m += 1;
     }
     best
 }

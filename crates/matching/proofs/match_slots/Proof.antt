@@ -2,7 +2,7 @@
 use native.Mathlib.Omega.{arith}
 use borrow.Author.Tests.{not-true, not-false}
 use borrow.Author.Needs.{needs}
-use Rattle.matching.proofs.Answers.{violated, listed, no-place}
+use Rattle.matching.proofs.Answers.{unsaturable, listed, no-place}
 use Rattle.matching.proofs.Writing.{slots-bound, sized, owned}
 use Rattle.matching.proofs.Turns.{blank-matching}
 use Rattle.matching.proofs.match_slots.Statement.{statement}
@@ -27,7 +27,7 @@ saturate-requires c κs =
 
 write-partial-requires : tie.Need-write-partial-requires
 write-partial-requires c κs =
-    let p = c .before .before .before .before .before .before .before .before .before .before .before .before .before .before .before .before .pre in
+    let p = c .before .before .before .before .before .before .before .before .before .before .before .before .before .before .before .pre in
     let z = sized _ _ _ _ _ _ _ _ (p .0) (p .1 .0) (p .1 .1) in
     (z .few-tides, (z .few-slots, (p .0 .list-long, z .blocks)))
 
@@ -36,20 +36,19 @@ same-length c = c .before .before .write-partial .ensures .same-length
 
 returns : tie.Need-returns
 returns c =
-    let p = c .before .before .before .before .before .before .before .before .before .before .before .before .before .before .before .before .before .before .before .pre in
-    let e₀ = not-true _ (c .before .before .before .before .before .if1 .taken) in
-    violated _ _ _ _ _ _ _ _ _ _ _ (p .0) (p .1 .1) _ e₀ (c .before .before .before .before .before .before .before .saturate .ensures .1 e₀) (c .before .before .write-partial .ensures)
+    let p = c .before .before .before .before .before .before .before .before .before .before .before .before .before .before .before .before .before .before .pre in
+    unsaturable _ _ _ _ _ _ _ _ _ (p .0) (p .1 .1) (c .before .before .before .before .before .before .saturate .ensures .1 (not-true _ (c .before .before .before .before .before .if1 .taken))) (c .before .before .write-partial .ensures)
 
 write-list-requires : tie.Need-write-list-requires
 write-list-requires c κs =
-    let p = c .before .before .before .before .before .before .before .before .before .before .before .before .before .before .before .before .pre in
+    let p = c .before .before .before .before .before .before .before .before .before .before .before .before .before .before .before .pre in
     let z = sized _ _ _ _ _ _ _ _ (p .0) (p .1 .0) (p .1 .1) in
-    let sat = c .before .before .before .before .saturate .ensures .0 (not-false _ (c .before .before .if1 .left)) in
+    let sat = c .before .before .before .saturate .ensures .0 (not-false _ (c .before .before .if1 .left)) in
     (p .0 .few-blocks, (z .few-tides, (z .few-slots, (z .allowed-long, (p .0 .list-long, owned _ _ _ _ _ _ _ _ (p .0) (p .1 .0) (p .1 .1) _ _ (sat .matching))))))
 
 write-partial-requires-2 : tie.Need-write-partial-requires-2
 write-partial-requires-2 c κs =
-    let p = c .before .before .before .before .before .before .before .before .before .before .before .before .before .before .before .before .before .before .before .before .before .before .pre in
+    let p = c .before .before .before .before .before .before .before .before .before .before .before .before .before .before .before .before .before .before .before .before .before .pre in
     let z = sized _ _ _ _ _ _ _ _ (p .0) (p .1 .0) (p .1 .1) in
     let e = c .before .before .before .before .before .write-list .ensures .rest .same-length in
     let l = p .0 .list-long in
@@ -61,17 +60,16 @@ same-length-2 c = search needs
 returns-2 : tie.Need-returns-2
 returns-2 c =
     let e = c .before .before .before .before .before .before .before .before .write-list .ensures in
-    no-place _ _ _ _ _ _ (c .before .before .before .before .before .before .before .before .before .before .before .before .before .before .before .before .before .before .before .before .before .before .before .before .before .pre .0) _ _ (e .none (not-true _ (c .before .before .before .before .before .if2 .taken))) (e .rest) (c .before .before .write-partial2 .ensures)
+    no-place _ _ _ _ _ _ _ _ (e .none (not-true _ (c .before .before .before .before .before .if2 .taken))) (e .rest) (c .before .before .write-partial2 .ensures)
 
 same-length-3 : tie.Need-same-length-3
 same-length-3 c = search needs
 
 returns-3 : tie.Need-returns-3
 returns-3 c =
-    let p = c .before .before .before .before .before .before .before .before .before .before .before .before .before .before .before .before .before .before .before .before .pre in
-    let e₀ = not-false _ (c .before .before .before .before .before .before .if1 .left) in
+    let p = c .before .before .before .before .before .before .before .before .before .before .before .before .before .before .before .before .before .before .before .pre in
     let e = c .before .before .before .write-list .ensures in
-    listed _ _ _ _ _ _ _ _ _ _ _ (p .0) (p .1 .1) _ e₀ _ _ (c .before .before .before .before .before .before .before .before .saturate .ensures .0 e₀) (e .written (not-false _ (c .if2 .left))) (e .rest)
+    listed _ _ _ _ _ _ _ _ _ (p .0) (p .1 .1) _ _ (c .before .before .before .before .before .before .before .saturate .ensures .0 (not-false _ (c .before .before .before .before .before .before .if1 .left))) (e .written (not-false _ (c .if2 .left))) (e .rest)
 
 pub match-slots-spec : {M : Type 1} → statement M
 match-slots-spec =

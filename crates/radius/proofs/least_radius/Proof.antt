@@ -1,7 +1,7 @@
 -- Radii upwards, until one has an assignment. Assumes nothing.
 use native.Mathlib.Omega.{arith}
 use native.Mathlib.Nat.{mul-le-mul-right}
-use Rattle.radius.specs.Attempts.{Kept, kept-same, kept-on, steady, pairs-ahead, many-lowest, lowest-small, first-lowest, ascended, least-found}
+use Rattle.radius.specs.Ascents.{Kept, kept-same, kept-on, steady, pairs-ahead, many-lowest, lowest-small, first-lowest, ascended, least-found}
 use Rattle.radius.specs.Front.{front-few, front-below}
 use Rattle.radius.specs.Next.{next-up}
 use Rattle.radii.specs.Radii.{Lowest}

@@ -1,7 +1,7 @@
 -- Tide after tide. Assumes nothing.
 use native.Mathlib.Omega.{arith}
 use Rattle.blocks.specs.First.{Fixed, fixed-start, fixed-more, fixed-end, asked-on}
-use Rattle.radius.specs.Attempts.{Kept, kept-same, kept-on}
+use Rattle.radius.specs.Ascents.{Kept, kept-same, kept-on}
 use Prim.Native.Nat.{_≤_, _-_}
 use Rattle.blocks.proofs.first.first_assignment.Statement.{statement}
 use Rattle.blocks.proofs.first.first_assignment.Tie as tie

@@ -2,14 +2,14 @@
 use native.Mathlib.Omega.{arith}
 use mathlib.Core.Path.{refl}
 use Prim.Native.Nat.{_-_, _<_}
-use Rattle.matching.proofs.Turns.{Growing, grow-start, grow-in-tree, grow-none, grow-violator, grow-found, grow-again}
+use Rattle.matching.proofs.Turns.{Growing, grow-start, grow-in-tree, grow-none, grow-found, grow-again}
 use Rattle.matching.specs.Graph.{Edge, Marked}
 use Rattle.matching.specs.Matching.{at}
 use Rattle.matching.proofs.augment.grow.Statement.{statement}
 use Rattle.matching.proofs.augment.grow.Tie as tie
 
 abbrev Inv-loop : tie.InvT-loop
-Inv-loop allowed settings owner kind slots tides tide slot from₀ rank₀ queue₀ mark₀ head₀ tail₀ from rank queue mark head tail = Growing (Edge allowed settings owner kind) owner kind slots tides (at queue₀ 0) head tail tide slot from rank queue mark × Marked allowed settings slots tides mark from
+Inv-loop allowed settings owner kind slots tides tide slot from₀ rank₀ queue₀ mark₀ head₀ tail₀ from rank queue mark head tail = Growing (Edge allowed settings owner kind) slots tides (at queue₀ 0) head tail tide slot from rank queue × Marked allowed settings slots tides mark from
 
 abbrev μ-loop : tie.MeasureT-loop
 μ-loop allowed settings owner kind slots tides tide slot from₀ rank₀ queue₀ mark₀ head₀ tail₀ from rank queue mark head tail = slots - head
@@ -17,7 +17,7 @@ abbrev μ-loop : tie.MeasureT-loop
 loop-holds : tie.Need-loop-holds Inv-loop μ-loop
 loop-holds c =
     let p = c .before .before .pre in
-    (grow-start _ _ _ _ _ _ _ _ _ (p .0) (p .1 .0) _ _ _ _ (p .1 .1 .0) refl, p .1 .1 .1)
+    (grow-start _ _ _ _ _ _ (p .0 .few-slots) (p .0 .few-tides) (p .1 .0) _ _ _ (p .1 .1 .0) refl, p .1 .1 .1)
 
 mul-s : tie.Need-mul-s Inv-loop μ-loop
 mul-s c =
@@ -36,7 +36,7 @@ visit-requires c κs =
     let p = c .before .before .before .before .before .before .before .before .before .pre in
     let i = c .before .before .before .before .before .before .loop .inv in
     let h : c .before .before .before .before .before .before .loop .head < c .before .before .before .before .before .before .loop .tail = omega arith in
-    (p .0, (i .0 .tree .entry _ h, (grow-in-tree _ _ _ _ _ _ _ _ _ (p .0) (p .1 .0) _ _ _ _ _ _ (i .0) h, (p .1 .0, (i .0 .tree, i .1)))))
+    (p .0, (i .0 .tree .entry _ h, (grow-in-tree _ _ _ _ _ _ (p .0 .few-slots) (p .0 .few-tides) (p .1 .0) _ _ _ _ _ (i .0) h, (p .1 .0, (i .0 .tree, i .1)))))
 
 returns : tie.Need-returns Inv-loop μ-loop
 returns c =
@@ -44,7 +44,7 @@ returns c =
     let i = c .before .before .before .before .before .before .before .before .before .loop .inv in
     let h : c .before .before .before .before .before .before .before .before .before .loop .head < c .before .before .before .before .before .before .before .before .before .loop .tail = omega arith in
     let e = c .before .before .visit .ensures in
-    (grow-found _ _ _ _ _ _ _ _ _ (p .0) (p .1 .0) _ _ _ _ _ _ (i .0) h _ _ _ _ _ (e .0) (c .if1 .taken) (e .1 .0 (c .if1 .taken)), λ l. absurd (omega (arith, c .if1 .taken)))
+    grow-found _ _ _ _ _ _ (p .0 .few-slots) (p .0 .few-tides) (p .1 .0) _ _ _ _ _ (i .0) h _ _ _ _ _ (e .0) (c .if1 .taken) (e .1 .0 (c .if1 .taken))
 
 add-head : tie.Need-add-head Inv-loop μ-loop
 add-head c =
@@ -66,13 +66,12 @@ loop-again c =
     let h : c .before .before .before .before .before .before .before .before .before .loop .head < c .before .before .before .before .before .before .before .before .before .loop .tail = omega arith in
     let e = c .before .before .visit .ensures in
     let q = e .1 .1 (c .if1 .left) in
-    (grow-again _ _ _ _ _ _ _ _ _ (p .0) (p .1 .0) _ _ _ _ _ _ (i .0) h _ _ _ _ _ (e .0) _ q, q .marked)
+    (grow-again _ _ _ _ _ _ (p .0 .few-slots) (p .0 .few-tides) (p .1 .0) _ _ _ _ _ (i .0) h _ _ _ _ _ (e .0) (q .end), q .marked)
 
 returns-2 : tie.Need-returns-2 Inv-loop μ-loop
 returns-2 c =
     let p = c .before .before .before .before .pre in
-    let i = c .before .loop .inv in
-    (grow-none _ _ _ _ _ _ _ _ _ (p .0) (p .1 .0) _ _ _ _ _ _ (i .0) _ _ (p .0 .few-tides), λ _. grow-violator _ _ _ _ _ _ _ _ _ (p .0) (p .1 .0) _ _ _ _ _ _ (i .0) (i .1) (omega arith))
+    grow-none _ _ _ _ _ _ (p .0 .few-slots) (p .0 .few-tides) (p .1 .0) _ _ _ _ _ (c .before .loop .inv .0) _ _ (p .0 .few-tides) (omega arith)
 
 pub grow-spec : {M : Type 1} → statement M
 grow-spec =

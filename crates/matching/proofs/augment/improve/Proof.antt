@@ -20,12 +20,12 @@ grow-requires c κs =
     (p .0, (p .1 .0, (alone _ _ _ _ _ _ (p .0 .few-slots) (p .0 .few-tides) (p .1 .1 .0) (p .1 .1 .1), blank-marked _ _ _ _ _)))
 
 returns : tie.Need-returns
-returns c = (λ e. absurd (false≢true e), λ _. c .before .grow .ensures .1 (c .if1 .taken))
+returns c = (λ e. absurd (false≢true e), λ _. c .before .grow .ensures .none (c .if1 .taken))
 
 shift-requires : tie.Need-shift-requires
 shift-requires c κs =
     let p = c .before .before .before .before .before .before .before .before .before .before .before .before .before .before .pre in
-    let e = c .before .before .before .before .before .grow .ensures .0 in
+    let e = c .before .before .before .before .before .grow .ensures in
     let l = c .before .before .before .before .if1 .left in
     (p .0, (e .below l, (l, (e .in-tree l, (p .1 .0, (e .found l, e .path l))))))
 

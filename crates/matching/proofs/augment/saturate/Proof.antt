@@ -2,8 +2,8 @@
 use native.Mathlib.Omega.{arith}
 use Prim.Native.Nat.{_-_, _≤_}
 use mathlib.Core.Logic.{⊎-elim}
-use mathlib.Core.Bool.{true≢false}
-use mathlib.Core.Path.{refl, sym, _∙_}
+use mathlib.Core.Bool.{true≢false, false≢true}
+use mathlib.Core.Path.{refl}
 use borrow.Author.Tests.{not-true, not-false}
 use Rattle.matching.proofs.Turns.{saturated-start, saturated-skip, saturated-more, saturated-end}
 use Rattle.matching.specs.Graph.{Edge, Saturated}
@@ -34,7 +34,7 @@ improve-requires c κs =
     (p .0, (c .before .before .before .before .before .loop .inv .1 .matching, (omega arith, c .before .before .if1 .taken)))
 
 returns : tie.Need-returns Inv-loop μ-loop
-returns c = (λ e. absurd (true≢false (sym e ∙ not-true _ (c .if2 .taken))), c .before .before .improve .ensures .1)
+returns c = (λ e. absurd (false≢true e), λ _. c .before .improve .ensures .1 (not-true _ (c .if2 .taken)))
 
 sub-left : tie.Need-sub-left Inv-loop μ-loop
 sub-left c = omega arith
@@ -45,7 +45,7 @@ loop-less c = omega arith
 loop-again : tie.Need-loop-again Inv-loop μ-loop
 loop-again c =
     let i = c .before .before .before .loop .inv .1 in
-    (omega arith, ⊎-elim (λ w. saturated-more _ _ _ _ _ _ i _ (omega arith) _ _ _ _ (w .6) (w .7) (omega arith) (w .3 .ensures .0 (not-false _ (w .5 .left)))) (λ w. saturated-skip _ _ _ _ _ _ i _ (omega arith) _ _ _ _ (w .1) (w .2) (w .0 .left) refl refl) (c .if1 .came))
+    (omega arith, ⊎-elim (λ w. saturated-more _ _ _ _ _ _ i _ (omega arith) _ _ _ _ (w .5) (w .6) (omega arith) (w .3 .ensures .0 (not-false _ (w .4 .left)))) (λ w. saturated-skip _ _ _ _ _ _ i _ (omega arith) _ _ _ _ (w .1) (w .2) (w .0 .left) refl refl) (c .if1 .came))
 
 returns-2 : tie.Need-returns-2 Inv-loop μ-loop
 returns-2 c = (λ _. saturated-end _ _ _ _ _ _ (c .before .loop .inv .1) (omega arith), λ e. absurd (true≢false e))

@@ -3,7 +3,7 @@ use native.Mathlib.Omega.{arith}
 use mathlib.Core.Logic.{inl, inr}
 use mathlib.Core.Path.{refl}
 use borrow.Author.Needs.{needs}
-use Rattle.matching.proofs.Turns.{class-below, visit-known, visit-same, visit-new}
+use Rattle.matching.proofs.Turns.{class-below, visit-known, visit-marked}
 use Rattle.matching.proofs.augment.visit.Statement.{statement}
 use Rattle.matching.proofs.augment.visit.Tie as tie
 
@@ -26,7 +26,7 @@ returns : tie.Need-returns
 returns c =
     let p = c .before .before .before .before .before .pre in
     let few = p .0 .few-tides in
-    (visit-known _ _ _ _ _ _ (p .0) _ (p .1 .0) _ _ (p .1 .1 .1 .1 .1) 0 _ _ _ _ _ _ (p .1 .1 .1 .1 .0) (p .1 .1 .0) (inl refl) (omega arith) (c .if1 .taken), (λ h. absurd (omega arith), λ _. visit-same _ _ _ _ _ _ (p .0) _ (p .1 .0) _ _ (p .1 .1 .1 .1 .1) (inl (c .if1 .taken))))
+    (visit-known _ _ _ _ _ _ (p .0) _ (p .1 .0) _ _ (p .1 .1 .1 .1 .1) 0 _ _ _ _ _ _ (p .1 .1 .1 .1 .0) (p .1 .1 .0) (inl refl) (omega arith) (c .if1 .taken), (λ h. absurd (omega arith), λ _. record { end = refl; marked = p .1 .1 .1 .1 .1 }))
 
 element-copy-out-class : tie.Need-element-copy-out-class
 element-copy-out-class c = search needs
@@ -52,7 +52,7 @@ returns-2 : tie.Need-returns-2
 returns-2 c =
     let p = c .before .before .before .before .before .before .before .before .pre in
     let few = p .0 .few-tides in
-    (visit-known _ _ _ _ _ _ (p .0) _ (p .1 .0) _ _ (p .1 .1 .1 .1 .1) _ _ _ _ _ _ _ (p .1 .1 .1 .1 .0) (p .1 .1 .0) (inr refl) refl (c .if2 .taken), (λ h. absurd (omega arith), λ _. visit-same _ _ _ _ _ _ (p .0) _ (p .1 .0) _ _ (p .1 .1 .1 .1 .1) (inr (c .if2 .taken))))
+    (visit-known _ _ _ _ _ _ (p .0) _ (p .1 .0) _ _ (p .1 .1 .1 .1 .1) _ _ _ _ _ _ _ (p .1 .1 .1 .1 .0) (p .1 .1 .0) (inr refl) refl (c .if2 .taken), (λ h. absurd (omega arith), λ _. record { end = refl; marked = p .1 .1 .1 .1 .1 }))
 
 element-write-mark : tie.Need-element-write-mark
 element-write-mark c =
@@ -68,7 +68,7 @@ returns-3 : tie.Need-returns-3
 returns-3 c =
     let p = c .before .before .before .before .before .before .before .before .before .before .before .before .pre in
     let e = c .scan .ensures in
-    (e .0, (e .1 .0, λ h. visit-new _ _ _ _ _ _ (p .0) _ (p .1 .0) _ _ (p .1 .1 .1 .1 .1) _ _ _ _ _ _ _ _ _ _ (e .0) h (e .1 .1 h)))
+    (e .0, (e .1 .0, λ h. record { end = e .1 .1 h; marked = visit-marked _ _ _ _ _ _ (p .0) _ (p .1 .0) _ _ (p .1 .1 .1 .1 .1) _ _ _ _ _ _ _ _ _ _ (e .0) h }))
 
 pub visit-spec : {M : Type 1} → statement M
 visit-spec =
