@@ -148,6 +148,46 @@ def growing(n):
     return study_file(1, 2, [0], [1] * n, lambda t, e: table[t, e])
 
 
+def searched(n):
+    """Blocks of two as in growing, with distances by a formula whose numbers
+    were searched for slowness: hundreds of candidates each let one more tide
+    help."""
+    r = Random(n + 9)
+    R = 400_000
+    centres = n // 2
+    table = {}
+    for t in range(n):
+        for e in range(t):
+            if t < centres:
+                d = 2 * R
+            elif e < centres:
+                u, v = (t - centres + 1) / (n - centres), (e + 1) / centres
+                f = 136 * u + 396 * v + 93 * u * u + 123 * v * v - 37 * u * v - 148 * abs(u - v) - 64 * (u - v) ** 2
+                d = R + min(R - 2, max(0, int(1000 * f) + r.below(155)))
+            else:
+                d = 2 * R - 1 - r.below(1000)
+            table[t, e] = d
+    return study_file(1, 2, [0], [1] * n, lambda t, e: table[t, e])
+
+
+def diagonal(n):
+    """Blocks of three: centres and the tides around them change with nearly
+    every candidate."""
+    R = 100_000
+    centres = n // 3
+    table = {}
+    for t in range(n):
+        for e in range(t):
+            if t < centres:
+                d = 2 * R
+            elif e < centres:
+                d = R + (t - centres + e) * 700 % (R - 1)
+            else:
+                d = 2 * R - 1 - (t * e) % 1000
+            table[t, e] = d
+    return study_file(1, 3, [0], [1] * n, lambda t, e: table[t, e])
+
+
 def ties(n):
     """Two distances only; eight settings, each block just one tide of each
     where the blocks are full. The first list needs many trials."""
@@ -196,7 +236,7 @@ def spread(n):
 KINDS = [
     ("easy", line), ("easy", plane),
     ("hard", count), ("hard", settings), ("hard", moving), ("hard", chain),
-    ("hard", growing), ("hard", ties), ("hard", spread),
+    ("hard", growing), ("hard", searched), ("hard", diagonal), ("hard", ties), ("hard", spread),
 ]
 
 
