@@ -14,9 +14,6 @@ returns c = held-1 _ _ (short-yes _ (inl (c .if1 .taken)))
 returns-2 : tie.Need-returns-2
 returns-2 c = held-1 _ _ (short-yes _ (inr (c .if2 .taken)))
 
-is-dataset-requires : tie.Need-is-dataset-requires
-is-dataset-requires c κs = search needs
-
 returns-3 : tie.Need-returns-3
 unfolding firstOf
 returns-3 c = held-own _ _ (short-no _ (c .before .before .before .if1 .left) (c .before .before .if2 .left)) (sym (c .before .is-dataset .ensures) ∙ c .if3 .taken)
@@ -25,4 +22,4 @@ returns-4 : tie.Need-returns-4
 returns-4 c = held-21 _ _ (short-no _ (c .before .before .before .if1 .left) (c .before .before .if2 .left)) (sym (c .before .is-dataset .ensures) ∙ c .if3 .left)
 
 pub check-spec : {M : Type 1} → statement M
-check-spec = tie.close (tie.spec returns returns-2 is-dataset-requires returns-3 returns-4)
+check-spec = tie.close (tie.spec returns returns-2 (λ c κs. search needs) returns-3 returns-4)

@@ -22,9 +22,6 @@ returns-4 c =
     let e = c .before .before .before in
     enter-5 _ _ _ (e .before .before .before .before .pre) (e .if1 .left) (c .before .before .if2 .left) (between-high 1 _ _ (c .if4 .taken))
 
-near-requires : tie.Need-near-requires
-near-requires c κs = search needs
-
 returns-5 : tie.Need-returns-5
 returns-5 c =
     let k = c .before .before in
@@ -34,12 +31,6 @@ returns-5 c =
 
 first-broken-requires : tie.Need-first-broken-requires
 first-broken-requires c κs = (c .before .before .before .before .before .before .before .before .before .pre .long .distances, omega arith)
-
-enum-known-found : tie.Need-enum-known-found
-enum-known-found c = search needs
-
-enum-told : tie.Need-enum-told
-enum-told c = search needs
 
 returns-6 : tie.Need-returns-6
 returns-6 c =
@@ -63,10 +54,10 @@ enter-answer-spec =
     returns-2
     returns-3
     returns-4
-    near-requires
+    (λ c κs. search needs)
     returns-5
     first-broken-requires
-    enum-known-found
-    enum-told
+    (λ c. search needs)
+    (λ c. search needs)
     returns-6
     returns-7)

@@ -19,18 +19,6 @@ returns-3 c = open-2 _ _ (short-no _ (c .before .before .if1 .left) (c .before .
 returns-4 : tie.Need-returns-4
 returns-4 c = open-2 _ _ (short-no _ (c .before .before .before .if1 .left) (c .before .before .if2 .left)) (between-high 1 8 _ (c .if4 .taken))
 
-clear-distances-requires : tie.Need-clear-distances-requires
-clear-distances-requires c κs = search needs
-
-clear-settings-requires : tie.Need-clear-settings-requires
-clear-settings-requires c κs = search needs
-
-same-length : tie.Need-same-length
-same-length c = search needs
-
-same-length-2 : tie.Need-same-length-2
-same-length-2 c = search needs
-
 returns-5 : tie.Need-returns-5
 returns-5 c =
     let e = c .before .before .before .before .before .before in
@@ -46,8 +34,8 @@ open-spec =
     returns-2
     returns-3
     returns-4
-    clear-distances-requires
-    clear-settings-requires
-    same-length
-    same-length-2
+    (λ c κs. search needs)
+    (λ c κs. search needs)
+    (λ c. search needs)
+    (λ c. search needs)
     returns-5)

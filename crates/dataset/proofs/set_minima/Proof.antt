@@ -8,23 +8,11 @@ use Rattle.lists.specs.Scans.{test-passes, test-fails}
 use Rattle.dataset.proofs.set_minima.Statement.{statement}
 use Rattle.dataset.proofs.set_minima.Tie as tie
 
-check-requires : tie.Need-check-requires
-check-requires c κs = search needs
-
-enum-told : tie.Need-enum-told
-enum-told c = search needs
-
-enum-told-2 : tie.Need-enum-told-2
-enum-told-2 c = search needs
-
 returns : tie.Need-returns
 unfolding minimaAnswer
 returns c =
     let f = held-refused _ _ (c .enum-told2 .given .1) (c .before .before .check .ensures) in
     (f, minima-stays _ (c .enum-told2 .given .1) _ f)
-
-valid-minima-requires : tie.Need-valid-minima-requires
-valid-minima-requires c κs = search needs
 
 returns-2 : tie.Need-returns-2
 returns-2 c =
@@ -41,10 +29,10 @@ pub set-minima-spec : {M : Type 1} → statement M
 set-minima-spec =
     tie.close
     (tie.spec
-    check-requires
-    enum-told
-    enum-told-2
+    (λ c κs. search needs)
+    (λ c. search needs)
+    (λ c. search needs)
     returns
-    valid-minima-requires
+    (λ c κs. search needs)
     returns-2
     returns-3)

@@ -8,9 +8,6 @@ use Rattle.matching.proofs.Turns.{blank-matching}
 use Rattle.matching.proofs.match_slots.Statement.{statement}
 use Rattle.matching.proofs.match_slots.Tie as tie
 
-cast-slots : tie.Need-cast-slots
-cast-slots c = search needs
-
 mul-slots : tie.Need-mul-slots
 mul-slots c = let l = slots-bound _ _ _ _ _ _ (c .before .before .before .before .pre .0) in omega arith
 
@@ -54,16 +51,10 @@ write-partial-requires-2 c κs =
     let l = p .0 .list-long in
     (z .few-tides, (z .few-slots, (omega arith, z .blocks)))
 
-same-length-2 : tie.Need-same-length-2
-same-length-2 c = search needs
-
 returns-2 : tie.Need-returns-2
 returns-2 c =
     let e = c .before .before .before .before .before .before .before .before .write-list .ensures in
     no-place _ _ _ _ _ _ _ _ (e .none (not-true _ (c .before .before .before .before .before .if2 .taken))) (e .rest) (c .before .before .write-partial2 .ensures)
-
-same-length-3 : tie.Need-same-length-3
-same-length-3 c = search needs
 
 returns-3 : tie.Need-returns-3
 returns-3 c =
@@ -75,7 +66,7 @@ pub match-slots-spec : {M : Type 1} → statement M
 match-slots-spec =
     tie.close
     (tie.spec
-    cast-slots
+    (λ c. search needs)
     mul-slots
     adopt-requires
     saturate-requires
@@ -84,7 +75,7 @@ match-slots-spec =
     returns
     write-list-requires
     write-partial-requires-2
-    same-length-2
+    (λ c. search needs)
     returns-2
-    same-length-3
+    (λ c. search needs)
     returns-3)

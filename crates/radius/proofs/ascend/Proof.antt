@@ -7,9 +7,6 @@ use borrow.Author.Needs.{needs}
 use Rattle.radius.proofs.ascend.Statement.{statement}
 use Rattle.radius.proofs.ascend.Tie as tie
 
-sub-assignable : tie.Need-sub-assignable
-sub-assignable c = search needs
-
 assignable-requires : tie.Need-assignable-requires
 assignable-requires c κs =
     let pre = c .before .before .before .before .before .before .pre in
@@ -75,7 +72,7 @@ pub ascend-spec : {M : Type 1} → statement M
 ascend-spec =
     tie.close
     (tie.spec
-    sub-assignable
+    (λ c. search needs)
     assignable-requires
     same-length
     same-length-2

@@ -31,9 +31,6 @@ search-requires c κs =
 same-length : tie.Need-same-length
 same-length c = search needs
 
-same-length-2 : tie.Need-same-length-2
-same-length-2 c = search needs
-
 returns : tie.Need-returns
 returns c =
     let pre = c .before .before .before .before .before .before .before .before .before .before .before .before .before .pre in
@@ -42,4 +39,4 @@ returns c =
 
 pub assignable-spec : {M : Type 1} → statement M
 assignable-spec =
-    tie.close (tie.spec allow-requires search-requires same-length same-length-2 returns)
+    tie.close (tie.spec allow-requires search-requires same-length (λ c. search needs) returns)

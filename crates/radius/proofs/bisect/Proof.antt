@@ -19,9 +19,6 @@ sub-high c = let l = c .before .before .before .before .pre .1 .1 .1 .1 .0 in om
 loop-holds : tie.Need-loop-holds Inv-loop μ-loop
 loop-holds c = let pre = c .before .before .before .before .pre in (bracket-start (pre .1 .1 .1 .1 .0) (pre .1 .1 .1 .0), refl, kept-same _ _)
 
-sub-mid : tie.Need-sub-mid Inv-loop μ-loop
-sub-mid c = omega arith
-
 add-mid : tie.Need-add-mid Inv-loop μ-loop
 add-mid c = let m = c .before .loop .inv .0 .most in omega arith
 
@@ -84,7 +81,7 @@ bisect-spec =
     μ-loop
     sub-high
     loop-holds
-    sub-mid
+    (λ c. omega arith)
     add-mid
     assignable-requires
     loop-less

@@ -19,9 +19,6 @@ Inv-loop distances settings n minima centres₀ allowed₀ list₀ b0 low g₀ c
 abbrev μ-loop : tie.MeasureT-loop
 μ-loop distances settings n minima centres₀ allowed₀ list₀ b0 low g₀ centres allowed list g = 1048576 - g
 
-cast-b0 : tie.Need-cast-b0 Inv-loop μ-loop
-cast-b0 c = search needs
-
 lower-bound-requires : tie.Need-lower-bound-requires Inv-loop μ-loop
 lower-bound-requires c κs = let pre = c .before .before .before .before .before .pre in (pre .0, pre .1 .1 .0)
 
@@ -116,7 +113,7 @@ least-radius-spec =
     (tie.spec
     Inv-loop
     μ-loop
-    cast-b0
+    (λ c. search needs)
     lower-bound-requires
     first-from-requires
     loop-holds

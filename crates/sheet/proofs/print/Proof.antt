@@ -7,15 +7,9 @@ use lib.Seq.{length-take-le}
 use Rattle.sheet.proofs.print.Statement.{statement}
 use Rattle.sheet.proofs.print.Tie as tie
 
-array-share-prefix-bytes : tie.Need-array-share-prefix-bytes
-array-share-prefix-bytes c = search needs
-
 slice-aggregate-write-all : tie.Need-slice-aggregate-write-all
 slice-aggregate-write-all c =
     let a = c .before .args in let long : length (a .t1) ≡ 2837 = search needs in sym (length-take-le (a .length) (a .t1) (omega arith))
-
-write-all-requires : tie.Need-write-all-requires
-write-all-requires c κs = search needs
 
 returns : tie.Need-returns
 returns c = search needs
@@ -23,4 +17,4 @@ returns c = search needs
 pub print-spec : {M : Type 1} → statement M
 print-spec =
     tie.close
-    (tie.spec array-share-prefix-bytes slice-aggregate-write-all write-all-requires returns)
+    (tie.spec (λ c. search needs) slice-aggregate-write-all (λ c κs. search needs) returns)

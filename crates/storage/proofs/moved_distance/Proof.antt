@@ -4,12 +4,6 @@ use Rattle.storage.specs.Places.{moved-no-row, moved-no-column, moved-pl
 use Rattle.storage.proofs.moved_distance.Statement.{statement}
 use Rattle.storage.proofs.moved_distance.Tie as tie
 
-number-before-requires : tie.Need-number-before-requires
-number-before-requires c κs = search needs
-
-number-before-requires-2 : tie.Need-number-before-requires-2
-number-before-requires-2 c κs = search needs
-
 returns : tie.Need-returns
 returns c = moved-no-row _ _ _ (c .before .before .number-before .ensures .0) (c .before .number-before2 .ensures .0) (c .if1 .taken)
 
@@ -17,18 +11,6 @@ returns-2 : tie.Need-returns-2
 returns-2 c =
     let e = c .before .before in
     moved-no-column _ _ _ (e .before .number-before .ensures .0) (e .number-before2 .ensures .0) (c .before .if1 .left) (c .if2 .taken)
-
-mul-result : tie.Need-mul-result
-mul-result c = search needs
-
-add-result : tie.Need-add-result
-add-result c = search needs
-
-mul-result-2 : tie.Need-mul-result-2
-mul-result-2 c = search needs
-
-shared-slice-read-result : tie.Need-shared-slice-read-result
-shared-slice-read-result c = search needs
 
 returns-3 : tie.Need-returns-3
 returns-3 c =
@@ -39,12 +21,12 @@ pub moved-distance-spec : {M : Type 1} → statement M
 moved-distance-spec =
     tie.close
     (tie.spec
-    number-before-requires
-    number-before-requires-2
+    (λ c κs. search needs)
+    (λ c κs. search needs)
     returns
     returns-2
-    mul-result
-    add-result
-    mul-result-2
-    shared-slice-read-result
+    (λ c. search needs)
+    (λ c. search needs)
+    (λ c. search needs)
+    (λ c. search needs)
     returns-3)

@@ -4,18 +4,12 @@ use Rattle.storage.specs.Places.{moved-none, moved-one}
 use Rattle.storage.proofs.moved_setting.Statement.{statement}
 use Rattle.storage.proofs.moved_setting.Tie as tie
 
-number-before-requires : tie.Need-number-before-requires
-number-before-requires c κs = search needs
-
 returns : tie.Need-returns
 returns c = moved-none _ _ _ (c .before .number-before .ensures .0) (c .if1 .taken)
-
-shared-slice-read-result : tie.Need-shared-slice-read-result
-shared-slice-read-result c = search needs
 
 returns-2 : tie.Need-returns-2
 returns-2 c = moved-one _ _ _ (c .before .before .number-before .ensures .0) (c .before .if1 .left)
 
 pub moved-setting-spec : {M : Type 1} → statement M
 moved-setting-spec =
-    tie.close (tie.spec number-before-requires returns shared-slice-read-result returns-2)
+    tie.close (tie.spec (λ c κs. search needs) returns (λ c. search needs) returns-2)

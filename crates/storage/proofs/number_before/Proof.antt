@@ -8,11 +8,8 @@ use Rattle.storage.proofs.number_before.Tie as tie
 returns : tie.Need-returns
 returns c = (rw (lt-ltb _ _ (c .if1 .taken)), omega arith)
 
-add-result : tie.Need-add-result
-add-result c = search needs
-
 returns-2 : tie.Need-returns-2
 returns-2 c = (rw (le-ltb _ _ (c .if1 .left)) (omega arith), omega arith)
 
 pub number-before-spec : {M : Type 1} → statement M
-number-before-spec = tie.close (tie.spec returns add-result returns-2)
+number-before-spec = tie.close (tie.spec returns (λ c. search needs) returns-2)

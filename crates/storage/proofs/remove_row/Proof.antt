@@ -18,21 +18,6 @@ abbrev μ-loop : tie.MeasureT-loop
 loop-holds : tie.Need-loop-holds Inv-loop μ-loop
 loop-holds c = (omega arith, overwrite-none _ _, refl)
 
-moved-distance-requires : tie.Need-moved-distance-requires Inv-loop μ-loop
-moved-distance-requires c κs = omega arith
-
-mul-distances : tie.Need-mul-distances Inv-loop μ-loop
-mul-distances c = omega arith
-
-slice-write-distances : tie.Need-slice-write-distances Inv-loop μ-loop
-slice-write-distances c = omega arith
-
-add-p : tie.Need-add-p Inv-loop μ-loop
-add-p c = omega arith
-
-loop-less : tie.Need-loop-less Inv-loop μ-loop
-loop-less c = omega arith
-
 loop-again : tie.Need-loop-again Inv-loop μ-loop
 loop-again c =
     let inv = c .before .before .before .loop .inv in
@@ -51,11 +36,11 @@ remove-row-spec =
     Inv-loop
     μ-loop
     loop-holds
-    moved-distance-requires
-    mul-distances
-    slice-write-distances
-    add-p
-    loop-less
+    (λ c κs. omega arith)
+    (λ c. omega arith)
+    (λ c. omega arith)
+    (λ c. omega arith)
+    (λ c. omega arith)
     loop-again
     same-length
     returns)

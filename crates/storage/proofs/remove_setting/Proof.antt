@@ -18,18 +18,6 @@ abbrev μ-loop : tie.MeasureT-loop
 loop-holds : tie.Need-loop-holds Inv-loop μ-loop
 loop-holds c = (omega arith, overwrite-none _ _, refl)
 
-moved-setting-requires : tie.Need-moved-setting-requires Inv-loop μ-loop
-moved-setting-requires c κs = omega arith
-
-slice-write-settings : tie.Need-slice-write-settings Inv-loop μ-loop
-slice-write-settings c = omega arith
-
-add-i : tie.Need-add-i Inv-loop μ-loop
-add-i c = omega arith
-
-loop-less : tie.Need-loop-less Inv-loop μ-loop
-loop-less c = omega arith
-
 loop-again : tie.Need-loop-again Inv-loop μ-loop
 loop-again c =
     let inv = c .before .before .before .loop .inv in
@@ -48,10 +36,10 @@ remove-setting-spec =
     Inv-loop
     μ-loop
     loop-holds
-    moved-setting-requires
-    slice-write-settings
-    add-i
-    loop-less
+    (λ c κs. omega arith)
+    (λ c. omega arith)
+    (λ c. omega arith)
+    (λ c. omega arith)
     loop-again
     same-length
     returns)

@@ -5,9 +5,6 @@ use borrow.Author.Needs.{needs}
 use Rattle.study_file.proofs.write_file.Statement.{statement}
 use Rattle.study_file.proofs.write_file.Tie as tie
 
-cast-byte-length : tie.Need-cast-byte-length
-cast-byte-length c = search needs
-
 byte-length-requires : tie.Need-byte-length-requires
 byte-length-requires c κs = (c .before .before .before .before .pre .dataset .k-high, c .before .before .before .before .pre .dataset .few)
 
@@ -21,9 +18,6 @@ put-fields-requires c κs =
     let args = c .before .before .before .before .before .before .before .args in
     writable (stateOf (args .dataset) (args .distances .now) (args .settings .now)) (args .file .now) (c .before .before .before .before .before .before .before .pre) (c .before .before .byte-length .result) (c .before .before .byte-length .ensures .0) (c .before .if1 .left)
 
-same-length : tie.Need-same-length
-same-length c = search needs
-
 returns-2 : tie.Need-returns-2
 returns-2 c =
     let args = c .before .before .before .before .before .before .before .before .before .before .args in
@@ -33,9 +27,9 @@ pub write-file-spec : {M : Type 1} → statement M
 write-file-spec =
     tie.close
     (tie.spec
-    cast-byte-length
+    (λ c. search needs)
     byte-length-requires
     returns
     put-fields-requires
-    same-length
+    (λ c. search needs)
     returns-2)

@@ -5,22 +5,13 @@ use Rattle.study.specs.Calls.{triangle}
 use Rattle.three_tide.proofs.broken.Statement.{statement}
 use Rattle.three_tide.proofs.broken.Tie as tie
 
-add-if1 : tie.Need-add-if1
-add-if1 c = search needs
-
 returns : tie.Need-returns
 unfolding triangle
 returns c = rw (lt-leb _ _ (c .if1 .taken))
 
-add-if2 : tie.Need-add-if2
-add-if2 c = search needs
-
 returns-2 : tie.Need-returns-2
 unfolding triangle
 returns-2 c = rw (le-leb _ _ (c .before .if1 .left), lt-leb _ _ (c .if2 .taken))
-
-add-if3 : tie.Need-add-if3
-add-if3 c = search needs
 
 returns-3 : tie.Need-returns-3
 unfolding triangle
@@ -31,4 +22,4 @@ unfolding triangle
 returns-4 c = rw (le-leb _ _ (c .before .before .if1 .left), le-leb _ _ (c .before .if2 .left), le-leb _ _ (c .if3 .left))
 
 pub broken-spec : {M : Type 1} → statement M
-broken-spec = tie.close (tie.spec add-if1 returns add-if2 returns-2 add-if3 returns-3 returns-4)
+broken-spec = tie.close (tie.spec (λ c. search needs) returns (λ c. search needs) returns-2 (λ c. search needs) returns-3 returns-4)

@@ -15,29 +15,11 @@ abbrev μ-loop : tie.MeasureT-loop
 loop-holds : tie.Need-loop-holds Inv-loop μ-loop
 loop-holds c = (omega arith, doubts-none)
 
-mul-doubt : tie.Need-mul-doubt Inv-loop μ-loop
-mul-doubt c = omega arith
-
-shared-slice-read-doubt : tie.Need-shared-slice-read-doubt Inv-loop μ-loop
-shared-slice-read-doubt c = omega arith
-
-mul-doubt-2 : tie.Need-mul-doubt-2 Inv-loop μ-loop
-mul-doubt-2 c = omega arith
-
-shared-slice-read-doubt-2 : tie.Need-shared-slice-read-doubt-2 Inv-loop μ-loop
-shared-slice-read-doubt-2 c = omega arith
-
 doubt-requires : tie.Need-doubt-requires Inv-loop μ-loop
 doubt-requires c κs = tt
 
 add-total : tie.Need-add-total Inv-loop μ-loop
 add-total c = omega (arith, c .before .before .before .before .loop .inv .1 .few, c .doubt .ensures .0)
-
-add-j : tie.Need-add-j Inv-loop μ-loop
-add-j c = omega arith
-
-loop-less : tie.Need-loop-less Inv-loop μ-loop
-loop-less c = omega arith
 
 loop-again : tie.Need-loop-again Inv-loop μ-loop
 loop-again c = (omega arith, doubts-more (c .before .before .before .before .loop .inv .1) (c .doubt .ensures))
@@ -52,13 +34,13 @@ doubts-spec =
     Inv-loop
     μ-loop
     loop-holds
-    mul-doubt
-    shared-slice-read-doubt
-    mul-doubt-2
-    shared-slice-read-doubt-2
+    (λ c. omega arith)
+    (λ c. omega arith)
+    (λ c. omega arith)
+    (λ c. omega arith)
     doubt-requires
     add-total
-    add-j
-    loop-less
+    (λ c. omega arith)
+    (λ c. omega arith)
     loop-again
     returns)

@@ -4,17 +4,11 @@ use Rattle.three_tide.specs.Doubts.{undoubted-found}
 use Rattle.three_tide.proofs.first_broken.Statement.{statement}
 use Rattle.three_tide.proofs.first_broken.Tie as tie
 
-undoubted-requires : tie.Need-undoubted-requires
-undoubted-requires c κs = search needs
-
 returns : tie.Need-returns
 returns c = undoubted-found _ _ (c .before .undoubted .ensures (c .if1 .taken))
-
-search-requires : tie.Need-search-requires
-search-requires c κs = search needs
 
 returns-2 : tie.Need-returns-2
 returns-2 c = search needs
 
 pub first-broken-spec : {M : Type 1} → statement M
-first-broken-spec = tie.close (tie.spec undoubted-requires returns search-requires returns-2)
+first-broken-spec = tie.close (tie.spec (λ c κs. search needs) returns (λ c κs. search needs) returns-2)

@@ -27,32 +27,8 @@ abbrev μ-search : tie.MeasureT-search
 search-holds : tie.Need-search-holds Inv-loop μ-loop Inv-search μ-search
 search-holds c = (omega arith, refl, search-starts _ _)
 
-mul-x : tie.Need-mul-x Inv-loop μ-loop Inv-search μ-search
-mul-x c = omega arith
-
-shared-slice-read-x : tie.Need-shared-slice-read-x Inv-loop μ-loop Inv-search μ-search
-shared-slice-read-x c = omega arith
-
-mul-line : tie.Need-mul-line Inv-loop μ-loop Inv-search μ-search
-mul-line c = omega arith
-
-add-j : tie.Need-add-j Inv-loop μ-loop Inv-search μ-search
-add-j c = omega arith
-
 loop-holds : tie.Need-loop-holds Inv-loop μ-loop Inv-search μ-search
 loop-holds c = (omega arith, omega arith, c .before .before .search .inv .1, c .before .before .search .inv .2 ∙ search-enters _ _ _ (omega arith))
-
-add-broken : tie.Need-add-broken Inv-loop μ-loop Inv-search μ-search
-add-broken c = omega arith
-
-mul-broken : tie.Need-mul-broken Inv-loop μ-loop Inv-search μ-search
-mul-broken c = omega arith
-
-shared-slice-read-broken : tie.Need-shared-slice-read-broken Inv-loop μ-loop Inv-search μ-search
-shared-slice-read-broken c = omega arith
-
-mul-broken-2 : tie.Need-mul-broken-2 Inv-loop μ-loop Inv-search μ-search
-mul-broken-2 c = omega arith
 
 shared-slice-read-broken-2 :
     tie.Need-shared-slice-read-broken-2 Inv-loop μ-loop Inv-search μ-search
@@ -61,28 +37,10 @@ shared-slice-read-broken-2 c = omega arith
 broken-requires : tie.Need-broken-requires Inv-loop μ-loop Inv-search μ-search
 broken-requires c κs = tt
 
-add-t22 : tie.Need-add-t22 Inv-loop μ-loop Inv-search μ-search
-add-t22 c = omega arith
-
-add-t23 : tie.Need-add-t23 Inv-loop μ-loop Inv-search μ-search
-add-t23 c = omega arith
-
-add-j-2 : tie.Need-add-j-2 Inv-loop μ-loop Inv-search μ-search
-add-j-2 c = omega arith
-
-loop-less : tie.Need-loop-less Inv-loop μ-loop Inv-search μ-search
-loop-less c = omega arith
-
 loop-again : tie.Need-loop-again Inv-loop μ-loop Inv-search μ-search
 loop-again c =
     let e = c .before .before .before .before .before in
     (omega arith, omega arith, e .loop .inv .2, e .loop .inv .3 ∙ search-passes _ _ _ _ (omega arith) (sym (c .before .broken .ensures) ∙ c .if1 .left))
-
-add-i : tie.Need-add-i Inv-loop μ-loop Inv-search μ-search
-add-i c = omega arith
-
-search-less : tie.Need-search-less Inv-loop μ-loop Inv-search μ-search
-search-less c = omega arith
 
 search-again : tie.Need-search-again Inv-loop μ-loop Inv-search μ-search
 search-again c = (omega arith, c .before .loop .inv .2, c .before .loop .inv .3 ∙ search-leaves _ _ _ _ (omega arith))
@@ -104,24 +62,24 @@ search-spec =
     Inv-search
     μ-search
     search-holds
-    mul-x
-    shared-slice-read-x
-    mul-line
-    add-j
+    (λ c. omega arith)
+    (λ c. omega arith)
+    (λ c. omega arith)
+    (λ c. omega arith)
     loop-holds
-    add-broken
-    mul-broken
-    shared-slice-read-broken
-    mul-broken-2
+    (λ c. omega arith)
+    (λ c. omega arith)
+    (λ c. omega arith)
+    (λ c. omega arith)
     shared-slice-read-broken-2
     broken-requires
-    add-t22
-    add-t23
-    add-j-2
-    loop-less
+    (λ c. omega arith)
+    (λ c. omega arith)
+    (λ c. omega arith)
+    (λ c. omega arith)
     loop-again
-    add-i
-    search-less
+    (λ c. omega arith)
+    (λ c. omega arith)
     search-again
     returns
     returns-2)

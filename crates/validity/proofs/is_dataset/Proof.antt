@@ -17,26 +17,14 @@ returns-2 c = no-dataset _ 0 (between-high 1 8 _ (c .if2 .taken))
 returns-3 : tie.Need-returns-3
 returns-3 c = no-dataset _ 1 (lt-leb _ _ (c .if3 .taken))
 
-valid-minima-requires : tie.Need-valid-minima-requires
-valid-minima-requires c κs = search needs
-
 returns-4 : tie.Need-returns-4
 returns-4 c = no-dataset _ 3 (test-fails (c .before .valid-minima .ensures) (c .if4 .taken))
-
-valid-settings-requires : tie.Need-valid-settings-requires
-valid-settings-requires c κs = search needs
 
 returns-5 : tie.Need-returns-5
 returns-5 c = no-dataset _ 4 (test-fails (c .before .valid-settings .ensures) (c .if5 .taken))
 
-valid-distances-requires : tie.Need-valid-distances-requires
-valid-distances-requires c κs = search needs
-
 returns-6 : tie.Need-returns-6
 returns-6 c = no-dataset _ 5 (test-fails (c .before .valid-distances .ensures) (c .if6 .taken))
-
-valid-rows-requires : tie.Need-valid-rows-requires
-valid-rows-requires c κs = search needs
 
 returns-7 : tie.Need-returns-7
 returns-7 c =
@@ -56,11 +44,11 @@ is-dataset-spec =
     returns
     returns-2
     returns-3
-    valid-minima-requires
+    (λ c κs. search needs)
     returns-4
-    valid-settings-requires
+    (λ c κs. search needs)
     returns-5
-    valid-distances-requires
+    (λ c κs. search needs)
     returns-6
-    valid-rows-requires
+    (λ c κs. search needs)
     returns-7)

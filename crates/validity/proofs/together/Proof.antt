@@ -18,20 +18,8 @@ abbrev μ-loop : tie.MeasureT-loop
 loop-holds : tie.Need-loop-holds Inv-loop μ-loop
 loop-holds c = (omega arith, sym (sum-zero _), omega arith)
 
-array-read-byte : tie.Need-array-read-byte Inv-loop μ-loop
-array-read-byte c = omega arith
-
 byte-requires : tie.Need-byte-requires Inv-loop μ-loop
 byte-requires c κs = tt
-
-add-total : tie.Need-add-total Inv-loop μ-loop
-add-total c = omega arith
-
-add-j : tie.Need-add-j Inv-loop μ-loop
-add-j c = omega arith
-
-loop-less : tie.Need-loop-less Inv-loop μ-loop
-loop-less c = omega arith
 
 loop-again : tie.Need-loop-again Inv-loop μ-loop
 loop-again c = (omega arith, sum-more _ _ (c .before .before .loop .inv .1) (c .byte .ensures .0), omega arith)
@@ -46,10 +34,10 @@ together-spec =
     Inv-loop
     μ-loop
     loop-holds
-    array-read-byte
+    (λ c. omega arith)
     byte-requires
-    add-total
-    add-j
-    loop-less
+    (λ c. omega arith)
+    (λ c. omega arith)
+    (λ c. omega arith)
     loop-again
     returns)

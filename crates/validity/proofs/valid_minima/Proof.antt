@@ -13,17 +13,8 @@ returns c = no-minima _ _ 0 (between-low 1 120 _ (c .if1 .taken))
 returns-2 : tie.Need-returns-2
 returns-2 c = no-minima _ _ 0 (between-high 1 120 _ (c .if2 .taken))
 
-byte-requires : tie.Need-byte-requires
-byte-requires c κs = search needs
-
-together-requires : tie.Need-together-requires
-together-requires c κs = search needs
-
 returns-3 : tie.Need-returns-3
 returns-3 c = no-minima _ _ 2 (beyond-leb (c .before .together .ensures) (c .before .before .byte .ensures .0) (c .if3 .taken))
-
-zeros-above-requires : tie.Need-zeros-above-requires
-zeros-above-requires c κs = search needs
 
 returns-4 : tie.Need-returns-4
 returns-4 c =
@@ -39,8 +30,8 @@ valid-minima-spec =
     (tie.spec
     returns
     returns-2
-    byte-requires
-    together-requires
+    (λ c κs. search needs)
+    (λ c κs. search needs)
     returns-3
-    zeros-above-requires
+    (λ c κs. search needs)
     returns-4)

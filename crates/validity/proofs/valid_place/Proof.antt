@@ -6,18 +6,6 @@ use Rattle.validity.specs.Memory.{validPlace}
 use Rattle.validity.proofs.valid_place.Statement.{statement}
 use Rattle.validity.proofs.valid_place.Tie as tie
 
-mul-x : tie.Need-mul-x
-mul-x c = search needs
-
-add-x : tie.Need-add-x
-add-x c = search needs
-
-mul-x-2 : tie.Need-mul-x-2
-mul-x-2 c = search needs
-
-shared-slice-read-x : tie.Need-shared-slice-read-x
-shared-slice-read-x c = search needs
-
 returns : tie.Need-returns
 unfolding validPlace
 returns c = rw (le-ltb _ _ (c .if1 .taken))
@@ -29,18 +17,6 @@ returns-2 c = rw (lt-ltb _ _ (c .before .if1 .left), le-ltb _ _ (c .if2 .taken))
 returns-3 : tie.Need-returns-3
 unfolding validPlace
 returns-3 c = rw (lt-ltb _ _ (c .before .before .if1 .left), lt-ltb _ _ (c .before .if2 .left), lt-leb _ _ (c .if3 .taken))
-
-mul-if4 : tie.Need-mul-if4
-mul-if4 c = search needs
-
-add-if4 : tie.Need-add-if4
-add-if4 c = search needs
-
-mul-if4-2 : tie.Need-mul-if4-2
-mul-if4-2 c = search needs
-
-shared-slice-read-if4 : tie.Need-shared-slice-read-if4
-shared-slice-read-if4 c = search needs
 
 returns-4 : tie.Need-returns-4
 unfolding validPlace
@@ -64,17 +40,17 @@ pub valid-place-spec : {M : Type 1} → statement M
 valid-place-spec =
     tie.close
     (tie.spec
-    mul-x
-    add-x
-    mul-x-2
-    shared-slice-read-x
+    (λ c. search needs)
+    (λ c. search needs)
+    (λ c. search needs)
+    (λ c. search needs)
     returns
     returns-2
     returns-3
-    mul-if4
-    add-if4
-    mul-if4-2
-    shared-slice-read-if4
+    (λ c. search needs)
+    (λ c. search needs)
+    (λ c. search needs)
+    (λ c. search needs)
     returns-4
     returns-5
     returns-6)

@@ -18,17 +18,8 @@ abbrev μ-loop : tie.MeasureT-loop
 loop-holds : tie.Need-loop-holds Inv-loop μ-loop
 loop-holds c = (omega arith, every-none _)
 
-valid-place-requires : tie.Need-valid-place-requires Inv-loop μ-loop
-valid-place-requires c κs = omega arith
-
 returns : tie.Need-returns Inv-loop μ-loop
 returns c = sym (every-fails _ _ _ (omega arith) (test-fails (c .before .valid-place .ensures) (c .if1 .taken)))
-
-add-j : tie.Need-add-j Inv-loop μ-loop
-add-j c = omega arith
-
-loop-less : tie.Need-loop-less Inv-loop μ-loop
-loop-less c = omega arith
 
 loop-again : tie.Need-loop-again Inv-loop μ-loop
 loop-again c = (omega arith, every-more _ _ (c .before .before .before .loop .inv .1) (test-passes (c .before .valid-place .ensures) (c .if1 .left)))
@@ -43,9 +34,9 @@ valid-places-spec =
     Inv-loop
     μ-loop
     loop-holds
-    valid-place-requires
+    (λ c κs. omega arith)
     returns
-    add-j
-    loop-less
+    (λ c. omega arith)
+    (λ c. omega arith)
     loop-again
     returns-2)

@@ -5,9 +5,6 @@ use Rattle.validity.specs.Memory.{validSetting}
 use Rattle.validity.proofs.valid_setting.Statement.{statement}
 use Rattle.validity.proofs.valid_setting.Tie as tie
 
-shared-slice-read-x : tie.Need-shared-slice-read-x
-shared-slice-read-x c = search needs
-
 returns : tie.Need-returns
 unfolding validSetting
 returns c = rw (le-ltb _ _ (c .if1 .taken))
@@ -21,4 +18,4 @@ unfolding validSetting
 returns-3 c = rw (lt-ltb _ _ (c .before .if1 .left), le-leb _ _ (c .if2 .left))
 
 pub valid-setting-spec : {M : Type 1} → statement M
-valid-setting-spec = tie.close (tie.spec shared-slice-read-x returns returns-2 returns-3)
+valid-setting-spec = tie.close (tie.spec (λ c. search needs) returns returns-2 returns-3)

@@ -4,9 +4,6 @@ use borrow.Author.Needs.{needs}
 use Rattle.validity.proofs.zero_above.Statement.{statement}
 use Rattle.validity.proofs.zero_above.Tie as tie
 
-array-read-x : tie.Need-array-read-x
-array-read-x c = search needs
-
 returns : tie.Need-returns
 returns c = rw (lt-ltb _ _ (c .if1 .taken))
 
@@ -14,4 +11,4 @@ returns-2 : tie.Need-returns-2
 returns-2 c = rw (le-ltb _ _ (c .if1 .left))
 
 pub zero-above-spec : {M : Type 1} → statement M
-zero-above-spec = tie.close (tie.spec array-read-x returns returns-2)
+zero-above-spec = tie.close (tie.spec (λ c. search needs) returns returns-2)

@@ -19,17 +19,8 @@ abbrev μ-loop : tie.MeasureT-loop
 loop-holds : tie.Need-loop-holds Inv-loop μ-loop
 loop-holds c = (omega arith, every-none _)
 
-zero-above-requires : tie.Need-zero-above-requires Inv-loop μ-loop
-zero-above-requires c κs = omega arith
-
 returns : tie.Need-returns Inv-loop μ-loop
 returns c = sym (every-fails _ _ _ (omega arith) (test-fails (c .before .zero-above .ensures) (c .if1 .taken)))
-
-add-j : tie.Need-add-j Inv-loop μ-loop
-add-j c = omega arith
-
-loop-less : tie.Need-loop-less Inv-loop μ-loop
-loop-less c = omega arith
 
 loop-again : tie.Need-loop-again Inv-loop μ-loop
 loop-again c = (omega arith, every-more _ _ (c .before .before .before .loop .inv .1) (test-passes (c .before .zero-above .ensures) (c .if1 .left)))
@@ -44,9 +35,9 @@ zeros-above-spec =
     Inv-loop
     μ-loop
     loop-holds
-    zero-above-requires
+    (λ c κs. omega arith)
     returns
-    add-j
-    loop-less
+    (λ c. omega arith)
+    (λ c. omega arith)
     loop-again
     returns-2)

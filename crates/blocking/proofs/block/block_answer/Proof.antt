@@ -8,15 +8,6 @@ use Rattle.blocking.specs.BlockLaws.{block-24, block-25, block-1-list, b
 use Rattle.blocking.proofs.block.block_answer.Statement.{statement}
 use Rattle.blocking.proofs.block.block_answer.Tie as tie
 
-check-requires : tie.Need-check-requires
-check-requires c κs = search needs
-
-enum-told : tie.Need-enum-told
-enum-told c = search needs
-
-enum-told-2 : tie.Need-enum-told-2
-enum-told-2 c = search needs
-
 returns : tie.Need-returns
 unfolding blockAnswer
 returns c = held-refused _ _ (c .enum-told2 .given .1) (c .before .before .check .ensures)
@@ -45,9 +36,9 @@ pub block-answer-spec : {M : Type 1} → statement M
 block-answer-spec =
     tie.close
     (tie.spec
-    check-requires
-    enum-told
-    enum-told-2
+    (λ c κs. search needs)
+    (λ c. search needs)
+    (λ c. search needs)
     returns
     returns-2
     ball-meets-requires

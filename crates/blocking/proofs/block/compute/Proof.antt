@@ -8,17 +8,11 @@ use Rattle.blocking.proofs.block.compute.Tie as tie
 block-rows-requires : tie.Need-block-rows-requires
 block-rows-requires c κs = let p = c .before .before .before .before .pre in (told-sized _ _ _ p, (told-proper _ _ _ p, (p .some-tide, p .list-room)))
 
-slice-aggregate-put-centres : tie.Need-slice-aggregate-put-centres
-slice-aggregate-put-centres c = search needs
-
 put-centres-requires : tie.Need-put-centres-requires
 put-centres-requires c κs =
     let R = c .before .before .before .before .before .block-rows .ensures .0 in
     let f = c .before .before .before .before .before .before .before .before .before .before .pre .passed .dataset .few in
     ((R .centres-long, omega (arith, R .few), omega (arith, R .few)), λ i l. omega (arith, R .centre-below i l))
-
-same-length : tie.Need-same-length
-same-length c = search needs
 
 returns : tie.Need-returns
 returns c =
@@ -31,7 +25,7 @@ compute-spec =
     tie.close
     (tie.spec
     block-rows-requires
-    slice-aggregate-put-centres
+    (λ c. search needs)
     put-centres-requires
-    same-length
+    (λ c. search needs)
     returns)

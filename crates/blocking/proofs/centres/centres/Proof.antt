@@ -4,9 +4,6 @@ use borrow.Author.Needs.{needs}
 use Rattle.blocking.proofs.centres.centres.Statement.{statement}
 use Rattle.blocking.proofs.centres.centres.Tie as tie
 
-centres-into-requires : tie.Need-centres-into-requires
-centres-into-requires c κs = search needs
-
 slice-aggregate-result : tie.Need-slice-aggregate-result
 slice-aggregate-result c = let e = c .before .before .before .centres-into .ensures .1 in centres-part _ _ _ (e .0) (e .1) .0
 
@@ -14,4 +11,4 @@ returns : tie.Need-returns
 returns c = let e = c .before .before .before .centres-into .ensures .1 in centres-part _ _ _ (e .0) (e .1) .1
 
 pub centres-spec : {M : Type 1} → statement M
-centres-spec = tie.close (tie.spec centres-into-requires slice-aggregate-result returns)
+centres-spec = tie.close (tie.spec (λ c κs. search needs) slice-aggregate-result returns)

@@ -4,26 +4,11 @@ use borrow.Author.Needs.{needs}
 use Rattle.blocking.proofs.centres.centres_into.Statement.{statement}
 use Rattle.blocking.proofs.centres.centres_into.Tie as tie
 
-centres-answer-requires : tie.Need-centres-answer-requires
-centres-answer-requires c κs = search needs
-
-enum-told : tie.Need-enum-told
-enum-told c = search needs
-
-enum-told-2 : tie.Need-enum-told-2
-enum-told-2 c = search needs
-
-same-length : tie.Need-same-length
-same-length c = search needs
-
 returns : tie.Need-returns
 returns c = let r = centres-refused _ _ _ (c .enum-told2 .given .1) (c .before .before .centres-answer .ensures) in (c .before .before .centres-answer .ensures, r)
 
 fill-front-requires : tie.Need-fill-front-requires
 fill-front-requires c κs = centres-told _ _ (c .before .enum-told .given .1) (c .before .before .before .centres-answer .ensures)
-
-same-length-2 : tie.Need-same-length-2
-same-length-2 c = search needs
 
 returns-2 : tie.Need-returns-2
 returns-2 c = (c .before .before .before .before .before .before .centres-answer .ensures, c .before .before .fill-front .ensures)
@@ -32,11 +17,11 @@ pub centres-into-spec : {M : Type 1} → statement M
 centres-into-spec =
     tie.close
     (tie.spec
-    centres-answer-requires
-    enum-told
-    enum-told-2
-    same-length
+    (λ c κs. search needs)
+    (λ c. search needs)
+    (λ c. search needs)
+    (λ c. search needs)
     returns
     fill-front-requires
-    same-length-2
+    (λ c. search needs)
     returns-2)

@@ -15,12 +15,9 @@ put-centres-requires c κs =
     let C = c .before .before .find-centres .ensures in
     ((C .front .size, front-few (p .passed .dataset .few) C, omega (arith, p .room, front-fits C)), λ i l. omega (arith, p .passed .dataset .few, front-below C i l))
 
-same-length : tie.Need-same-length
-same-length c = search needs
-
 returns : tie.Need-returns
 returns c = centres-filled _ _ _ (c .before .before .before .before .before .before .before .before .before .before .pre) (c .before .before .before .before .before .find-centres .ensures) (c .before .before .put-centres .ensures)
 
 pub fill-front-spec : {M : Type 1} → statement M
 fill-front-spec =
-    tie.close (tie.spec find-centres-requires put-centres-requires same-length returns)
+    tie.close (tie.spec find-centres-requires put-centres-requires (λ c. search needs) returns)

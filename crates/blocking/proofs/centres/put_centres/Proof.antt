@@ -17,12 +17,6 @@ abbrev μ-loop : tie.MeasureT-loop
 loop-holds : tie.Need-loop-holds Inv-loop μ-loop
 loop-holds c = (omega arith, overwrite-none _ _)
 
-mul-list : tie.Need-mul-list Inv-loop μ-loop
-mul-list c = omega arith
-
-element-copy-out-list : tie.Need-element-copy-out-list Inv-loop μ-loop
-element-copy-out-list c = omega arith
-
 add-list : tie.Need-add-list Inv-loop μ-loop
 add-list c = omega (arith, c .before .before .before .pre .1 (c .before .before .loop .i) (omega arith))
 
@@ -34,12 +28,6 @@ slice-write-list c =
     let turn = c .before .before .loop in
     let q = ap length (turn .inv .1) ∙ length-overwrite (λ x. getD (c .before .before .before .args .centres .now) x 0 + 1) _ (turn .i) (omega arith) in
     omega arith
-
-add-i : tie.Need-add-i Inv-loop μ-loop
-add-i c = omega arith
-
-loop-less : tie.Need-loop-less Inv-loop μ-loop
-loop-less c = omega arith
 
 loop-again : tie.Need-loop-again Inv-loop μ-loop
 loop-again c = (omega arith, overwrite-step (λ x. getD (c .before .before .before .args .centres .now) x 0 + 1) _ _ (c .before .before .loop .inv .1) refl (omega arith))
@@ -57,13 +45,13 @@ put-centres-spec =
     Inv-loop
     μ-loop
     loop-holds
-    mul-list
-    element-copy-out-list
+    (λ c. omega arith)
+    (λ c. omega arith)
     add-list
     cast-list
     slice-write-list
-    add-i
-    loop-less
+    (λ c. omega arith)
+    (λ c. omega arith)
     loop-again
     same-length
     returns)

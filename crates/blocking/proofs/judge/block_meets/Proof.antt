@@ -5,9 +5,6 @@ use Rattle.radius.specs.Tally.{tallied-long, met-meets}
 use Rattle.blocking.proofs.judge.block_meets.Statement.{statement}
 use Rattle.blocking.proofs.judge.block_meets.Tie as tie
 
-count-block-requires : tie.Need-count-block-requires
-count-block-requires c κs = search needs
-
 counts-meet-requires : tie.Need-counts-meet-requires
 counts-meet-requires c κs = tallied-long (c .before .count-block .ensures)
 
@@ -15,4 +12,4 @@ returns : tie.Need-returns
 returns c = c .counts-meet .ensures ∙ met-meets (c .before .before .before .before .before .before .args .minima) (c .before .before .count-block .ensures)
 
 pub block-meets-spec : {M : Type 1} → statement M
-block-meets-spec = tie.close (tie.spec count-block-requires counts-meet-requires returns)
+block-meets-spec = tie.close (tie.spec (λ c κs. search needs) counts-meet-requires returns)

@@ -30,12 +30,6 @@ returns : tie.Need-returns Inv-loop μ-loop
 unfolding labels
 returns c = sym (every-fails _ (c .before .before .before .before .before .before .before .args .n) (c .before .before .before .before .loop .t) (c .before .before .before .loop-test .taken) (test-fails (c .before .block-meets .ensures) (c .if1 .taken)))
 
-add-t : tie.Need-add-t Inv-loop μ-loop
-add-t c = omega arith
-
-loop-less : tie.Need-loop-less Inv-loop μ-loop
-loop-less c = omega arith
-
 loop-again : tie.Need-loop-again Inv-loop μ-loop
 unfolding labels
 loop-again c = (omega arith, every-more _ _ (c .before .before .before .before .loop .inv .1) (test-passes (c .before .block-meets .ensures) (c .if1 .left)))
@@ -53,7 +47,7 @@ blocks-meet-spec =
     shared-slice-read-block-meets
     block-meets-requires
     returns
-    add-t
-    loop-less
+    (λ c. omega arith)
+    (λ c. omega arith)
     loop-again
     returns-2)

@@ -20,14 +20,8 @@ loop-holds c = (omega arith, tallied-none _ _ (c .before .before .pre .1))
 shared-slice-read-same : tie.Need-shared-slice-read-same Inv-loop μ-loop
 shared-slice-read-same c = let l = c .before .before .before .before .before .pre .0 .list-long in omega arith
 
-same-requires : tie.Need-same-requires Inv-loop μ-loop
-same-requires c κs = search needs
-
 shared-slice-read-wide : tie.Need-shared-slice-read-wide Inv-loop μ-loop
 shared-slice-read-wide c = let l = c .before .before .before .before .before .before .before .pre .0 .settings-long in omega arith
-
-wide-requires : tie.Need-wide-requires Inv-loop μ-loop
-wide-requires c κs = search needs
 
 mul-counts : tie.Need-mul-counts Inv-loop μ-loop
 mul-counts c =
@@ -83,9 +77,6 @@ add-found c =
 add-t : tie.Need-add-t Inv-loop μ-loop
 add-t c = let f = c .before .before .before .before .before .before .before .before .before .pre .0 .few in omega arith
 
-loop-less : tie.Need-loop-less Inv-loop μ-loop
-loop-less c = omega arith
-
 loop-again : tie.Need-loop-again Inv-loop μ-loop
 unfolding block labels
 loop-again c =
@@ -105,9 +96,9 @@ count-block-spec =
     μ-loop
     loop-holds
     shared-slice-read-same
-    same-requires
+    (λ c κs. search needs)
     shared-slice-read-wide
-    wide-requires
+    (λ c κs. search needs)
     mul-counts
     element-copy-out-counts
     add-counts
@@ -115,6 +106,6 @@ count-block-spec =
     element-write-counts
     add-found
     add-t
-    loop-less
+    (λ c. omega arith)
     loop-again
     returns)

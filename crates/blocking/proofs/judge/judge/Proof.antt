@@ -6,17 +6,8 @@ use Rattle.blocking.specs.JudgeLaws.{judge-told, judge-refused, listed, 
 use Rattle.blocking.proofs.judge.judge.Statement.{statement}
 use Rattle.blocking.proofs.judge.judge.Tie as tie
 
-judge-answer-requires : tie.Need-judge-answer-requires
-judge-answer-requires c κs = search needs
-
-enum-known-answer : tie.Need-enum-known-answer
-enum-known-answer c = search needs
-
 returns : tie.Need-returns
 returns c = judge-refused _ _ (c .before .answer .given .1) (c .before .before .before .judge-answer .ensures)
-
-enum-told : tie.Need-enum-told
-enum-told c = search needs
 
 numbers-valid-requires : tie.Need-numbers-valid-requires
 numbers-valid-requires c κs = listed _ _ (judge-told _ _ (c .enum-told .given .1) (c .before .before .judge-answer .ensures)) .list-long
@@ -43,10 +34,10 @@ pub judge-spec : {M : Type 1} → statement M
 judge-spec =
     tie.close
     (tie.spec
-    judge-answer-requires
-    enum-known-answer
+    (λ c κs. search needs)
+    (λ c. search needs)
     returns
-    enum-told
+    (λ c. search needs)
     numbers-valid-requires
     returns-2
     blocks-meet-requires

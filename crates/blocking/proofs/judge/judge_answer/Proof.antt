@@ -6,15 +6,6 @@ use Rattle.blocking.specs.JudgeLaws.{judge-24, judge-12, judge-done}
 use Rattle.blocking.proofs.judge.judge_answer.Statement.{statement}
 use Rattle.blocking.proofs.judge.judge_answer.Tie as tie
 
-check-requires : tie.Need-check-requires
-check-requires c κs = search needs
-
-enum-told : tie.Need-enum-told
-enum-told c = search needs
-
-enum-told-2 : tie.Need-enum-told-2
-enum-told-2 c = search needs
-
 returns : tie.Need-returns
 unfolding judgeAnswer
 returns c = held-refused _ _ (c .enum-told2 .given .1) (c .before .before .check .ensures)
@@ -30,4 +21,4 @@ returns-4 c = judge-done _ _ (passed _ (c .before .before .enum-told .given .1) 
 
 pub judge-answer-spec : {M : Type 1} → statement M
 judge-answer-spec =
-    tie.close (tie.spec check-requires enum-told enum-told-2 returns returns-2 returns-3 returns-4)
+    tie.close (tie.spec (λ c κs. search needs) (λ c. search needs) (λ c. search needs) returns returns-2 returns-3 returns-4)

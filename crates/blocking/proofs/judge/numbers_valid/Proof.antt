@@ -19,23 +19,11 @@ abbrev μ-loop : tie.MeasureT-loop
 loop-holds : tie.Need-loop-holds Inv-loop μ-loop
 loop-holds c = (omega arith, every-none _)
 
-shared-slice-read-valid-number : tie.Need-shared-slice-read-valid-number Inv-loop μ-loop
-shared-slice-read-valid-number c = omega arith
-
-valid-number-requires : tie.Need-valid-number-requires Inv-loop μ-loop
-valid-number-requires c κs = search needs
-
 returns : tie.Need-returns Inv-loop μ-loop
 unfolding labels
 returns c =
     let args = c .before .before .before .before .before .before .args in
     sym (every-fails (λ u. between 1 255 (labels (args .list .now) u)) (args .n) (c .before .before .before .before .loop .t) (c .before .before .before .loop-test .taken) (test-fails (c .before .valid-number .ensures) (c .if1 .taken)))
-
-add-t : tie.Need-add-t Inv-loop μ-loop
-add-t c = omega arith
-
-loop-less : tie.Need-loop-less Inv-loop μ-loop
-loop-less c = omega arith
 
 loop-again : tie.Need-loop-again Inv-loop μ-loop
 unfolding labels
@@ -51,10 +39,10 @@ numbers-valid-spec =
     Inv-loop
     μ-loop
     loop-holds
-    shared-slice-read-valid-number
-    valid-number-requires
+    (λ c. omega arith)
+    (λ c κs. search needs)
     returns
-    add-t
-    loop-less
+    (λ c. omega arith)
+    (λ c. omega arith)
     loop-again
     returns-2)

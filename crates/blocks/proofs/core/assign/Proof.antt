@@ -8,16 +8,10 @@ use borrow.Author.Needs.{needs}
 use Rattle.blocks.proofs.core.assign.Statement.{statement}
 use Rattle.blocks.proofs.core.assign.Tie as tie
 
-slice-aggregate-least-radius : tie.Need-slice-aggregate-least-radius
-slice-aggregate-least-radius c = search needs
-
 least-radius-requires : tie.Need-least-radius-requires
 least-radius-requires c κs =
     let pre = c .before .before .before .before .before .before .pre in
     (pre .0, (pre .1 .0, (pre .1 .1 .0, pre .1 .1 .1, let f = pre .0 .few in omega (arith, length-replicate {A = ℕ} 14400 0), pre .1 .1 .2)))
-
-slice-aggregate-first-assignment : tie.Need-slice-aggregate-first-assignment
-slice-aggregate-first-assignment c = search needs
 
 first-assignment-requires : tie.Need-first-assignment-requires
 first-assignment-requires c κs =
@@ -29,9 +23,6 @@ number-requires c κs =
     let pre = c .before .before .before .before .before .before .before .before .before .before .before .before .before .before .before .before .before .pre in
     (omega (arith, c .before .before .before .before .first-assignment .ensures .1 .same-length, c .before .before .before .before .before .before .before .before .before .before .least-radius .ensures .1 .same-length, pre .1 .1 .2), λ t l. let q = front-few (pre .0 .few) (c .before .before .before .before .before .before .before .before .before .before .least-radius .ensures .0 .centres) in let h = c .before .before .before .before .first-assignment .ensures .0 .assigned .below t l in omega arith)
 
-same-length : tie.Need-same-length
-same-length c = search needs
-
 returns : tie.Need-returns
 returns c =
     let pre = c .before .before .before .before .before .before .before .before .before .before .before .before .before .before .before .before .before .before .before .before .pre in
@@ -41,10 +32,10 @@ pub assign-spec : {M : Type 1} → statement M
 assign-spec =
     tie.close
     (tie.spec
-    slice-aggregate-least-radius
+    (λ c. search needs)
     least-radius-requires
-    slice-aggregate-first-assignment
+    (λ c. search needs)
     first-assignment-requires
     number-requires
-    same-length
+    (λ c. search needs)
     returns)

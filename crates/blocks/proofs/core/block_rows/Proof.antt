@@ -17,11 +17,8 @@ measure-requires c κs =
     let pre = c .before .before .before .before .before .before .before .before .before .before .before .pre in
     ((pre .0 .few, pre .0 .distances-long, omega (arith, c .before .before .before .before .before .assign .ensures .same-length, pre .1 .1 .1)), (c .before .before .before .before .before .assign .ensures .low, (c .before .before .before .before .before .assign .ensures .high, measured-none _ _ _)))
 
-same-length : tie.Need-same-length
-same-length c = search needs
-
 returns : tie.Need-returns
 returns c = (core-blocks (c .before .before .before .before .before .before .before .before .before .before .before .before .pre .0 .few) (c .before .before .before .before .before .before .assign .ensures) (c .measure .ensures), c .before .before .before .before .before .before .assign .ensures .list-of)
 
 pub block-rows-spec : {M : Type 1} → statement M
-block-rows-spec = tie.close (tie.spec assign-requires measure-requires same-length returns)
+block-rows-spec = tie.close (tie.spec assign-requires measure-requires (λ c. search needs) returns)

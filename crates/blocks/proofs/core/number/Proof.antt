@@ -27,12 +27,6 @@ add-list c =
 slice-write-list : tie.Need-slice-write-list Inv-loop μ-loop
 slice-write-list c = let q = numbered-length (c .before .before .loop .inv .1) (omega arith) in omega arith
 
-add-t : tie.Need-add-t Inv-loop μ-loop
-add-t c = omega arith
-
-loop-less : tie.Need-loop-less Inv-loop μ-loop
-loop-less c = omega arith
-
 loop-again : tie.Need-loop-again Inv-loop μ-loop
 loop-again c = (omega arith, numbered-more (c .before .before .loop .inv .1) (omega arith))
 
@@ -52,8 +46,8 @@ number-spec =
     slice-read-list
     add-list
     slice-write-list
-    add-t
-    loop-less
+    (λ c. omega arith)
+    (λ c. omega arith)
     loop-again
     same-length
     returns)

@@ -14,20 +14,8 @@ abbrev μ-loop : tie.MeasureT-loop
 loop-holds : tie.Need-loop-holds Inv-loop μ-loop
 loop-holds c = (omega arith, omega arith, cut-none _ _ _)
 
-mul-allowed : tie.Need-mul-allowed Inv-loop μ-loop
-mul-allowed c = omega arith
-
-add-allowed : tie.Need-add-allowed Inv-loop μ-loop
-add-allowed c = omega arith
-
 slice-write-allowed : tie.Need-slice-write-allowed Inv-loop μ-loop
 slice-write-allowed c = let q = c .before .loop .inv .2 .same-length in omega arith
-
-add-i : tie.Need-add-i Inv-loop μ-loop
-add-i c = omega arith
-
-loop-less : tie.Need-loop-less Inv-loop μ-loop
-loop-less c = omega arith
 
 loop-again : tie.Need-loop-again Inv-loop μ-loop
 loop-again c = (omega arith, omega arith, cut-more (c .before .loop .inv .0) (c .before .before .pre .0) (c .loop-test .taken) (c .before .before .pre .2) (c .before .loop .inv .2))
@@ -45,11 +33,11 @@ cut-spec =
     Inv-loop
     μ-loop
     loop-holds
-    mul-allowed
-    add-allowed
+    (λ c. omega arith)
+    (λ c. omega arith)
     slice-write-allowed
-    add-i
-    loop-less
+    (λ c. omega arith)
+    (λ c. omega arith)
     loop-again
     same-length
     returns)

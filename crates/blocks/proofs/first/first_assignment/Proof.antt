@@ -23,9 +23,6 @@ settle-requires c κs =
 add-t : tie.Need-add-t Inv-loop μ-loop
 add-t c = let f = c .before .before .before .before .before .before .before .before .before .before .before .before .pre .0 .few-tides in omega arith
 
-loop-less : tie.Need-loop-less Inv-loop μ-loop
-loop-less c = omega arith
-
 loop-again : tie.Need-loop-again Inv-loop μ-loop
 loop-again c =
     let turn = c .before .before .before .before .before .before .before .before .loop in
@@ -49,7 +46,7 @@ first-assignment-spec =
     loop-holds
     settle-requires
     add-t
-    loop-less
+    (λ c. omega arith)
     loop-again
     same-length
     same-length-2

@@ -17,9 +17,6 @@ abbrev μ-loop : tie.MeasureT-loop
 slice-read-wide : tie.Need-slice-read-wide Inv-loop μ-loop
 slice-read-wide c = let l = c .before .before .before .before .pre .0 .list-long in omega arith
 
-wide-requires : tie.Need-wide-requires Inv-loop μ-loop
-wide-requires c κs = search needs
-
 loop-holds : tie.Need-loop-holds Inv-loop μ-loop
 unfolding labels
 loop-holds c = settling-start _ _ (c .before .before .before .before .before .pre .1 .0) (c .wide .ensures)
@@ -36,9 +33,6 @@ slice-read-wide-2 c =
     let i = c .before .before .before .before .before .before .before .before .before .loop .inv .kept .same-length in
     let k = c .before .before .before .before .before .before .lower .ensures .1 .kept .same-length in
     omega arith
-
-wide-requires-2 : tie.Need-wide-requires-2 Inv-loop μ-loop
-wide-requires-2 c κs = search needs
 
 loop-less : tie.Need-loop-less Inv-loop μ-loop
 unfolding labels
@@ -122,11 +116,11 @@ settle-spec =
     Inv-loop
     μ-loop
     slice-read-wide
-    wide-requires
+    (λ c κs. search needs)
     loop-holds
     lower-requires
     slice-read-wide-2
-    wide-requires-2
+    (λ c κs. search needs)
     loop-less
     loop-again
     cut-requires

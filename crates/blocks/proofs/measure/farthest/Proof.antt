@@ -19,36 +19,6 @@ loop-holds : tie.Need-loop-holds Inv-loop μ-loop
 unfolding farthestOf
 loop-holds c = (omega arith, greatest-none _)
 
-shared-slice-read-inside : tie.Need-shared-slice-read-inside Inv-loop μ-loop
-shared-slice-read-inside c = omega arith
-
-shared-slice-read-inside-2 : tie.Need-shared-slice-read-inside-2 Inv-loop μ-loop
-shared-slice-read-inside-2 c = omega arith
-
-mul-inside : tie.Need-mul-inside Inv-loop μ-loop
-mul-inside c = omega arith
-
-add-inside : tie.Need-add-inside Inv-loop μ-loop
-add-inside c = omega arith
-
-mul-inside-2 : tie.Need-mul-inside-2 Inv-loop μ-loop
-mul-inside-2 c = omega arith
-
-shared-slice-read-inside-3 : tie.Need-shared-slice-read-inside-3 Inv-loop μ-loop
-shared-slice-read-inside-3 c = omega arith
-
-inside-requires : tie.Need-inside-requires Inv-loop μ-loop
-inside-requires c κs = search needs
-
-greater-requires : tie.Need-greater-requires Inv-loop μ-loop
-greater-requires c κs = search needs
-
-add-u : tie.Need-add-u Inv-loop μ-loop
-add-u c = omega arith
-
-loop-less : tie.Need-loop-less Inv-loop μ-loop
-loop-less c = omega arith
-
 loop-again : tie.Need-loop-again Inv-loop μ-loop
 unfolding labels farthestOf
 loop-again c =
@@ -70,15 +40,15 @@ farthest-spec =
     Inv-loop
     μ-loop
     loop-holds
-    shared-slice-read-inside
-    shared-slice-read-inside-2
-    mul-inside
-    add-inside
-    mul-inside-2
-    shared-slice-read-inside-3
-    inside-requires
-    greater-requires
-    add-u
-    loop-less
+    (λ c. omega arith)
+    (λ c. omega arith)
+    (λ c. omega arith)
+    (λ c. omega arith)
+    (λ c. omega arith)
+    (λ c. omega arith)
+    (λ c κs. search needs)
+    (λ c κs. search needs)
+    (λ c. omega arith)
+    (λ c. omega arith)
     loop-again
     returns)

@@ -22,12 +22,6 @@ farthest-requires c κs =
     let pre = c .before .before .before .before .pre in
     (pre .0 .0, c .loop-test .taken, pre .0 .1, pre .0 .2)
 
-shared-slice-read-wide : tie.Need-shared-slice-read-wide Inv-loop μ-loop
-shared-slice-read-wide c = omega arith
-
-wide-requires : tie.Need-wide-requires Inv-loop μ-loop
-wide-requires c κs = search needs
-
 sub-m : tie.Need-sub-m Inv-loop μ-loop
 unfolding labels
 sub-m c =
@@ -90,9 +84,6 @@ element-copy-out-greater c =
     let w = c .before .wide .ensures in
     omega arith
 
-greater-requires : tie.Need-greater-requires Inv-loop μ-loop
-greater-requires c κs = search needs
-
 mul-diameters : tie.Need-mul-diameters Inv-loop μ-loop
 unfolding labels
 mul-diameters c =
@@ -112,15 +103,6 @@ element-write-diameters c =
     let b = pre .1 .1 .0 (turn .t) (c .before .before .before .before .before .before .loop-test .taken) in
     let w = c .before .before .before .wide .ensures in
     omega arith
-
-greater-requires-2 : tie.Need-greater-requires-2 Inv-loop μ-loop
-greater-requires-2 c κs = search needs
-
-add-t : tie.Need-add-t Inv-loop μ-loop
-add-t c = omega arith
-
-loop-less : tie.Need-loop-less Inv-loop μ-loop
-loop-less c = omega arith
 
 loop-again : tie.Need-loop-again Inv-loop μ-loop
 unfolding labels
@@ -143,19 +125,19 @@ measure-spec =
     μ-loop
     loop-holds
     farthest-requires
-    shared-slice-read-wide
-    wide-requires
+    (λ c. omega arith)
+    (λ c κs. search needs)
     sub-m
     element-copy-out-sizes
     add-sizes
     element-write-sizes
     mul-greater
     element-copy-out-greater
-    greater-requires
+    (λ c κs. search needs)
     mul-diameters
     element-write-diameters
-    greater-requires-2
-    add-t
-    loop-less
+    (λ c κs. search needs)
+    (λ c. omega arith)
+    (λ c. omega arith)
     loop-again
     returns)

@@ -23,15 +23,6 @@ farthest-requires c κs =
     let pre = c .before .before .before .before .pre in
     (pre .0, c .loop-test .taken, pre .1, pre .2)
 
-greater-requires : tie.Need-greater-requires Inv-loop μ-loop
-greater-requires c κs = search needs
-
-add-t : tie.Need-add-t Inv-loop μ-loop
-add-t c = omega arith
-
-loop-less : tie.Need-loop-less Inv-loop μ-loop
-loop-less c = omega arith
-
 loop-again : tie.Need-loop-again Inv-loop μ-loop
 unfolding widestOf
 loop-again c =
@@ -52,8 +43,8 @@ widest-spec =
     μ-loop
     loop-holds
     farthest-requires
-    greater-requires
-    add-t
-    loop-less
+    (λ c κs. search needs)
+    (λ c. omega arith)
+    (λ c. omega arith)
     loop-again
     returns)

@@ -8,23 +8,11 @@ use Rattle.matching.proofs.Pairs.{allows-yes, allows-no}
 use Rattle.matching.proofs.augment.edge.Statement.{statement}
 use Rattle.matching.proofs.augment.edge.Tie as tie
 
-mul-if1 : tie.Need-mul-if1
-mul-if1 c = search needs
-
-add-if1 : tie.Need-add-if1
-add-if1 c = search needs
-
-shared-slice-read-if1 : tie.Need-shared-slice-read-if1
-shared-slice-read-if1 c = search needs
-
 returns : tie.Need-returns
 returns c = record { holds = λ e. absurd (false≢true e); fails = λ _ p. allows-no _ _ _ (c .if1 .taken) (p .may) }
 
 returns-2 : tie.Need-returns-2
 returns-2 c = record { holds = λ _. record { may = allows-yes _ _ _ (c .before .if1 .left); suits = inl (omega arith) }; fails = λ e. absurd (true≢false e) }
-
-shared-slice-read-result : tie.Need-shared-slice-read-result
-shared-slice-read-result c = search needs
 
 returns-3 : tie.Need-returns-3
 returns-3 c = record { holds = λ e. record { may = allows-yes _ _ _ (c .before .before .if1 .left); suits = inr (eqb-true _ _ e) }; fails = λ e p. ⊎-elim (c .before .if2 .left) (eqb-false _ _ e) (p .suits) }
@@ -33,10 +21,10 @@ pub edge-spec : {M : Type 1} → statement M
 edge-spec =
     tie.close
     (tie.spec
-    mul-if1
-    add-if1
-    shared-slice-read-if1
+    (λ c. search needs)
+    (λ c. search needs)
+    (λ c. search needs)
     returns
     returns-2
-    shared-slice-read-result
+    (λ c. search needs)
     returns-3)

@@ -5,15 +5,6 @@ use Rattle.matching.proofs.Turns.{alone, blank-marked}
 use Rattle.matching.proofs.augment.improve.Statement.{statement}
 use Rattle.matching.proofs.augment.improve.Tie as tie
 
-mul-rank : tie.Need-mul-rank
-mul-rank c = search needs
-
-array-write-rank : tie.Need-array-write-rank
-array-write-rank c = search needs
-
-array-write-queue : tie.Need-array-write-queue
-array-write-queue c = search needs
-
 grow-requires : tie.Need-grow-requires
 grow-requires c κs =
     let p = c .before .before .before .before .before .before .before .before .pre in
@@ -36,9 +27,9 @@ pub improve-spec : {M : Type 1} → statement M
 improve-spec =
     tie.close
     (tie.spec
-    mul-rank
-    array-write-rank
-    array-write-queue
+    (λ c. search needs)
+    (λ c. search needs)
+    (λ c. search needs)
     grow-requires
     returns
     shift-requires

@@ -19,9 +19,6 @@ abbrev μ-loop : tie.MeasureT-loop
 loop-holds : tie.Need-loop-holds Inv-loop μ-loop
 loop-holds c = (omega arith, saturated-start _ _ _ _ _ (c .before .before .pre .1) _ (omega arith))
 
-sub-s : tie.Need-sub-s Inv-loop μ-loop
-sub-s c = omega arith
-
 mul-if1 : tie.Need-mul-if1 Inv-loop μ-loop
 mul-if1 c = let z = c .before .before .before .before .pre .0 .few-slots in omega arith
 
@@ -35,12 +32,6 @@ improve-requires c κs =
 
 returns : tie.Need-returns Inv-loop μ-loop
 returns c = (λ e. absurd (false≢true e), λ _. c .before .improve .ensures .1 (not-true _ (c .if2 .taken)))
-
-sub-left : tie.Need-sub-left Inv-loop μ-loop
-sub-left c = omega arith
-
-loop-less : tie.Need-loop-less Inv-loop μ-loop
-loop-less c = omega arith
 
 loop-again : tie.Need-loop-again Inv-loop μ-loop
 loop-again c =
@@ -57,12 +48,12 @@ saturate-spec =
     Inv-loop
     μ-loop
     loop-holds
-    sub-s
+    (λ c. omega arith)
     mul-if1
     element-copy-out-if1
     improve-requires
     returns
-    sub-left
-    loop-less
+    (λ c. omega arith)
+    (λ c. omega arith)
     loop-again
     returns-2)

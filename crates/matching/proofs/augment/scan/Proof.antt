@@ -58,9 +58,6 @@ add-tail c =
 add-t : tie.Need-add-t Inv-loop μ-loop
 add-t c = let few = c .before .before .before .before .before .before .before .pre .0 .few-tides in omega arith
 
-loop-less : tie.Need-loop-less Inv-loop μ-loop
-loop-less c = omega arith
-
 loop-again : tie.Need-loop-again Inv-loop μ-loop
 loop-again c =
     let p = c .before .before .before .before .before .before .before .pre in
@@ -95,6 +92,6 @@ scan-spec =
     push-requires
     add-tail
     add-t
-    loop-less
+    (λ c. omega arith)
     loop-again
     returns-2)

@@ -7,12 +7,6 @@ use Rattle.matching.proofs.Turns.{class-below, visit-known, visit-marke
 use Rattle.matching.proofs.augment.visit.Statement.{statement}
 use Rattle.matching.proofs.augment.visit.Tie as tie
 
-mul-any : tie.Need-mul-any
-mul-any c = search needs
-
-element-copy-out-any : tie.Need-element-copy-out-any
-element-copy-out-any c = search needs
-
 mul-any-2 : tie.Need-mul-any-2
 mul-any-2 c = let p = c .before .before .before .pre in let b = p .0 .blocks _ (p .1 .0) in omega arith
 
@@ -27,9 +21,6 @@ returns c =
     let p = c .before .before .before .before .before .pre in
     let few = p .0 .few-tides in
     (visit-known _ _ _ _ _ _ (p .0) _ (p .1 .0) _ _ (p .1 .1 .1 .1 .1) 0 _ _ _ _ _ _ (p .1 .1 .1 .1 .0) (p .1 .1 .0) (inl refl) (omega arith) (c .if1 .taken), (λ h. absurd (omega arith), λ _. record { end = refl; marked = p .1 .1 .1 .1 .1 }))
-
-element-copy-out-class : tie.Need-element-copy-out-class
-element-copy-out-class c = search needs
 
 cast-class : tie.Need-cast-class
 cast-class c =
@@ -74,12 +65,12 @@ pub visit-spec : {M : Type 1} → statement M
 visit-spec =
     tie.close
     (tie.spec
-    mul-any
-    element-copy-out-any
+    (λ c. search needs)
+    (λ c. search needs)
     mul-any-2
     element-copy-out-if1
     returns
-    element-copy-out-class
+    (λ c. search needs)
     cast-class
     add-class
     element-copy-out-if2

@@ -5,23 +5,8 @@ use borrow.Author.Needs.{needs}
 use Rattle.matching.proofs.augment.wanted.Statement.{statement}
 use Rattle.matching.proofs.augment.wanted.Tie as tie
 
-mul-if1 : tie.Need-mul-if1
-mul-if1 c = search needs
-
-element-copy-out-if1 : tie.Need-element-copy-out-if1
-element-copy-out-if1 c = search needs
-
 returns : tie.Need-returns
 returns c = record { new = λ e. absurd (false≢true e); edge = λ e. absurd (false≢true e); not = λ _ _. c .if1 .taken }
-
-mul-edge : tie.Need-mul-edge
-mul-edge c = search needs
-
-element-copy-out-edge : tie.Need-element-copy-out-edge
-element-copy-out-edge c = search needs
-
-element-copy-out-edge-2 : tie.Need-element-copy-out-edge-2
-element-copy-out-edge-2 c = search needs
 
 edge-requires : tie.Need-edge-requires
 edge-requires c κs =
@@ -36,11 +21,11 @@ pub wanted-spec : {M : Type 1} → statement M
 wanted-spec =
     tie.close
     (tie.spec
-    mul-if1
-    element-copy-out-if1
+    (λ c. search needs)
+    (λ c. search needs)
     returns
-    mul-edge
-    element-copy-out-edge
-    element-copy-out-edge-2
+    (λ c. search needs)
+    (λ c. search needs)
+    (λ c. search needs)
     edge-requires
     returns-2)

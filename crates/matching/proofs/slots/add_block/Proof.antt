@@ -14,21 +14,12 @@ abbrev μ-loop : tie.MeasureT-loop
 loop-holds : tie.Need-loop-holds Inv-loop μ-loop
 loop-holds c = (omega arith, part-start _ _ _ _ _ (c .pre .0))
 
-array-read-count : tie.Need-array-read-count Inv-loop μ-loop
-array-read-count c = omega arith
-
 cast-count : tie.Need-cast-count Inv-loop μ-loop
 cast-count c =
     let p = c .before .before .pre in
     let i = c .before .loop .inv in
     let q = part-room _ _ _ _ _ _ _ _ _ _ (i .1) (p .1 .1 .1) (c .loop-test .taken) in
     omega arith
-
-add-add-slots : tie.Need-add-add-slots Inv-loop μ-loop
-add-add-slots c = omega arith
-
-cast-add-slots : tie.Need-cast-add-slots Inv-loop μ-loop
-cast-add-slots c = omega arith
 
 add-slots-requires : tie.Need-add-slots-requires Inv-loop μ-loop
 add-slots-requires c κs =
@@ -43,12 +34,6 @@ add-pos c =
     let i = c .before .before .before .before .before .loop .inv in
     let q = part-room _ _ _ _ _ _ _ _ _ _ (i .1) (p .1 .1 .1) (c .before .before .before .before .loop-test .taken) in
     omega arith
-
-add-j : tie.Need-add-j Inv-loop μ-loop
-add-j c = omega arith
-
-loop-less : tie.Need-loop-less Inv-loop μ-loop
-loop-less c = omega arith
 
 loop-again : tie.Need-loop-again Inv-loop μ-loop
 loop-again c =
@@ -90,14 +75,14 @@ add-block-spec =
     Inv-loop
     μ-loop
     loop-holds
-    array-read-count
+    (λ c. omega arith)
     cast-count
-    add-add-slots
-    cast-add-slots
+    (λ c. omega arith)
+    (λ c. omega arith)
     add-slots-requires
     add-pos
-    add-j
-    loop-less
+    (λ c. omega arith)
+    (λ c. omega arith)
     loop-again
     add-add-slots-2
     sub-add-slots

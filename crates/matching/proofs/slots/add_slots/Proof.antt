@@ -14,41 +14,8 @@ Inv-loop owner₀ kind₀ next pos m k count i₀ owner kind i = (i ≤ count) �
 abbrev μ-loop : tie.MeasureT-loop
 μ-loop owner₀ kind₀ next pos m k count i₀ owner kind i = count - i
 
-cast-next : tie.Need-cast-next Inv-loop μ-loop
-cast-next c = omega arith
-
-mul-next : tie.Need-mul-next Inv-loop μ-loop
-mul-next c = omega arith
-
-add-next : tie.Need-add-next Inv-loop μ-loop
-add-next c = omega arith
-
-element-write-next : tie.Need-element-write-next Inv-loop μ-loop
-element-write-next c = omega arith
-
 loop-holds : tie.Need-loop-holds Inv-loop μ-loop
 loop-holds c = (omega arith, added-start _ _ _ _ _ (c .pre .0))
-
-add-owner : tie.Need-add-owner Inv-loop μ-loop
-add-owner c = omega arith
-
-mul-owner : tie.Need-mul-owner Inv-loop μ-loop
-mul-owner c = omega arith
-
-element-write-owner : tie.Need-element-write-owner Inv-loop μ-loop
-element-write-owner c = omega arith
-
-add-kind : tie.Need-add-kind Inv-loop μ-loop
-add-kind c = omega arith
-
-element-write-kind : tie.Need-element-write-kind Inv-loop μ-loop
-element-write-kind c = omega arith
-
-add-i : tie.Need-add-i Inv-loop μ-loop
-add-i c = omega arith
-
-loop-less : tie.Need-loop-less Inv-loop μ-loop
-loop-less c = omega arith
 
 loop-again : tie.Need-loop-again Inv-loop μ-loop
 loop-again c =
@@ -67,17 +34,17 @@ add-slots-spec =
     (tie.spec
     Inv-loop
     μ-loop
-    cast-next
-    mul-next
-    add-next
-    element-write-next
+    (λ c. omega arith)
+    (λ c. omega arith)
+    (λ c. omega arith)
+    (λ c. omega arith)
     loop-holds
-    add-owner
-    mul-owner
-    element-write-owner
-    add-kind
-    element-write-kind
-    add-i
-    loop-less
+    (λ c. omega arith)
+    (λ c. omega arith)
+    (λ c. omega arith)
+    (λ c. omega arith)
+    (λ c. omega arith)
+    (λ c. omega arith)
+    (λ c. omega arith)
     loop-again
     returns)

@@ -32,12 +32,6 @@ add-pos c =
     let s = p .1 .1 .0 in
     omega arith
 
-add-m : tie.Need-add-m Inv-loop μ-loop
-add-m c = omega arith
-
-loop-less : tie.Need-loop-less Inv-loop μ-loop
-loop-less c = omega arith
-
 loop-again : tie.Need-loop-again Inv-loop μ-loop
 loop-again c = (omega arith, laid-more _ _ _ (c .before .before .before .before .before .before .args .blocks) _ _ _ (c .before .before .before .before .before .loop .inv .1) _ _ (c .add-block .ensures))
 
@@ -53,7 +47,7 @@ lay-out-spec =
     loop-holds
     add-block-requires
     add-pos
-    add-m
-    loop-less
+    (λ c. omega arith)
+    (λ c. omega arith)
     loop-again
     returns)

@@ -15,12 +15,6 @@ abbrev μ-loop : tie.MeasureT-loop
 loop-holds : tie.Need-loop-holds Inv-loop μ-loop
 loop-holds c = c .before .before .before .pre .1 .1
 
-shared-slice-read-wide : tie.Need-shared-slice-read-wide Inv-loop μ-loop
-shared-slice-read-wide c = omega arith
-
-wide-requires : tie.Need-wide-requires Inv-loop μ-loop
-wide-requires c κs = omega arith
-
 shared-slice-read-take-next : tie.Need-shared-slice-read-take-next Inv-loop μ-loop
 shared-slice-read-take-next c =
     let p = c .before .before .before .before .before .before .before .before .before .before .before .before .pre .0 .settings-long in
@@ -38,20 +32,8 @@ take-next-requires-2 c κs =
     let l = c .before .before .before .before .before .before .before .before .before .before .before .loop-test .taken in
     (p .0, (c .before .before .before .take-next .ensures, (c .before .before .before .before .before .before .before .before .if1 .taken, (omega arith, l))))
 
-add-t : tie.Need-add-t Inv-loop μ-loop
-add-t c = omega arith
-
-loop-less : tie.Need-loop-less Inv-loop μ-loop
-loop-less c = omega arith
-
 loop-again : tie.Need-loop-again Inv-loop μ-loop
 loop-again c = c .take-next2 .ensures
-
-add-t-2 : tie.Need-add-t-2 Inv-loop μ-loop
-add-t-2 c = omega arith
-
-loop-less-2 : tie.Need-loop-less-2 Inv-loop μ-loop
-loop-less-2 c = omega arith
 
 loop-again-2 : tie.Need-loop-again-2 Inv-loop μ-loop
 loop-again-2 c = c .before .before .before .before .loop .inv
@@ -66,15 +48,15 @@ adopt-spec =
     Inv-loop
     μ-loop
     loop-holds
-    shared-slice-read-wide
-    wide-requires
+    (λ c. omega arith)
+    (λ c κs. omega arith)
     shared-slice-read-take-next
     take-next-requires
     take-next-requires-2
-    add-t
-    loop-less
+    (λ c. omega arith)
+    (λ c. omega arith)
     loop-again
-    add-t-2
-    loop-less-2
+    (λ c. omega arith)
+    (λ c. omega arith)
     loop-again-2
     returns)

@@ -5,9 +5,6 @@ use Rattle.radius.specs.Tally.{tallied-long, met-meets}
 use Rattle.radius.proofs.bound.ball_meets.Statement.{statement}
 use Rattle.radius.proofs.bound.ball_meets.Tie as tie
 
-count-near-requires : tie.Need-count-near-requires
-count-near-requires c κs = search needs
-
 counts-meet-requires : tie.Need-counts-meet-requires
 counts-meet-requires c κs = tallied-long (c .before .count-near .ensures)
 
@@ -15,4 +12,4 @@ returns : tie.Need-returns
 returns c = c .counts-meet .ensures ∙ met-meets (c .before .before .before .before .before .before .args .minima) (c .before .before .count-near .ensures)
 
 pub ball-meets-spec : {M : Type 1} → statement M
-ball-meets-spec = tie.close (tie.spec count-near-requires counts-meet-requires returns)
+ball-meets-spec = tie.close (tie.spec (λ c κs. search needs) counts-meet-requires returns)

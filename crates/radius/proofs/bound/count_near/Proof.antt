@@ -29,14 +29,8 @@ mul-near-2 c = let z = c .before .before .before .before .pre .0 in let f = z .f
 shared-slice-read-near : tie.Need-shared-slice-read-near Inv-loop μ-loop
 shared-slice-read-near c = let z = c .before .before .before .before .before .pre .0 in let f = z .few in let l = z .distances-long in omega arith
 
-near-requires : tie.Need-near-requires Inv-loop μ-loop
-near-requires c κs = search needs
-
 shared-slice-read-wide : tie.Need-shared-slice-read-wide Inv-loop μ-loop
 shared-slice-read-wide c = let l = c .before .before .before .before .before .before .before .pre .0 .settings-long in omega arith
-
-wide-requires : tie.Need-wide-requires Inv-loop μ-loop
-wide-requires c κs = search needs
 
 mul-counts : tie.Need-mul-counts Inv-loop μ-loop
 mul-counts c =
@@ -92,9 +86,6 @@ add-found c =
 add-t : tie.Need-add-t Inv-loop μ-loop
 add-t c = let f = c .before .before .before .before .before .before .before .before .before .pre .0 .few in omega arith
 
-loop-less : tie.Need-loop-less Inv-loop μ-loop
-loop-less c = omega arith
-
 loop-again : tie.Need-loop-again Inv-loop μ-loop
 loop-again c =
     let turn = c .before .before .before .before .before .before .loop in
@@ -116,9 +107,9 @@ count-near-spec =
     add-near
     mul-near-2
     shared-slice-read-near
-    near-requires
+    (λ c κs. search needs)
     shared-slice-read-wide
-    wide-requires
+    (λ c κs. search needs)
     mul-counts
     element-copy-out-counts
     add-counts
@@ -126,6 +117,6 @@ count-near-spec =
     element-write-counts
     add-found
     add-t
-    loop-less
+    (λ c. omega arith)
     loop-again
     returns)

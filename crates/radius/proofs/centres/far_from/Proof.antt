@@ -21,12 +21,6 @@ abbrev μ-loop : tie.MeasureT-loop
 loop-holds : tie.Need-loop-holds Inv-loop μ-loop
 loop-holds c = (omega arith, tt)
 
-mul-if1 : tie.Need-mul-if1 Inv-loop μ-loop
-mul-if1 c = omega arith
-
-element-copy-out-if1 : tie.Need-element-copy-out-if1 Inv-loop μ-loop
-element-copy-out-if1 c = omega arith
-
 mul-if1-2 : tie.Need-mul-if1-2 Inv-loop μ-loop
 mul-if1-2 c = let h = c .before .before .before .pre .1 (c .before .before .loop .m) (c .before .loop-test .taken) in omega arith
 
@@ -47,12 +41,6 @@ returns c =
     let h = pre .1 (turn .m) (c .before .before .before .loop-test .taken) in
     let w = within-is (args .distances .now) (args .n) (getD (args .centres .now) (turn .m) 0) (args .t) h (pre .0 .4) in
     sym (all-fails (λ x. ltb (args .g) (within (args .distances .now) (args .n) x (args .t))) (args .centres .now) (turn .m) (args .count) (c .before .before .before .loop-test .taken) (omega arith) (le→nltb (args .g) (within (args .distances .now) (args .n) (getD (args .centres .now) (turn .m) 0) (args .t)) (omega arith)))
-
-add-m : tie.Need-add-m Inv-loop μ-loop
-add-m c = omega arith
-
-loop-less : tie.Need-loop-less Inv-loop μ-loop
-loop-less c = omega arith
 
 loop-again : tie.Need-loop-again Inv-loop μ-loop
 loop-again c =
@@ -76,14 +64,14 @@ far-from-spec =
     Inv-loop
     μ-loop
     loop-holds
-    mul-if1
-    element-copy-out-if1
+    (λ c. omega arith)
+    (λ c. omega arith)
     mul-if1-2
     add-if1
     mul-if1-3
     shared-slice-read-if1
     returns
-    add-m
-    loop-less
+    (λ c. omega arith)
+    (λ c. omega arith)
     loop-again
     returns-2)

@@ -50,23 +50,11 @@ add-count c =
     let q = centres-few (within (args .distances .now) (args .n)) (args .g) (turn .t) in
     omega (arith, F .long)
 
-add-t : tie.Need-add-t Inv-loop μ-loop
-add-t c = omega arith
-
-loop-less : tie.Need-loop-less Inv-loop μ-loop
-loop-less c = omega arith
-
 loop-again : tie.Need-loop-again Inv-loop μ-loop
 loop-again c =
     let args = c .before .before .before .before .before .before .args in
     let turn = c .before .before .before .before .loop in
     (omega arith, centres-hit (within (args .distances .now) (args .n)) (args .g) (turn .t) (turn .inv .1) (sym (c .if1 .taken) ∙ c .before .far-from .ensures) (omega arith))
-
-add-t-2 : tie.Need-add-t-2 Inv-loop μ-loop
-add-t-2 c = omega arith
-
-loop-less-2 : tie.Need-loop-less-2 Inv-loop μ-loop
-loop-less-2 c = omega arith
 
 loop-again-2 : tie.Need-loop-again-2 Inv-loop μ-loop
 loop-again-2 c =
@@ -91,10 +79,10 @@ find-centres-spec =
     mul-centres
     element-write-centres
     add-count
-    add-t
-    loop-less
+    (λ c. omega arith)
+    (λ c. omega arith)
     loop-again
-    add-t-2
-    loop-less-2
+    (λ c. omega arith)
+    (λ c. omega arith)
     loop-again-2
     returns)

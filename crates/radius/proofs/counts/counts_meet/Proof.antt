@@ -18,30 +18,12 @@ Inv-loop found counts b j₀ j = (j ≤ 8) × (every j (enough b counts) ≡ tru
 abbrev μ-loop : tie.MeasureT-loop
 μ-loop found counts b j₀ j = 8 - j
 
-wide-requires : tie.Need-wide-requires Inv-loop μ-loop
-wide-requires c κs = search needs
-
 returns : tie.Need-returns Inv-loop μ-loop
 unfolding met
 returns c = let e = c .before .wide .ensures in rw (lt-leb (c .before .before .args .minima .b0) (c .before .before .args .found) (omega arith))
 
 loop-holds : tie.Need-loop-holds Inv-loop μ-loop
 loop-holds c = (omega arith, every-none _)
-
-add-if2 : tie.Need-add-if2 Inv-loop μ-loop
-add-if2 c = omega arith
-
-mul-if2 : tie.Need-mul-if2 Inv-loop μ-loop
-mul-if2 c = omega arith
-
-element-copy-out-if2 : tie.Need-element-copy-out-if2 Inv-loop μ-loop
-element-copy-out-if2 c = omega arith
-
-array-read-wide : tie.Need-array-read-wide Inv-loop μ-loop
-array-read-wide c = omega arith
-
-wide-requires-2 : tie.Need-wide-requires-2 Inv-loop μ-loop
-wide-requires-2 c κs = search needs
 
 returns-2 : tie.Need-returns-2 Inv-loop μ-loop
 unfolding met
@@ -51,12 +33,6 @@ returns-2 c =
     let e = c .before .wide2 .ensures in
     let h = c .before .before .before .before .before .before .before .wide .ensures in
     rw (le-leb (args .minima .b0) (args .found) (omega arith), every-fails (enough (args .minima .b) (args .counts .now)) 8 (turn .j) (c .before .before .before .loop-test .taken) (lt-leb (getD (args .minima .b) (turn .j) 0) (getD (args .counts .now) (turn .j + 1) 0) (omega arith)))
-
-add-j : tie.Need-add-j Inv-loop μ-loop
-add-j c = omega arith
-
-loop-less : tie.Need-loop-less Inv-loop μ-loop
-loop-less c = omega arith
 
 loop-again : tie.Need-loop-again Inv-loop μ-loop
 loop-again c =
@@ -78,16 +54,16 @@ counts-meet-spec =
     (tie.spec
     Inv-loop
     μ-loop
-    wide-requires
+    (λ c κs. search needs)
     returns
     loop-holds
-    add-if2
-    mul-if2
-    element-copy-out-if2
-    array-read-wide
-    wide-requires-2
+    (λ c. omega arith)
+    (λ c. omega arith)
+    (λ c. omega arith)
+    (λ c. omega arith)
+    (λ c κs. search needs)
     returns-2
-    add-j
-    loop-less
+    (λ c. omega arith)
+    (λ c. omega arith)
     loop-again
     returns-3)

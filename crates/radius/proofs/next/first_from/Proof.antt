@@ -11,16 +11,10 @@ returns c =
     let args = c .before .before .args in
     subst (λ z. FirstFrom (args .distances .now) (args .n) z 0) (sym (c .if1 .taken)) (first-zero (args .distances .now) (args .n))
 
-sub-next-of-all : tie.Need-sub-next-of-all
-sub-next-of-all c = search needs
-
-next-of-all-requires : tie.Need-next-of-all-requires
-next-of-all-requires c κs = search needs
-
 returns-2 : tie.Need-returns-2
 returns-2 c =
     let args = c .before .before .before .args in
     first-next (args .distances .now) (args .n) (args .g) (c .next-of-all .result) (omega arith) (c .next-of-all .ensures)
 
 pub first-from-spec : {M : Type 1} → statement M
-first-from-spec = tie.close (tie.spec returns sub-next-of-all next-of-all-requires returns-2)
+first-from-spec = tie.close (tie.spec returns (λ c. search needs) (λ c κs. search needs) returns-2)

@@ -20,12 +20,6 @@ next-later-requires c κs =
     let pre = c .before .before .before .pre in
     ((pre .0 .0, pre .0 .1, pre .0 .2, c .loop-test .taken), pre .1)
 
-add-i : tie.Need-add-i Inv-loop μ-loop
-add-i c = omega arith
-
-loop-less : tie.Need-loop-less Inv-loop μ-loop
-loop-less c = omega arith
-
 loop-again : tie.Need-loop-again Inv-loop μ-loop
 loop-again c =
     let args = c .before .before .before .before .args in
@@ -41,4 +35,4 @@ returns c =
 pub next-in-pairs-spec : {M : Type 1} → statement M
 next-in-pairs-spec =
     tie.close
-    (tie.spec Inv-loop μ-loop loop-holds next-later-requires add-i loop-less loop-again returns)
+    (tie.spec Inv-loop μ-loop loop-holds next-later-requires (λ c. omega arith) (λ c. omega arith) loop-again returns)

@@ -16,27 +16,6 @@ abbrev μ-loop : tie.MeasureT-loop
 loop-holds : tie.Need-loop-holds Inv-loop μ-loop
 loop-holds c = (omega arith, next-none _ _ _ (λ x v. omega (arith, v .1)))
 
-mul-closer : tie.Need-mul-closer Inv-loop μ-loop
-mul-closer c = omega arith
-
-add-closer : tie.Need-add-closer Inv-loop μ-loop
-add-closer c = omega arith
-
-mul-closer-2 : tie.Need-mul-closer-2 Inv-loop μ-loop
-mul-closer-2 c = omega arith
-
-shared-slice-read-closer : tie.Need-shared-slice-read-closer Inv-loop μ-loop
-shared-slice-read-closer c = omega arith
-
-closer-requires : tie.Need-closer-requires Inv-loop μ-loop
-closer-requires c κs = search needs
-
-add-t : tie.Need-add-t Inv-loop μ-loop
-add-t c = omega arith
-
-loop-less : tie.Need-loop-less Inv-loop μ-loop
-loop-less c = omega arith
-
 loop-again : tie.Need-loop-again Inv-loop μ-loop
 loop-again c =
     let args = c .before .before .before .before .before .args in
@@ -56,12 +35,12 @@ next-in-row-spec =
     Inv-loop
     μ-loop
     loop-holds
-    mul-closer
-    add-closer
-    mul-closer-2
-    shared-slice-read-closer
-    closer-requires
-    add-t
-    loop-less
+    (λ c. omega arith)
+    (λ c. omega arith)
+    (λ c. omega arith)
+    (λ c. omega arith)
+    (λ c κs. search needs)
+    (λ c. omega arith)
+    (λ c. omega arith)
     loop-again
     returns)

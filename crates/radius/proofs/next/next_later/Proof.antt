@@ -13,26 +13,11 @@ Inv-loop distances n tides count i g start c best₀ m₀ best m = (i < m) × (m
 abbrev μ-loop : tie.MeasureT-loop
 μ-loop distances n tides count i g start c best₀ m₀ best m = count - m
 
-mul-c : tie.Need-mul-c Inv-loop μ-loop
-mul-c c = omega arith
-
-element-copy-out-c : tie.Need-element-copy-out-c Inv-loop μ-loop
-element-copy-out-c c = omega arith
-
-add-m : tie.Need-add-m Inv-loop μ-loop
-add-m c = omega arith
-
 loop-holds : tie.Need-loop-holds Inv-loop μ-loop
 loop-holds c = (omega arith, omega arith, next-none _ _ _ (λ x v. omega (arith, v .1, v .2)))
 
 mul-closer : tie.Need-mul-closer Inv-loop μ-loop
 mul-closer c = let k = c .before .before .before .before .pre .1 (c .before .before .before .before .args .i) (omega arith) in omega arith
-
-mul-closer-2 : tie.Need-mul-closer-2 Inv-loop μ-loop
-mul-closer-2 c = omega arith
-
-element-copy-out-closer : tie.Need-element-copy-out-closer Inv-loop μ-loop
-element-copy-out-closer c = omega arith
 
 add-closer : tie.Need-add-closer Inv-loop μ-loop
 add-closer c =
@@ -55,15 +40,6 @@ shared-slice-read-closer c =
     let k = pre .1 (c .before .before .before .before .before .before .args .i) (omega arith) in
     omega arith
 
-closer-requires : tie.Need-closer-requires Inv-loop μ-loop
-closer-requires c κs = search needs
-
-add-m-2 : tie.Need-add-m-2 Inv-loop μ-loop
-add-m-2 c = omega arith
-
-loop-less : tie.Need-loop-less Inv-loop μ-loop
-loop-less c = omega arith
-
 loop-again : tie.Need-loop-again Inv-loop μ-loop
 loop-again c =
     let args = c .before .before .before .before .before .before .before .args in
@@ -82,18 +58,18 @@ next-later-spec =
     (tie.spec
     Inv-loop
     μ-loop
-    mul-c
-    element-copy-out-c
-    add-m
+    (λ c. omega arith)
+    (λ c. omega arith)
+    (λ c. omega arith)
     loop-holds
     mul-closer
-    mul-closer-2
-    element-copy-out-closer
+    (λ c. omega arith)
+    (λ c. omega arith)
     add-closer
     mul-closer-3
     shared-slice-read-closer
-    closer-requires
-    add-m-2
-    loop-less
+    (λ c κs. search needs)
+    (λ c. omega arith)
+    (λ c. omega arith)
     loop-again
     returns)

@@ -18,12 +18,6 @@ loop-holds c = (omega arith, next-none _ _ _ (λ x v. omega (arith, v .1)))
 next-in-row-requires : tie.Need-next-in-row-requires Inv-loop μ-loop
 next-in-row-requires c κs = (c .before .before .before .pre .0, c .loop-test .taken, c .before .before .before .pre .1)
 
-add-c : tie.Need-add-c Inv-loop μ-loop
-add-c c = omega arith
-
-loop-less : tie.Need-loop-less Inv-loop μ-loop
-loop-less c = omega arith
-
 loop-again : tie.Need-loop-again Inv-loop μ-loop
 loop-again c =
     let args = c .before .before .before .before .args in
@@ -39,4 +33,4 @@ returns c =
 pub next-of-all-spec : {M : Type 1} → statement M
 next-of-all-spec =
     tie.close
-    (tie.spec Inv-loop μ-loop loop-holds next-in-row-requires add-c loop-less loop-again returns)
+    (tie.spec Inv-loop μ-loop loop-holds next-in-row-requires (λ c. omega arith) (λ c. omega arith) loop-again returns)

@@ -15,23 +15,11 @@ abbrev μ-loop : tie.MeasureT-loop
 loop-holds : tie.Need-loop-holds Inv-loop μ-loop
 loop-holds c = (omega arith, table-none _ _ _ _ _)
 
-mul-allow-block : tie.Need-mul-allow-block Inv-loop μ-loop
-mul-allow-block c = omega arith
-
-element-copy-out-allow-block : tie.Need-element-copy-out-allow-block Inv-loop μ-loop
-element-copy-out-allow-block c = omega arith
-
 allow-block-requires : tie.Need-allow-block-requires Inv-loop μ-loop
 allow-block-requires c κs =
     let pre = c .before .before .before .before .before .before .pre in
     let q = c .before .before .before .loop .inv .1 .same-length in
     (pre .0 .0, pre .0 .1, omega arith, pre .1 (c .before .before .before .loop .m) (c .before .before .loop-test .taken), omega arith)
-
-add-m : tie.Need-add-m Inv-loop μ-loop
-add-m c = omega arith
-
-loop-less : tie.Need-loop-less Inv-loop μ-loop
-loop-less c = omega arith
 
 loop-again : tie.Need-loop-again Inv-loop μ-loop
 loop-again c = (omega arith, table-more (c .before .before .before .before .before .before .before .before .before .pre .0 .0) (c .before .before .before .before .before .before .loop .inv .1) (c .before .before .allow-block .ensures))
@@ -49,11 +37,11 @@ allow-spec =
     Inv-loop
     μ-loop
     loop-holds
-    mul-allow-block
-    element-copy-out-allow-block
+    (λ c. omega arith)
+    (λ c. omega arith)
     allow-block-requires
-    add-m
-    loop-less
+    (λ c. omega arith)
+    (λ c. omega arith)
     loop-again
     same-length
     returns)

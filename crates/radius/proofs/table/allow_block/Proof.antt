@@ -16,35 +16,8 @@ abbrev μ-loop : tie.MeasureT-loop
 loop-holds : tie.Need-loop-holds Inv-loop μ-loop
 loop-holds c = (omega arith, row-none _ _ _ _ _)
 
-mul-mark : tie.Need-mul-mark Inv-loop μ-loop
-mul-mark c = omega arith
-
-add-mark : tie.Need-add-mark Inv-loop μ-loop
-add-mark c = omega arith
-
-mul-mark-2 : tie.Need-mul-mark-2 Inv-loop μ-loop
-mul-mark-2 c = omega arith
-
-shared-slice-read-mark : tie.Need-shared-slice-read-mark Inv-loop μ-loop
-shared-slice-read-mark c = omega arith
-
-mark-requires : tie.Need-mark-requires Inv-loop μ-loop
-mark-requires c κs = search needs
-
-mul-allowed : tie.Need-mul-allowed Inv-loop μ-loop
-mul-allowed c = omega arith
-
-add-allowed : tie.Need-add-allowed Inv-loop μ-loop
-add-allowed c = omega arith
-
 slice-write-allowed : tie.Need-slice-write-allowed Inv-loop μ-loop
 slice-write-allowed c = let q = c .before .before .before .loop .inv .1 .same-length in omega arith
-
-add-t : tie.Need-add-t Inv-loop μ-loop
-add-t c = omega arith
-
-loop-less : tie.Need-loop-less Inv-loop μ-loop
-loop-less c = omega arith
 
 loop-again : tie.Need-loop-again Inv-loop μ-loop
 loop-again c = (omega arith, row-more (c .mark .result) (c .before .before .before .loop .inv .1) (omega arith) (omega arith) (c .mark .ensures))
@@ -62,16 +35,16 @@ allow-block-spec =
     Inv-loop
     μ-loop
     loop-holds
-    mul-mark
-    add-mark
-    mul-mark-2
-    shared-slice-read-mark
-    mark-requires
-    mul-allowed
-    add-allowed
+    (λ c. omega arith)
+    (λ c. omega arith)
+    (λ c. omega arith)
+    (λ c. omega arith)
+    (λ c κs. search needs)
+    (λ c. omega arith)
+    (λ c. omega arith)
     slice-write-allowed
-    add-t
-    loop-less
+    (λ c. omega arith)
+    (λ c. omega arith)
     loop-again
     same-length
     returns)

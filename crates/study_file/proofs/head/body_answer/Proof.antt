@@ -18,12 +18,6 @@ minima-of-requires c κs =
     let args = c .before .before .before .args in
     minima-inside (args .file .now) (args .k) (args .n) (c .before .before .before .pre) (c .before .byte-length .result) (c .before .byte-length .ensures .0) (c .if1 .left)
 
-cast-valid-minima : tie.Need-cast-valid-minima
-cast-valid-minima c = search needs
-
-valid-minima-requires : tie.Need-valid-minima-requires
-valid-minima-requires c κs = search needs
-
 returns-2 : tie.Need-returns-2
 returns-2 c =
     let args = c .before .before .before .before .before .before .args in
@@ -54,8 +48,8 @@ body-answer-spec =
     byte-length-requires
     returns
     minima-of-requires
-    cast-valid-minima
-    valid-minima-requires
+    (λ c. search needs)
+    (λ c κs. search needs)
     returns-2
     bit-length-requires
     filled-requires

@@ -6,20 +6,11 @@ use borrow.Author.Needs.{needs}
 use Rattle.study_file.proofs.head.filled.Statement.{statement}
 use Rattle.study_file.proofs.head.filled.Tie as tie
 
-mul-width : tie.Need-mul-width
-mul-width c = search needs
-
-sub-width : tie.Need-sub-width
-sub-width c = search needs
-
 returns : tie.Need-returns
 returns c = fill-none (c .before .before .args .file .now) (c .before .before .args .end) (c .if1 .taken)
-
-number-requires : tie.Need-number-requires
-number-requires c κs = search needs
 
 returns-2 : tie.Need-returns-2
 returns-2 c = ap (λ x. eqb x 0) (c .number .ensures .0)
 
 pub filled-spec : {M : Type 1} → statement M
-filled-spec = tie.close (tie.spec mul-width sub-width returns number-requires returns-2)
+filled-spec = tie.close (tie.spec (λ c. search needs) (λ c. search needs) returns (λ c κs. search needs) returns-2)

@@ -10,15 +10,6 @@ use Rattle.study_file.proofs.head.head_answer.Tie as tie
 returns : tie.Need-returns
 returns c = head-short (c .before .before .args .file .now) (c .if1 .taken)
 
-read-start-requires : tie.Need-read-start-requires
-read-start-requires c κs = search needs
-
-enum-known-mark : tie.Need-enum-known-mark
-enum-known-mark c = search needs
-
-enum-told : tie.Need-enum-told
-enum-told c = search needs
-
 returns-2 : tie.Need-returns-2
 returns-2 c = absurd (no-end-start (c .before .before .before .before .before .args .file .now) (c .before .before .read-start .ensures) (c .enum-told .given .1) (omega arith))
 
@@ -27,19 +18,10 @@ returns-3 c =
     let args = c .before .before .before .before .before .before .before .args in
     head-mark (args .file .now) (c .before .before .before .before .before .if1 .left) (c .before .before .mark .given .0 .0) (c .before .before .mark .given .0 .1 .0) (got-start (args .file .now) (c .before .before .before .before .read-start .ensures) (c .before .before .mark .given .1)) (c .if2 .taken)
 
-cast-n : tie.Need-cast-n
-cast-n c = search needs
-
 returns-4 : tie.Need-returns-4
 returns-4 c =
     let args = c .before .before .before .before .before .before .before .before .args in
     head-count (args .file .now) (c .before .before .before .before .before .before .if1 .left) (c .before .before .before .mark .given .0 .0) (c .before .before .before .mark .given .0 .1 .0) (got-start (args .file .now) (c .before .before .before .before .before .read-start .ensures) (c .before .before .before .mark .given .1)) (c .before .if2 .left) (c .if3 .taken)
-
-number-requires : tie.Need-number-requires
-number-requires c κs = search needs
-
-cast-k : tie.Need-cast-k
-cast-k c = search needs
 
 returns-5 : tie.Need-returns-5
 returns-5 c =
@@ -64,15 +46,15 @@ head-answer-spec =
     tie.close
     (tie.spec
     returns
-    read-start-requires
-    enum-known-mark
-    enum-told
+    (λ c κs. search needs)
+    (λ c. search needs)
+    (λ c. search needs)
     returns-2
     returns-3
-    cast-n
+    (λ c. search needs)
     returns-4
-    number-requires
-    cast-k
+    (λ c κs. search needs)
+    (λ c. search needs)
     returns-5
     returns-6
     body-answer-requires

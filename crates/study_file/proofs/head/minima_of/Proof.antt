@@ -19,26 +19,11 @@ abbrev μ-loop : tie.MeasureT-loop
 loop-holds : tie.Need-loop-holds Inv-loop μ-loop
 loop-holds c = (omega arith, overwrite-none _ _)
 
-mul-number : tie.Need-mul-number Inv-loop μ-loop
-mul-number c = omega arith
-
-add-number : tie.Need-add-number Inv-loop μ-loop
-add-number c = omega arith
-
 number-requires : tie.Need-number-requires Inv-loop μ-loop
 number-requires c κs = (record { wide = omega arith; narrow = omega arith; low = omega arith }, omega arith)
 
 cast-b : tie.Need-cast-b Inv-loop μ-loop
 cast-b c = omega (arith, c .number .ensures .1)
-
-array-write-b : tie.Need-array-write-b Inv-loop μ-loop
-array-write-b c = omega arith
-
-add-j : tie.Need-add-j Inv-loop μ-loop
-add-j c = omega arith
-
-loop-less : tie.Need-loop-less Inv-loop μ-loop
-loop-less c = omega arith
 
 loop-again : tie.Need-loop-again Inv-loop μ-loop
 loop-again c = (omega arith, overwrite-step _ (replicate 8 0) _ (c .before .before .loop .inv .1) (c .number .ensures .0) (omega arith))
@@ -62,13 +47,13 @@ minima-of-spec =
     Inv-loop
     μ-loop
     loop-holds
-    mul-number
-    add-number
+    (λ c. omega arith)
+    (λ c. omega arith)
     number-requires
     cast-b
-    array-write-b
-    add-j
-    loop-less
+    (λ c. omega arith)
+    (λ c. omega arith)
+    (λ c. omega arith)
     loop-again
     number-requires-2
     cast-b0

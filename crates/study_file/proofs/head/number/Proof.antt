@@ -4,15 +4,6 @@ use borrow.Author.Needs.{needs}
 use Rattle.study_file.proofs.head.number.Statement.{statement}
 use Rattle.study_file.proofs.head.number.Tie as tie
 
-read-field-requires : tie.Need-read-field-requires
-read-field-requires c κs = search needs
-
-enum-known-v : tie.Need-enum-known-v
-enum-known-v c = search needs
-
-enum-told : tie.Need-enum-told
-enum-told c = search needs
-
 returns : tie.Need-returns
 returns c =
     let args = c .before .before .before .before .args in
@@ -25,4 +16,4 @@ returns-2 c =
     (g .is, g .small)
 
 pub number-spec : {M : Type 1} → statement M
-number-spec = tie.close (tie.spec read-field-requires enum-known-v enum-told returns returns-2)
+number-spec = tie.close (tie.spec (λ c κs. search needs) (λ c. search needs) (λ c. search needs) returns returns-2)

@@ -5,12 +5,6 @@ use borrow.Author.Needs.{needs}
 use Rattle.study_file.proofs.length.bit_length.Statement.{statement}
 use Rattle.study_file.proofs.length.bit_length.Tie as tie
 
-mul-result : tie.Need-mul-result
-mul-result c = search needs
-
-add-result : tie.Need-add-result
-add-result c = search needs
-
 mul-result-2 : tie.Need-mul-result-2
 mul-result-2 c = let s = length-sum (c .args .k) (c .args .n) (c .pre .0) (c .pre .1) in omega arith
 
@@ -19,9 +13,6 @@ mul-result-3 c = let s = length-sum (c .args .k) (c .args .n) (c .pre .0) (c .pr
 
 add-result-2 : tie.Need-add-result-2
 add-result-2 c = let s = length-sum (c .args .k) (c .args .n) (c .pre .0) (c .pre .1) in omega arith
-
-mul-result-4 : tie.Need-mul-result-4
-mul-result-4 c = search needs
 
 sub-result : tie.Need-sub-result
 sub-result c = let s = length-sum (c .args .k) (c .args .n) (c .pre .0) (c .pre .1) in omega arith
@@ -33,11 +24,11 @@ pub bit-length-spec : {M : Type 1} → statement M
 bit-length-spec =
     tie.close
     (tie.spec
-    mul-result
-    add-result
+    (λ c. search needs)
+    (λ c. search needs)
     mul-result-2
     mul-result-3
     add-result-2
-    mul-result-4
+    (λ c. search needs)
     sub-result
     returns)

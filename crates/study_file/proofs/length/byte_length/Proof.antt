@@ -7,15 +7,9 @@ use borrow.Author.Needs.{needs}
 use Rattle.study_file.proofs.length.byte_length.Statement.{statement}
 use Rattle.study_file.proofs.length.byte_length.Tie as tie
 
-bit-length-requires : tie.Need-bit-length-requires
-bit-length-requires c κs = search needs
-
-add-result : tie.Need-add-result
-add-result c = search needs
-
 returns : tie.Need-returns
 unfolding byteLength
 returns c = (ap (λ x. (x + 7) / 8) (c .bit-length .ensures .0), omega arith)
 
 pub byte-length-spec : {M : Type 1} → statement M
-byte-length-spec = tie.close (tie.spec bit-length-requires add-result returns)
+byte-length-spec = tie.close (tie.spec (λ c κs. search needs) (λ c. search needs) returns)

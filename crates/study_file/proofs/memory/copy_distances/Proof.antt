@@ -17,24 +17,6 @@ abbrev μ-loop : tie.MeasureT-loop
 loop-holds : tie.Need-loop-holds Inv-loop μ-loop
 loop-holds c = (omega arith, overwrite-none _ _, refl)
 
-mul-distances : tie.Need-mul-distances Inv-loop μ-loop
-mul-distances c = omega arith
-
-shared-slice-read-distances : tie.Need-shared-slice-read-distances Inv-loop μ-loop
-shared-slice-read-distances c = omega arith
-
-mul-distances-2 : tie.Need-mul-distances-2 Inv-loop μ-loop
-mul-distances-2 c = omega arith
-
-slice-write-distances : tie.Need-slice-write-distances Inv-loop μ-loop
-slice-write-distances c = omega arith
-
-add-p : tie.Need-add-p Inv-loop μ-loop
-add-p c = omega arith
-
-loop-less : tie.Need-loop-less Inv-loop μ-loop
-loop-less c = omega arith
-
 loop-again : tie.Need-loop-again Inv-loop μ-loop
 loop-again c = (omega arith, overwrite-step _ _ _ (c .before .before .loop .inv .1) refl (omega arith), simp length-set (c .before .before .loop .inv .2))
 
@@ -51,12 +33,12 @@ copy-distances-spec =
     Inv-loop
     μ-loop
     loop-holds
-    mul-distances
-    shared-slice-read-distances
-    mul-distances-2
-    slice-write-distances
-    add-p
-    loop-less
+    (λ c. omega arith)
+    (λ c. omega arith)
+    (λ c. omega arith)
+    (λ c. omega arith)
+    (λ c. omega arith)
+    (λ c. omega arith)
     loop-again
     same-length
     returns)

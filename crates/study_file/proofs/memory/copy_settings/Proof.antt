@@ -17,18 +17,6 @@ abbrev μ-loop : tie.MeasureT-loop
 loop-holds : tie.Need-loop-holds Inv-loop μ-loop
 loop-holds c = (omega arith, overwrite-none _ _, refl)
 
-shared-slice-read-settings : tie.Need-shared-slice-read-settings Inv-loop μ-loop
-shared-slice-read-settings c = omega arith
-
-slice-write-settings : tie.Need-slice-write-settings Inv-loop μ-loop
-slice-write-settings c = omega arith
-
-add-i : tie.Need-add-i Inv-loop μ-loop
-add-i c = omega arith
-
-loop-less : tie.Need-loop-less Inv-loop μ-loop
-loop-less c = omega arith
-
 loop-again : tie.Need-loop-again Inv-loop μ-loop
 loop-again c = (omega arith, overwrite-step _ _ _ (c .before .before .loop .inv .1) refl (omega arith), simp length-set (c .before .before .loop .inv .2))
 
@@ -45,10 +33,10 @@ copy-settings-spec =
     Inv-loop
     μ-loop
     loop-holds
-    shared-slice-read-settings
-    slice-write-settings
-    add-i
-    loop-less
+    (λ c. omega arith)
+    (λ c. omega arith)
+    (λ c. omega arith)
+    (λ c. omega arith)
     loop-again
     same-length
     returns)

@@ -6,34 +6,16 @@ use borrow.Author.Needs.{needs}
 use Rattle.study_file.proofs.tides.read_tide.Statement.{statement}
 use Rattle.study_file.proofs.tides.read_tide.Tie as tie
 
-bit-length-requires : tie.Need-bit-length-requires
-bit-length-requires c κs = search needs
-
-read-field-requires : tie.Need-read-field-requires
-read-field-requires c κs = search needs
-
-enum-known-less : tie.Need-enum-known-less
-enum-known-less c = search needs
-
-enum-told : tie.Need-enum-told
-enum-told c = search needs
-
 returns : tie.Need-returns
 returns c =
     let args = c .before .before .before .before .before .before .before .args in
     let i = inside (args .file .now) (args .k) (args .t) (args .near .now) (args .kinds .now) (c .before .before .before .before .before .before .before .pre) (c .before .before .before .bit-length .result) (c .before .before .before .bit-length .ensures .0) in
     absurd (no-end (args .file .now) (c .before .before .before .bit-length .result) 3 (c .before .before .read-field .ensures) (c .enum-told .given .1) (i .setting))
 
-cast-if1 : tie.Need-cast-if1
-cast-if1 c = search needs
-
 returns-2 : tie.Need-returns-2
 returns-2 c =
     let args = c .before .before .before .before .before .before .before .before .before .args in
     tide-five (args .file .now) (args .k) (args .t) (args .near .now) (args .kinds .now) (c .before .before .before .before .before .before .before .before .before .pre) (c .before .before .before .before .before .bit-length .result) (c .before .before .before .before .before .bit-length .ensures .0) (got (args .file .now) (c .before .before .before .before .before .bit-length .result) 3 (c .before .before .before .before .read-field .ensures) (c .before .before .less .given .1)) (c .if1 .taken)
-
-add-read-row : tie.Need-add-read-row
-add-read-row c = search needs
 
 read-row-requires : tie.Need-read-row-requires
 read-row-requires c κs =
@@ -41,34 +23,10 @@ read-row-requires c κs =
     let i = inside (args .file .now) (args .k) (args .t) (args .near .now) (args .kinds .now) (c .before .before .before .before .before .before .before .before .before .before .pre) (c .before .before .before .before .before .before .bit-length .result) (c .before .before .before .before .before .before .bit-length .ensures .0) in
     ((i .few, omega arith), (i .row, omega (arith, i .low)))
 
-enum-told-2 : tie.Need-enum-told-2
-enum-told-2 c = search needs
-
-enum-told-3 : tie.Need-enum-told-3
-enum-told-3 c = search needs
-
-same-length : tie.Need-same-length
-same-length c = search needs
-
 returns-3 : tie.Need-returns-3
 returns-3 c =
     let args = c .before .before .before .before .before .before .before .before .before .before .before .before .before .before .before .args in
     tide-stops (args .file .now) (args .k) (args .t) (args .near .now) (args .kinds .now) (c .before .before .before .before .before .before .before .before .before .before .before .before .before .before .before .pre) (c .before .before .before .before .before .before .before .before .before .before .before .bit-length .result) (c .before .before .before .before .before .before .before .before .before .before .before .bit-length .ensures .0) (got (args .file .now) (c .before .before .before .before .before .before .before .before .before .before .before .bit-length .result) 3 (c .before .before .before .before .before .before .before .before .before .before .read-field .ensures) (c .before .before .before .before .before .before .before .before .less .given .1)) (c .before .before .before .before .before .before .if1 .left) (c .before .before .before .before .read-row .ensures) (c .enum-told3 .given .1)
-
-add-kinds : tie.Need-add-kinds
-add-kinds c = search needs
-
-cast-kinds : tie.Need-cast-kinds
-cast-kinds c = search needs
-
-slice-write-kinds : tie.Need-slice-write-kinds
-slice-write-kinds c = search needs
-
-same-length-2 : tie.Need-same-length-2
-same-length-2 c = search needs
-
-same-length-3 : tie.Need-same-length-3
-same-length-3 c = search needs
 
 returns-4 : tie.Need-returns-4
 returns-4 c =
@@ -79,22 +37,22 @@ pub read-tide-spec : {M : Type 1} → statement M
 read-tide-spec =
     tie.close
     (tie.spec
-    bit-length-requires
-    read-field-requires
-    enum-known-less
-    enum-told
+    (λ c κs. search needs)
+    (λ c κs. search needs)
+    (λ c. search needs)
+    (λ c. search needs)
     returns
-    cast-if1
+    (λ c. search needs)
     returns-2
-    add-read-row
+    (λ c. search needs)
     read-row-requires
-    enum-told-2
-    enum-told-3
-    same-length
+    (λ c. search needs)
+    (λ c. search needs)
+    (λ c. search needs)
     returns-3
-    add-kinds
-    cast-kinds
-    slice-write-kinds
-    same-length-2
-    same-length-3
+    (λ c. search needs)
+    (λ c. search needs)
+    (λ c. search needs)
+    (λ c. search needs)
+    (λ c. search needs)
     returns-4)

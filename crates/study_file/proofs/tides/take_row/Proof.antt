@@ -19,20 +19,8 @@ abbrev μ-loop : tie.MeasureT-loop
 loop-holds : tie.Need-loop-holds Inv-loop μ-loop
 loop-holds c = (omega arith, row-none _ _, refl)
 
-mul-read-field : tie.Need-mul-read-field Inv-loop μ-loop
-mul-read-field c = omega arith
-
-add-read-field : tie.Need-add-read-field Inv-loop μ-loop
-add-read-field c = omega arith
-
 read-field-requires : tie.Need-read-field-requires Inv-loop μ-loop
 read-field-requires c κs = record { wide = omega arith; narrow = omega arith; low = omega arith }
-
-enum-known-x : tie.Need-enum-known-x Inv-loop μ-loop
-enum-known-x c = search needs
-
-enum-told : tie.Need-enum-told Inv-loop μ-loop
-enum-told c = search needs
 
 same-length : tie.Need-same-length Inv-loop μ-loop
 same-length c = c .before .before .before .before .loop .inv .2
@@ -42,35 +30,8 @@ returns c =
     let args = c .before .before .before .before .before .before .before .args in
     absurd (no-end (args .file .now) (args .start + 20 * c .before .before .before .before .loop .i) 20 (c .before .before .read-field .ensures) (c .enum-told .given .1) (omega arith))
 
-mul-near : tie.Need-mul-near Inv-loop μ-loop
-mul-near c = omega arith
-
-add-near : tie.Need-add-near Inv-loop μ-loop
-add-near c = omega arith
-
-mul-near-2 : tie.Need-mul-near-2 Inv-loop μ-loop
-mul-near-2 c = omega arith
-
-slice-write-near : tie.Need-slice-write-near Inv-loop μ-loop
-slice-write-near c = omega arith
-
-mul-near-3 : tie.Need-mul-near-3 Inv-loop μ-loop
-mul-near-3 c = omega arith
-
-add-near-2 : tie.Need-add-near-2 Inv-loop μ-loop
-add-near-2 c = omega arith
-
-mul-near-4 : tie.Need-mul-near-4 Inv-loop μ-loop
-mul-near-4 c = omega arith
-
 slice-write-near-2 : tie.Need-slice-write-near-2 Inv-loop μ-loop
 slice-write-near-2 c = simp length-set (omega arith)
-
-add-i : tie.Need-add-i Inv-loop μ-loop
-add-i c = omega arith
-
-loop-less : tie.Need-loop-less Inv-loop μ-loop
-loop-less c = omega arith
 
 loop-again : tie.Need-loop-again Inv-loop μ-loop
 loop-again c =
@@ -91,23 +52,23 @@ take-row-spec =
     Inv-loop
     μ-loop
     loop-holds
-    mul-read-field
-    add-read-field
+    (λ c. omega arith)
+    (λ c. omega arith)
     read-field-requires
-    enum-known-x
-    enum-told
+    (λ c. search needs)
+    (λ c. search needs)
     same-length
     returns
-    mul-near
-    add-near
-    mul-near-2
-    slice-write-near
-    mul-near-3
-    add-near-2
-    mul-near-4
+    (λ c. omega arith)
+    (λ c. omega arith)
+    (λ c. omega arith)
+    (λ c. omega arith)
+    (λ c. omega arith)
+    (λ c. omega arith)
+    (λ c. omega arith)
     slice-write-near-2
-    add-i
-    loop-less
+    (λ c. omega arith)
+    (λ c. omega arith)
     loop-again
     same-length-2
     returns-2)

@@ -10,13 +10,10 @@ use Rattle.study_file.proofs.writing.kept.Tie as tie
 returns : tie.Need-returns
 returns c = (ap (λ t. cond t 0 (c .before .args .x)) (sym (eq-eqb (c .before .args .j) 0 (c .if1 .taken))), omega arith)
 
-wide-requires : tie.Need-wide-requires
-wide-requires c κs = search needs
-
 returns-2 : tie.Need-returns-2
 returns-2 c =
     let args = c .before .before .args in
     (c .wide .ensures .0 ∙ ap (λ t. cond t 0 (args .x)) (sym (ne-eqb (args .j) 0 (c .before .if1 .left))), c .wide .ensures .1)
 
 pub kept-spec : {M : Type 1} → statement M
-kept-spec = tie.close (tie.spec returns wide-requires returns-2)
+kept-spec = tie.close (tie.spec returns (λ c κs. search needs) returns-2)

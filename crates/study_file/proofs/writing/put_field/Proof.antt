@@ -18,47 +18,11 @@ abbrev μ-loop : tie.MeasureT-loop
 loop-holds : tie.Need-loop-holds Inv-loop μ-loop
 loop-holds c = (omega arith, adds-none _ _)
 
-add-taken : tie.Need-add-taken Inv-loop μ-loop
-add-taken c = omega arith
-
-sub-taken : tie.Need-sub-taken Inv-loop μ-loop
-sub-taken c = omega arith
-
-taken-requires : tie.Need-taken-requires Inv-loop μ-loop
-taken-requires c κs = omega arith
-
-sub-rest : tie.Need-sub-rest Inv-loop μ-loop
-sub-rest c = omega arith
-
-sub-rest-2 : tie.Need-sub-rest-2 Inv-loop μ-loop
-sub-rest-2 c = omega arith
-
-cast-rest : tie.Need-cast-rest Inv-loop μ-loop
-cast-rest c = omega arith
-
-cast-bits : tie.Need-cast-bits Inv-loop μ-loop
-cast-bits c = omega arith
-
-add-put-part : tie.Need-add-put-part Inv-loop μ-loop
-add-put-part c = omega arith
-
-shr-put-part : tie.Need-shr-put-part Inv-loop μ-loop
-shr-put-part c = omega arith
-
-shl-put-part : tie.Need-shl-put-part Inv-loop μ-loop
-shl-put-part c = omega arith
-
 rem-put-part : tie.Need-rem-put-part Inv-loop μ-loop
 rem-put-part c = rw (one-moved (c .before .taken .result) (omega arith)) (pow-pos (c .before .taken .result))
 
 put-part-requires : tie.Need-put-part-requires Inv-loop μ-loop
 put-part-requires c κs = ((c .before .taken .ensures .0, c .before .taken .ensures .2), (bits-small _ (c .before .taken .result) (omega arith), omega (arith, c .before .before .before .loop .inv .1 .same)))
-
-add-done : tie.Need-add-done Inv-loop μ-loop
-add-done c = omega arith
-
-loop-less : tie.Need-loop-less Inv-loop μ-loop
-loop-less c = omega arith
 
 loop-again : tie.Need-loop-again Inv-loop μ-loop
 loop-again c =
@@ -81,20 +45,20 @@ put-field-spec =
     Inv-loop
     μ-loop
     loop-holds
-    add-taken
-    sub-taken
-    taken-requires
-    sub-rest
-    sub-rest-2
-    cast-rest
-    cast-bits
-    add-put-part
-    shr-put-part
-    shl-put-part
+    (λ c. omega arith)
+    (λ c. omega arith)
+    (λ c κs. omega arith)
+    (λ c. omega arith)
+    (λ c. omega arith)
+    (λ c. omega arith)
+    (λ c. omega arith)
+    (λ c. omega arith)
+    (λ c. omega arith)
+    (λ c. omega arith)
     rem-put-part
     put-part-requires
-    add-done
-    loop-less
+    (λ c. omega arith)
+    (λ c. omega arith)
     loop-again
     same-length
     returns)

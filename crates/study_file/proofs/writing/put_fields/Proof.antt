@@ -6,9 +6,6 @@ use borrow.Author.Needs.{needs}
 use Rattle.study_file.proofs.writing.put_fields.Statement.{statement}
 use Rattle.study_file.proofs.writing.put_fields.Tie as tie
 
-cast-k : tie.Need-cast-k
-cast-k c = search needs
-
 put-head-requires : tie.Need-put-head-requires
 put-head-requires c κs =
     let args = c .before .before .before .before .before .before .before .args in
@@ -20,12 +17,6 @@ put-minima-requires c κs =
     let pre = c .before .before .before .before .before .before .before .before .before .before .before .pre in
     (pre .dataset .k-high, omega (arith, c .before .before .before .put-head .ensures .same, minima-room (stateOf (args .dataset) (args .distances .now) (args .settings .now)) _ (pre)))
 
-put-tides-requires : tie.Need-put-tides-requires
-put-tides-requires c κs = search needs
-
-same-length : tie.Need-same-length
-same-length c = search needs
-
 returns : tie.Need-returns
 returns c =
     let args = c .before .before .before .before .before .before .before .before .before .before .before .before .before .before .before .before .before .before .args in
@@ -34,4 +25,4 @@ returns c =
 pub put-fields-spec : {M : Type 1} → statement M
 put-fields-spec =
     tie.close
-    (tie.spec cast-k put-head-requires put-minima-requires put-tides-requires same-length returns)
+    (tie.spec (λ c. search needs) put-head-requires put-minima-requires (λ c κs. search needs) (λ c. search needs) returns)

@@ -18,32 +18,8 @@ abbrev μ-loop : tie.MeasureT-loop
 loop-holds : tie.Need-loop-holds Inv-loop μ-loop
 loop-holds c = (omega arith, run-none _ _ 20 _)
 
-mul-put-field : tie.Need-mul-put-field Inv-loop μ-loop
-mul-put-field c = omega arith
-
-add-put-field : tie.Need-add-put-field Inv-loop μ-loop
-add-put-field c = omega arith
-
-mul-put-field-2 : tie.Need-mul-put-field-2 Inv-loop μ-loop
-mul-put-field-2 c = omega arith
-
-add-put-field-2 : tie.Need-add-put-field-2 Inv-loop μ-loop
-add-put-field-2 c = omega arith
-
-mul-put-field-3 : tie.Need-mul-put-field-3 Inv-loop μ-loop
-mul-put-field-3 c = omega arith
-
-shared-slice-read-put-field : tie.Need-shared-slice-read-put-field Inv-loop μ-loop
-shared-slice-read-put-field c = omega arith
-
 put-field-requires : tie.Need-put-field-requires Inv-loop μ-loop
 put-field-requires c κs = ((omega arith, omega (arith, c .before .before .before .loop .inv .1 .same)), omega arith)
-
-add-i : tie.Need-add-i Inv-loop μ-loop
-add-i c = omega arith
-
-loop-less : tie.Need-loop-less Inv-loop μ-loop
-loop-less c = omega arith
 
 loop-again : tie.Need-loop-again Inv-loop μ-loop
 loop-again c =
@@ -63,15 +39,15 @@ put-row-spec =
     Inv-loop
     μ-loop
     loop-holds
-    mul-put-field
-    add-put-field
-    mul-put-field-2
-    add-put-field-2
-    mul-put-field-3
-    shared-slice-read-put-field
+    (λ c. omega arith)
+    (λ c. omega arith)
+    (λ c. omega arith)
+    (λ c. omega arith)
+    (λ c. omega arith)
+    (λ c. omega arith)
     put-field-requires
-    add-i
-    loop-less
+    (λ c. omega arith)
+    (λ c. omega arith)
     loop-again
     same-length
     returns)

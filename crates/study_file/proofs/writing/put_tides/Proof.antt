@@ -15,9 +15,6 @@ Inv-loop file₀ dataset distances settings k n t₀ file t = (t ≤ n) × Puts 
 abbrev μ-loop : tie.MeasureT-loop
 μ-loop file₀ dataset distances settings k n t₀ file t = n - t
 
-cast-k : tie.Need-cast-k Inv-loop μ-loop
-cast-k c = omega arith
-
 loop-holds : tie.Need-loop-holds Inv-loop μ-loop
 loop-holds c =
     let args = c .before .before .before .before .args in
@@ -33,12 +30,6 @@ put-tide-requires c κs =
     let args = c .before .before .before .before .before .before .before .before .args in
     let turn = c .before .before .before .loop in
     tide-room (stateOf (args .dataset) (args .distances .now) (args .settings .now)) _ (c .before .before .before .before .before .before .before .before .pre) (turn .file) (turn .inv .1 .same) (turn .t) (c .before .bit-length .result) (c .before .before .loop-test .taken) (c .before .bit-length .ensures .0)
-
-add-t : tie.Need-add-t Inv-loop μ-loop
-add-t c = omega arith
-
-loop-less : tie.Need-loop-less Inv-loop μ-loop
-loop-less c = omega arith
 
 loop-again : tie.Need-loop-again Inv-loop μ-loop
 loop-again c =
@@ -60,12 +51,12 @@ put-tides-spec =
     (tie.spec
     Inv-loop
     μ-loop
-    cast-k
+    (λ c. omega arith)
     loop-holds
     bit-length-requires
     put-tide-requires
-    add-t
-    loop-less
+    (λ c. omega arith)
+    (λ c. omega arith)
     loop-again
     same-length
     returns)
