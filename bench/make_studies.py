@@ -150,8 +150,7 @@ def growing(n):
 
 def searched(n):
     """Blocks of two as in growing, with distances by a formula whose numbers
-    were searched for slowness: hundreds of candidates each let one more tide
-    help."""
+    were searched for slowness."""
     r = Random(n + 9)
     R = 400_000
     centres = n // 2
@@ -171,8 +170,8 @@ def searched(n):
 
 
 def diagonal(n):
-    """Blocks of three: centres and the tides around them change with nearly
-    every candidate."""
+    """Blocks of three, with distances by the sum of two tides' numbers: the
+    first list takes hundreds of searches."""
     R = 100_000
     centres = n // 3
     table = {}

@@ -6,10 +6,9 @@ use mathlib.Core.List.{List}
 use lib.ListN.{length, getD, List·getD-append}
 use Rattle.lists.specs.Lists.{tabulate}
 use Rattle.lists.specs.Tables.{length-tabulate, getD-tabulate}
-use Rattle.study.specs.Study.{Tide, size, noTide, tide, distance}
+use Rattle.study.specs.Study.{Tide, size, noTide, tide}
 use Rattle.file_format.specs.Bits.{bitsAt}
 use Rattle.file_format.specs.File.{bitLength, tideAt, minimaAt, decoded}
-use Rattle.file_format.specs.DistanceLaws.{distance-row}
 
 module _ (s : List ℕ) where
   abbrev k : ℕ
@@ -43,6 +42,3 @@ module _ (s : List ℕ) where
     pub decoded-row : (i : ℕ) → i < t → getD (tide (decoded s .study) t .row) i 0 ≡ bitsAt s (bitLength (bitsAt s 15 4) t + 3 + 20 * i) 20
     unfolding tideAt
     decoded-row i l = ap (λ (x : Tide). getD (x .row) i 0) decoded-tide ∙ getD-tabulate t _ i 0 l
-
-    pub decoded-distance : (i : ℕ) → i < t → distance (decoded s .study) t i ≡ bitsAt s (bitLength (bitsAt s 15 4) t + 3 + 20 * i) 20
-    decoded-distance i l = distance-row (decoded s .study) t i l ∙ decoded-row i l

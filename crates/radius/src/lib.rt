@@ -136,6 +136,7 @@ fn ascend(
         allowed,
         list,
     );
+    // there is one: once more, for its table and list
     assignable(
         distances,
         settings,

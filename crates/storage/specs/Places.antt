@@ -210,9 +210,6 @@ movedSetting g m t = cond (leb 120 (skip m t)) 0 (getD g (skip m t) 0)
 skip-low : (m t : ℕ) → t ≤ skip m t
 skip-low m t = ⊎-elim (λ q. omega (arith, q .1)) (λ q. omega (arith, q .1)) (skip-is m t)
 
-skip-high : (m t : ℕ) → skip m t ≤ suc t
-skip-high m t = ⊎-elim (λ q. omega (arith, q .1)) (λ q. omega (arith, q .1)) (skip-is m t)
-
 module _ (d : List ℕ) (m p : ℕ) {i j : ℕ} (e : i ≡ skip m (p / 120)) (f : j ≡ skip m (p % 120)) where
   pub moved-no-row : 120 ≤ i → 0 ≡ movedDistance d m p
   unfolding movedDistance
