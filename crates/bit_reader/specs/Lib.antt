@@ -1,3 +1,2 @@
 -- What the reader answers: Fields. Laws of it: FieldLaws.
 pub mod Fields
-pub mod FieldLaws

@@ -1,6 +1,3 @@
 pub mod Answers
-pub mod Linked
-pub mod CentresLaws
 pub mod Rows
-pub mod BlockLaws
-pub mod JudgeLaws
+pub mod Told

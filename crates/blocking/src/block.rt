@@ -12,7 +12,7 @@ ghost use Rattle.study.specs.Refusals.{verdictOf};
 ghost use Rattle.study.specs.Calls.{blockedOf};
 ghost use Rattle.validity.specs.Memory.{stateOf};
 ghost use Rattle.blocking.specs.Answers.{blockAnswer, blockReply, blockList};
-ghost use Rattle.blocking.specs.BlockLaws.{BlockTold};
+ghost use Rattle.blocking.specs.Told.{BlockTold};
 ghost use Rattle.blocking.specs.Rows.{RowsOf};
 
 // The records of the blocks as rows of numbers: centres' tide numbers, numbers of tides, diameters.

@@ -10,7 +10,7 @@ ghost use Rattle.lists.specs.Lists.{overwrite};
 ghost use Rattle.study.specs.Refusals.{verdictOf};
 ghost use Rattle.validity.specs.Memory.{stateOf};
 ghost use Rattle.blocking.specs.Answers.{centresAnswer, centresFront, centresLeaves};
-ghost use Rattle.blocking.specs.CentresLaws.{CentresTold};
+ghost use Rattle.blocking.specs.Told.{CentresTold};
 
 // The answer, and how many centres stand in the front of the list.
 pub struct Counted {

@@ -19,7 +19,7 @@ ghost use Rattle.study.specs.Calls.{judgedOf};
 ghost use Rattle.radius.specs.Tally.{Tallied};
 ghost use Rattle.validity.specs.Memory.{stateOf};
 ghost use Rattle.blocking.specs.Answers.{judgeAnswer, judgeReply};
-ghost use Rattle.blocking.specs.JudgeLaws.{Listed};
+ghost use Rattle.blocking.specs.Told.{Listed};
 
 // The answer alone: whether the list is judged at all.
 fn judge_answer(dataset: Dataset, distances: &[u32], settings: &[u8], list: &[u8]) -> Answer

@@ -10,6 +10,7 @@ ghost use Prim.Native.Nat.{ℕ, _+_, _<_, _≤_};
 ghost use lib.ListN.{length, drop};
 ghost use Rattle.lists.specs.Lists.{overwrite};
 ghost use Rattle.study.specs.Problem.{labels, blocking};
+ghost use Rattle.promise.specs.Promise.{meeting, Able};
 ghost use Rattle.radii.specs.Posed.{posed, Proper, Sized};
 ghost use Rattle.blocks.specs.Core.{Assigns, Blocks};
 
@@ -45,10 +46,10 @@ fn assign(
     centres: &mut [usize; 120],
     list: &mut [u8],
 ) -> Found
-    requires { ⌜ Sized (now distances) (now settings) n minima ⌝ }
-    requires { ⌜ Proper (now distances) (now settings) n minima ⌝ }
+    requires { ⌜ Sized (Able minima n (now settings)) (now distances) n ⌝ }
+    requires { ⌜ Proper (now distances) n (meeting minima n (now settings)) ⌝ }
     requires { ⌜ (0 < n) × (length (now centres) ≡ 120) × (n ≤ length (now list)) ⌝ }
-    ensures { λ r. ⌜ Assigns (now (distances .entry)) (now (settings .entry)) n minima (r .radius) (r .count) (now (centres .exit)) (now (list .entry)) (now (list .exit)) ⌝ }
+    ensures { λ r. ⌜ Assigns (now (distances .entry)) n (meeting minima n (now (settings .entry))) (r .radius) (r .count) (now (centres .exit)) (now (list .entry)) (now (list .exit)) ⌝ }
 {
     let mut allowed: [u8; 14400] = [0; 14400];
     let found = least_radius(distances, settings, n, minima, centres, &mut allowed, list);
@@ -66,11 +67,11 @@ pub fn block_rows(
     minima: Minima,
     list: &mut [u8],
 ) -> Rows
-    requires { ⌜ Sized (now distances) (now settings) n minima ⌝ }
-    requires { ⌜ Proper (now distances) (now settings) n minima ⌝ }
+    requires { ⌜ Sized (Able minima n (now settings)) (now distances) n ⌝ }
+    requires { ⌜ Proper (now distances) n (meeting minima n (now settings)) ⌝ }
     requires { ⌜ (0 < n) × (n ≤ length (now list)) ⌝ }
-    ensures { λ r. ⌜ Blocks (now (distances .entry)) (now (settings .entry)) n minima (r .count) (r .radius) (r .widest) (r .centres) (r .sizes) (r .diameters) ⌝ }
-    ensures { λ _. ⌜ now (list .exit) ≡ blocking (posed (now (distances .entry)) (now (settings .entry)) n minima) ++ drop n (now (list .entry)) ⌝ }
+    ensures { λ r. ⌜ Blocks (now (distances .entry)) n (meeting minima n (now (settings .entry))) (r .count) (r .radius) (r .widest) (r .centres) (r .sizes) (r .diameters) ⌝ }
+    ensures { λ _. ⌜ now (list .exit) ≡ blocking (posed (now (distances .entry)) n (meeting minima n (now (settings .entry)))) ++ drop n (now (list .entry)) ⌝ }
 {
     let mut centres: [usize; 120] = [0; 120];
     let found = assign(distances, settings, n, minima, &mut centres, list);

@@ -1,6 +1,6 @@
 // The first assignment in dictionary order, through the promise of the matching search alone.
 use matching::search;
-use matching::table::first_allowed;
+use promise::table::first_allowed;
 use radius::counts::wide;
 use study::Minima;
 ghost use mathlib.Core.Path.{_≡_};
@@ -8,7 +8,8 @@ ghost use Prim.Native.Nat.{ℕ, _<_, _≤_};
 ghost use lib.ListN.{length};
 ghost use Rattle.lists.specs.Lists.{overwrite};
 ghost use Rattle.study.specs.Problem.{labels};
-ghost use Rattle.matching.specs.Promise.{Assigned, Asked};
+ghost use Rattle.promise.specs.Promise.{Assigned, Asked};
+ghost use Rattle.promise.specs.Promise.{meeting, Able};
 ghost use Rattle.radius.specs.Ascents.{Kept};
 ghost use Rattle.blocks.specs.Narrowed.{Narrowed};
 ghost use Rattle.blocks.specs.First.{First, Tried, Settled};
@@ -46,8 +47,8 @@ fn try_search(
     allowed: &[u8],
     list: &mut [u8],
 ) -> bool
-    requires { ⌜ Asked n blocks minima (now settings) (now allowed) (now list) ⌝ }
-    ensures { λ r. ⌜ Tried n blocks minima (now (settings .entry)) (now (allowed .entry)) (now (list .entry)) (now (list .exit)) r ⌝ }
+    requires { ⌜ Asked (Able minima n (now settings)) n blocks (now allowed) (now list) ⌝ }
+    ensures { λ r. ⌜ Tried n blocks (meeting minima n (now (settings .entry))) (now (allowed .entry)) (now (list .entry)) (now (list .exit)) r ⌝ }
 {
     let mut trial: [u8; 120] = [0; 120];
     copy(list, &mut trial, n);
@@ -70,10 +71,10 @@ fn lower(
     t: usize,
     v: usize,
 ) -> bool
-    requires { ⌜ Asked n blocks minima (now settings) (now allowed) (now list) ⌝ }
+    requires { ⌜ Asked (Able minima n (now settings)) n blocks (now allowed) (now list) ⌝ }
     requires { ⌜ (t < n) × (v < 120) ⌝ }
     ensures { λ _. ⌜ Narrowed t (λ (m : ℕ). m < v) (now (allowed .entry)) (now (allowed .exit)) ⌝ }
-    ensures { λ r. ⌜ Tried n blocks minima (now (settings .entry)) (now (allowed .exit)) (now (list .entry)) (now (list .exit)) r ⌝ }
+    ensures { λ r. ⌜ Tried n blocks (meeting minima n (now (settings .entry))) (now (allowed .exit)) (now (list .entry)) (now (list .exit)) r ⌝ }
 {
     cut(allowed, t, v);
     if first_allowed(allowed, t, v) >= v {
@@ -92,10 +93,10 @@ fn settle(
     list: &mut [u8],
     t: usize,
 )
-    requires { ⌜ Asked n blocks minima (now settings) (now allowed) (now list) ⌝ }
-    requires { ⌜ Assigned n blocks minima (now settings) (now allowed) (labels (now list)) ⌝ }
+    requires { ⌜ Asked (Able minima n (now settings)) n blocks (now allowed) (now list) ⌝ }
+    requires { ⌜ Assigned n blocks (meeting minima n (now settings)) (now allowed) (labels (now list)) ⌝ }
     requires { ⌜ t < n ⌝ }
-    ensures { λ _. ⌜ Settled n blocks minima (now (settings .entry)) t (now (allowed .entry)) (now (allowed .exit)) (now (list .exit)) ⌝ }
+    ensures { λ _. ⌜ Settled n blocks (meeting minima n (now (settings .entry))) t (now (allowed .entry)) (now (allowed .exit)) (now (list .exit)) ⌝ }
     ensures { λ _. ⌜ Kept n (now (list .entry)) (now (list .exit)) ⌝ }
 {
     let mut v = wide(list[t]);
@@ -115,9 +116,9 @@ pub fn first_assignment(
     allowed: &mut [u8],
     list: &mut [u8],
 )
-    requires { ⌜ Asked n blocks minima (now settings) (now allowed) (now list) ⌝ }
-    requires { ⌜ Assigned n blocks minima (now settings) (now allowed) (labels (now list)) ⌝ }
-    ensures { λ _. ⌜ First n blocks minima (now (settings .entry)) (now (allowed .entry)) (now (list .exit)) ⌝ }
+    requires { ⌜ Asked (Able minima n (now settings)) n blocks (now allowed) (now list) ⌝ }
+    requires { ⌜ Assigned n blocks (meeting minima n (now settings)) (now allowed) (labels (now list)) ⌝ }
+    ensures { λ _. ⌜ First n blocks (meeting minima n (now (settings .entry))) (now (allowed .entry)) (now (list .exit)) ⌝ }
     ensures { λ _. ⌜ Kept n (now (list .entry)) (now (list .exit)) ⌝ }
 {
     let mut t = 0;

@@ -6,7 +6,7 @@ use study::Refusal;
 ghost use mathlib.Core.Path.{_≡_};
 ghost use Rattle.study.specs.Refusals.{numbered, refused, verdictOf};
 ghost use Rattle.c_api.specs.Api.{code};
-ghost use Rattle.c_api.specs.CodeLaws.{Narrow};
+ghost use Rattle.c_api.specs.Records.{Narrow};
 
 pub fn refusal_code(why: Refusal) -> u32
     requires { ⌜ Narrow (refused (numbered why)) ⌝ }

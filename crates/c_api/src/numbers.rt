@@ -10,8 +10,8 @@ ghost use lib.ListN.{length, getD};
 ghost use Rattle.lists.specs.Lists.{tabulate};
 ghost use Rattle.study.specs.Refusals.{verdictOf, settled};
 ghost use Rattle.c_api.specs.Api.{minimaAt, numbersOf, over, code};
-ghost use Rattle.c_api.specs.RecordLaws.{cut, datasetBy};
-ghost use Rattle.c_api.specs.CallLaws.{Storable};
+ghost use Rattle.c_api.specs.Records.{cut, datasetBy};
+ghost use Rattle.c_api.specs.Records.{Storable};
 
 // A number that must be a byte. Above 255 it is 255, which no dataset has in its place.
 fn byte(x: u16) -> u8

@@ -10,7 +10,7 @@ ghost use mathlib.Core.List.{[]};
 ghost use Rattle.study.specs.Refusals.{verdictOf};
 ghost use Rattle.validity.specs.Memory.{stateOf};
 ghost use Rattle.dataset.specs.Answers.{heldAnswer, openAnswer, openLeaves, minimaAnswer, minimaLeaves, enterAnswer, enterLeaves, withdrawAnswer, withdrawLeaves};
-ghost use Rattle.dataset.specs.Ways.{Passed, EnterTold, WithdrawTold};
+ghost use Rattle.dataset.specs.Told.{Passed, EnterTold, WithdrawTold};
 
 // The dataset becomes empty, whatever it was.
 pub fn open(dataset: Dataset, distances: &mut [u32], settings: &mut [u8], k: u8) -> Outcome

@@ -1,5 +1,5 @@
 -- Fields packed into bytes, most significant bit first, and the numbers that the bits of a list of bytes form. Assumes nothing.
-use Prim.Native.Nat.{ℕ, zero, suc, _+_, _-_, _*_, _/_, _%_, _^_}
+use Prim.Native.Nat.{ℕ, zero, suc, _+_, _-_, _*_, _/_, _%_, _^_, _<_}
 use mathlib.Core.List.{List, [], _∷_, _++_, flatMap}
 use lib.ListN.{length, getD}
 use Rattle.lists.specs.Lists.{tabulate}
@@ -43,3 +43,6 @@ pack m f = tabulate m (λ i. binary f (8 * i) 8)
 -- the bytes that the bits bs fill, with zero bits to the last byte
 unfoldable pub packed : List ℕ → List ℕ
 packed bs = pack ((length bs + 7) / 8) (λ p. getD bs p 0)
+
+abbrev pub Bits : (ℕ → ℕ) → Type 0
+Bits f = (p : ℕ) → f p < 2

@@ -1,91 +1,201 @@
--- Document 01's cases marked P, 1 to 8, as one list under one theorem, by computation; and the order of Read's reasons. Assumes nothing.
-use Prim.Native.Nat.{ℕ}
-use mathlib.Core.Path.{_≡_, refl}
-use mathlib.Core.List.{List, [], _∷_, _++_, map, flatMap, headD}
-use Rattle.lists.specs.Lists.{every, sum, count, greatest, tabulate}
-use Rattle.study.specs.Problem.{centresAmong, centres, centreOf, choices, block, labels, allSufficient, assignments, assignable, candidates, radius, blocking, diameter, greatestDiameter, feasible}
-use Rattle.study.specs.Study.{Contents, noTide, tide, distance, meets, sufficient, problem, validMinima}
-use Rattle.study.specs.Refusals.{number, seven, Verdict, accepted, refused, firstOf}
-use Rattle.study.specs.Calls.{triangle, breaking, opened, opening, entered, entering, enterReasons, blockReasons}
-use Rattle.study.specs.Cases as Line
-use Rattle.file_format.specs.Bits.{binary, allBits, pack, packed}
-use Rattle.file_format.specs.File.{tideFields, fields, fileOf, bitLength, byteLength, tideAt, minimaAt, decoded, headReasons, tideReasons, readReasons}
+-- Document 01's "Tides on a line", the cases marked P, as one list of questions and replies; and the order of Read's reasons. The questions
+-- ask the definitions that the contracts of the calls cite. There are no proofs here: `worked-cases`, `valid-studies` and `in-order` of
+-- CasesProof.antt prove the three statements. Assumes nothing.
+use Prim.Native.Nat.{ℕ, _+_, _-_}
+use mathlib.Core.Path.{_≡_}
+use mathlib.Core.Bool.{Bool, true, false}
+use mathlib.Core.List.{List, [], _∷_, map, flatMap}
+use lib.ListN.{length, getD, take}
+use Rattle.lists.specs.Lists.{_among_, tabulate}
+use Rattle.study.specs.declared.BlockRecord.{BlockRecord}
+use Rattle.study.specs.Problem.{assignable, blocking}
+use Rattle.study.specs.Study.{Tide, Study, Contents, size, problem, Valid}
+use Rattle.study.specs.Refusals.{number, seven, Reply, value, refusal, replied, firstOf}
+use Rattle.study.specs.Calls.{opening, enterReasons, entering, blockReasons, Figures, figures, blockRecord, judgeReasons, Judgement, approval, judgement}
+use Rattle.file_format.specs.File.{fileOf, decoded, readReasons}
+
+-- ---- studies
+
+-- tide t of those at these positions, with these settings (1 where the list ends): distance is the difference of positions
+unfoldable pub tideOn : List ℕ → List ℕ → ℕ → Tide
+tideOn settings positions t =
+    let p = getD positions t 0 in
+    record { setting = getD settings t 1; row = map (λ q. (q - p) + (p - q)) (take t positions) }
+
+-- k, b0, the b's (0 where the list ends), settings and positions
+unfoldable pub line : ℕ → ℕ → List ℕ → List ℕ → List ℕ → Study
+line k b0 b settings positions =
+    record {
+      k = k;
+      minima = record { b0 = b0; b = tabulate 8 (λ j. getD b j 0) };
+      tides = tabulate (length positions) (tideOn settings positions);
+    }
+
+-- where not given, k = 1 and each b is 0
+unfoldable pub plain : ℕ → List ℕ → Study
+plain b0 positions = line 1 b0 [] [] positions
+
+-- nothing withdrawn
+abbrev pub fresh : Study → Contents
+fresh S = record { study = S; withdrawals = 0 }
+
+-- ---- questions and replies
 
 pub data Question : Type 0 where
-  of-study : Line.Question → Question
+  -- Block, lent a list and records of n places
+  block-of : Study → Question
+  -- whether there is an assignment (document 01: filling) at g
+  assignable-at : Study → ℕ → Question
+  -- Judge, given a list
+  judge : Study → List ℕ → Question
+  -- Enter, given a setting and a row
+  enter : Study → ℕ → List ℕ → Question
+  -- Write, and Read of given bytes
   write : Contents → Question
   read : List ℕ → Question
 
-pub data Reply : Type 0 where
-  from-study : Line.Reply → Reply
-  file : List ℕ → Reply
-  holds : Contents → Reply
-  verdict : Verdict → Reply
+pub data Found : Type 0 where
+  -- Block's figures, list and records
+  blocked : Figures → List ℕ → List BlockRecord → Found
+  is : Bool → Found
+  judged : Judgement → Found
+  -- what is held after Enter or Read
+  holds : Contents → Found
+  file : List ℕ → Found
 
-unfoldable pub readReply : List ℕ → Verdict → Reply
-readReply s accepted = holds (decoded s)
-readReply s (refused r) = verdict (refused r)
-
-unfoldable pub reply : Question → Reply
-reply (of-study q) = from-study (Line.reply q)
-reply (write H) = file (fileOf H)
-reply (read s) = readReply s (firstOf (readReasons s))
+-- the first reason of the call that holds, or what the call answers and leaves
+unfoldable pub reply : Question → Reply Found
+reply (block-of S) =
+    replied (firstOf (blockReasons S (size S) (size S)))
+    (blocked (figures S) (blocking (problem S)) (tabulate (figures S .blocks) (blockRecord S)))
+reply (assignable-at S g) = value (is (assignable (problem S) g))
+reply (judge S list) = replied (firstOf (judgeReasons S list)) (judged (judgement S list))
+reply (enter S setting row) = replied (firstOf (enterReasons S setting row)) (holds (entering setting row (fresh S)))
+reply (write H) = value (file (fileOf H))
+reply (read s) = replied (firstOf (readReasons s)) (holds (decoded s))
 
 pub record Case : Type 0 where
   pub asked : Question
-  pub given : Reply
+  pub given : Reply Found
 
 infix 10 _gives_
-abbrev pub _gives_ : Question → Reply → Case
+abbrev pub _gives_ : Question → Reply Found → Case
 q gives r = record { asked = q; given = r }
 
--- one tide, k = 1, b0 = 1
-unfoldable pub one-tide : Contents
-one-tide = entering 1 [] (opening 1)
+-- each question gets the reply that stands beside it
+abbrev pub AsGiven : List Case → Type 0
+AsGiven cs = map (λ (c : Case). reply (c .asked)) cs ≡ map (λ (c : Case). c .given) cs
+
+-- block count, radius (document 01: reach), greatest diameter (widest)
+abbrev pub figuresOf : ℕ → ℕ → ℕ → Figures
+figuresOf c r w = record { blocks = c; radius = r; widest = w }
+
+-- centre, tides, diameter
+abbrev pub recordOf : ℕ → ℕ → ℕ → BlockRecord
+recordOf c t d = record { centre = c; tides = t; diameter = d }
+
+-- ---- the worked cases
+
+unfoldable pub case1 : Study
+case1 = plain 3 (2 ∷ 5 ∷ 0 ∷ 1 ∷ 3 ∷ 7 ∷ [])
+
+unfoldable pub case2 : Study
+case2 = line 2 2 (1 ∷ 1 ∷ []) (1 ∷ 2 ∷ 1 ∷ 2 ∷ []) (0 ∷ 1 ∷ 10 ∷ 11 ∷ [])
+
+unfoldable pub case3 : Study
+case3 = plain 2 (2 ∷ 0 ∷ 2 ∷ 4 ∷ [])
+
+unfoldable pub case4 : Study
+case4 = plain 2 (0 ∷ 10 ∷ 5 ∷ 5 ∷ 5 ∷ [])
+
+-- two tides at 3
+unfoldable pub case7 : Study
+case7 = plain 1 (0 ∷ 3 ∷ [])
+
+-- the printed sheet's: one tide, k = 1, b0 = 1
+unfoldable pub one-tide : Study
+one-tide = plain 1 (0 ∷ [])
 
 unfoldable pub cases : List Case
 cases =
-    -- 1 to 7
-    map (λ (c : Line.Case). of-study (c .asked) gives from-study (c .given)) Line.cases
-    -- 8
-    ++ (write (opening 1) gives file (0x54 ∷ 0x00 ∷ 0x20 ∷ 0x40 ∷ 0x00 ∷ 0x00 ∷ 0x00 ∷ []))
-    ∷ (read (0x54 ∷ 0x00 ∷ 0x20 ∷ 0x40 ∷ 0x00 ∷ 0x00 ∷ 0x00 ∷ []) gives holds (opening 1))
-    ∷ (read (0x54 ∷ 0x00 ∷ 0x20 ∷ 0x40 ∷ 0x00 ∷ 0x00 ∷ 0x01 ∷ []) gives verdict (refused (number 11)))
-    ∷ (read (0x54 ∷ 0x00 ∷ 0x20 ∷ 0x40 ∷ 0x00 ∷ 0x00 ∷ []) gives verdict (refused (number 8)))
+    -- 1: at 3 there is no filling; at 4 there is one again
+    (block-of case1 gives value (blocked (figuresOf 2 2 4) (1 ∷ 2 ∷ 1 ∷ 1 ∷ 2 ∷ 2 ∷ []) (recordOf 1 3 2 ∷ recordOf 2 3 4 ∷ [])))
+    ∷ (assignable-at case1 3 gives value (is false))
+    ∷ (assignable-at case1 4 gives value (is true))
+    -- 2
+    ∷ (block-of case2 gives value (blocked (figuresOf 2 1 1) (1 ∷ 1 ∷ 2 ∷ 2 ∷ []) (recordOf 1 2 1 ∷ recordOf 3 2 1 ∷ [])))
+    -- 3: a division of widest 2 exists
+    ∷ (block-of case3 gives value (blocked (figuresOf 1 2 4) (1 ∷ 1 ∷ 1 ∷ 1 ∷ []) (recordOf 1 4 4 ∷ [])))
+    ∷ (judge case3 (1 ∷ 1 ∷ 2 ∷ 2 ∷ []) gives value (judged (approval 2)))
+    -- 4
+    ∷ (block-of case4 gives value (blocked (figuresOf 2 5 5) (1 ∷ 2 ∷ 1 ∷ 1 ∷ 2 ∷ []) (recordOf 1 3 5 ∷ recordOf 2 2 5 ∷ [])))
+    -- 5
+    ∷ (block-of (plain 1 (0 ∷ 0 ∷ 0 ∷ [])) gives value (blocked (figuresOf 1 0 0) (1 ∷ 1 ∷ 1 ∷ []) (recordOf 1 3 0 ∷ [])))
+    ∷ (block-of (plain 1 (0 ∷ 5 ∷ [])) gives value (blocked (figuresOf 2 0 0) (1 ∷ 2 ∷ []) (recordOf 1 1 0 ∷ recordOf 2 1 0 ∷ [])))
+    -- 6
+    ∷ (block-of (plain 3 (0 ∷ 5 ∷ [])) gives refusal (number 25))
+    ∷ (block-of (plain 2 (0 ∷ 5 ∷ [])) gives value (blocked (figuresOf 1 5 5) (1 ∷ 1 ∷ []) (recordOf 1 2 5 ∷ [])))
+    -- 7: a third tide
+    ∷ (enter case7 1 (1 ∷ 2 ∷ []) gives value (holds (fresh (plain 1 (0 ∷ 3 ∷ 1 ∷ [])))))
+    ∷ (enter case7 1 (1 ∷ 4 ∷ []) gives value (holds (fresh (plain 1 (1 ∷ 4 ∷ 0 ∷ [])))))
+    ∷ (enter case7 1 (1 ∷ 1 ∷ []) gives refusal (seven 1 2))
+    ∷ (enter case7 1 (1 ∷ 5 ∷ []) gives refusal (seven 1 2))
+    -- 8: the empty book with k = 1
+    ∷ (write (opening 1) gives value (file (0x54 ∷ 0x00 ∷ 0x20 ∷ 0x40 ∷ 0x00 ∷ 0x00 ∷ 0x00 ∷ [])))
+    ∷ (read (0x54 ∷ 0x00 ∷ 0x20 ∷ 0x40 ∷ 0x00 ∷ 0x00 ∷ 0x00 ∷ []) gives value (holds (opening 1)))
+    ∷ (read (0x54 ∷ 0x00 ∷ 0x20 ∷ 0x40 ∷ 0x00 ∷ 0x00 ∷ 0x01 ∷ []) gives refusal (number 11))
+    ∷ (read (0x54 ∷ 0x00 ∷ 0x20 ∷ 0x40 ∷ 0x00 ∷ 0x00 ∷ []) gives refusal (number 8))
     -- the file of the printed sheet
-    ∷ (write one-tide gives file (0x54 ∷ 0x02 ∷ 0x20 ∷ 0x40 ∷ 0x00 ∷ 0x00 ∷ 0x00 ∷ []))
+    ∷ (write (fresh one-tide) gives value (file (0x54 ∷ 0x02 ∷ 0x20 ∷ 0x40 ∷ 0x00 ∷ 0x00 ∷ 0x00 ∷ [])))
     ∷ []
 
-pub worked-cases : map (λ (c : Case). reply (c .asked)) cases ≡ map (λ (c : Case). c .given) cases
-unfolding cases Line.cases Line.case1 Line.case3 Line.case7 Line.reply Line.blockReply Line.line Line.onLine blockReasons enterReasons centresAmong centres centreOf choices block labels allSufficient assignments assignable candidates radius blocking diameter greatestDiameter feasible meets sufficient problem count greatest headD reply readReply one-tide opening opened entering entered firstOf readReasons headReasons tideReasons decoded minimaAt tideAt byteLength bitLength fileOf fields tideFields packed pack allBits binary triangle breaking distance tide noTide validMinima every sum tabulate flatMap
-worked-cases = refl
+abbrev pub WorkedCases : Type 0
+WorkedCases = AsGiven cases
+
+-- ---- every study asked about is valid; so its minima have all eight b's and pass reason 3
+
+-- the study that a question asks about
+unfoldable pub studyIn : Question → List Study
+studyIn (block-of S) = S ∷ []
+studyIn (assignable-at S g) = S ∷ []
+studyIn (judge S list) = S ∷ []
+studyIn (enter S setting row) = S ∷ []
+studyIn (write H) = H .study ∷ []
+studyIn (read s) = []
+
+unfoldable pub studies : List Study
+studies = flatMap (λ (c : Case). studyIn (c .asked)) cases
+
+abbrev pub ValidStudies : Type 0
+ValidStudies = (S : Study) → S among studies → Valid S
+
+-- ---- the order of Read's reasons
 
 -- two reasons at once: the earlier one counts
 unfoldable pub order : List Case
 order =
     -- 8, not 9: one byte, mark wrong
-    (read (0x00 ∷ []) gives verdict (refused (number 8)))
+    (read (0x00 ∷ []) gives refusal (number 8))
     -- 9, not 10: mark wrong, n = 127
-    ∷ (read (0x00 ∷ 0xfe ∷ 0x20 ∷ 0x40 ∷ 0x00 ∷ 0x00 ∷ []) gives verdict (refused (number 9)))
+    ∷ (read (0x00 ∷ 0xfe ∷ 0x20 ∷ 0x40 ∷ 0x00 ∷ 0x00 ∷ []) gives refusal (number 9))
     -- 10, not 2: n = 127, k = 0
-    ∷ (read (0x54 ∷ 0xfe ∷ 0x00 ∷ 0x40 ∷ 0x00 ∷ 0x00 ∷ []) gives verdict (refused (number 10)))
+    ∷ (read (0x54 ∷ 0xfe ∷ 0x00 ∷ 0x40 ∷ 0x00 ∷ 0x00 ∷ []) gives refusal (number 10))
     -- 2, not 8: k = 0, a byte too many
-    ∷ (read (0x54 ∷ 0x00 ∷ 0x00 ∷ 0x40 ∷ 0x00 ∷ 0x00 ∷ 0x00 ∷ []) gives verdict (refused (number 2)))
+    ∷ (read (0x54 ∷ 0x00 ∷ 0x00 ∷ 0x40 ∷ 0x00 ∷ 0x00 ∷ 0x00 ∷ []) gives refusal (number 2))
     -- 8, not 3: a byte too few, b0 = 0
-    ∷ (read (0x54 ∷ 0x00 ∷ 0x20 ∷ 0x00 ∷ 0x00 ∷ 0x00 ∷ []) gives verdict (refused (number 8)))
+    ∷ (read (0x54 ∷ 0x00 ∷ 0x20 ∷ 0x00 ∷ 0x00 ∷ 0x00 ∷ []) gives refusal (number 8))
     -- 3, not 11: b0 = 0, a fill bit set
-    ∷ (read (0x54 ∷ 0x00 ∷ 0x20 ∷ 0x00 ∷ 0x00 ∷ 0x00 ∷ 0x01 ∷ []) gives verdict (refused (number 3)))
+    ∷ (read (0x54 ∷ 0x00 ∷ 0x20 ∷ 0x00 ∷ 0x00 ∷ 0x00 ∷ 0x01 ∷ []) gives refusal (number 3))
     -- 11, not 5: a fill bit set, tide 1 has setting 2
-    ∷ (read (0x54 ∷ 0x02 ∷ 0x20 ∷ 0x40 ∷ 0x00 ∷ 0x00 ∷ 0x11 ∷ []) gives verdict (refused (number 11)))
+    ∷ (read (0x54 ∷ 0x02 ∷ 0x20 ∷ 0x40 ∷ 0x00 ∷ 0x00 ∷ 0x11 ∷ []) gives refusal (number 11))
     -- 5, not 7: tide 3 has setting 2, and is at 1 and 1 from two tides at 3
     ∷ (read (0x54 ∷ 0x06 ∷ 0x20 ∷ 0x40 ∷ 0x00 ∷ 0x00 ∷ 0x00 ∷ 0x00 ∷ 0x00 ∷ 0x64 ∷ 0x00 ∷ 0x00 ∷ 0x40 ∷ 0x00 ∷ 0x04 ∷ [])
-    gives verdict (refused (number 5)))
+    gives refusal (number 5))
     -- 7, not 5: tide 3 as before but with setting 1, tide 4 has setting 2
     ∷ (read (0x54 ∷ 0x08 ∷ 0x20 ∷ 0x40 ∷ 0x00 ∷ 0x00 ∷ 0x00 ∷ 0x00 ∷ 0x00 ∷ 0x60 ∷ 0x00 ∷ 0x00 ∷ 0x40 ∷ 0x00 ∷ 0x04
     ∷ 0x80 ∷ 0x00 ∷ 0x08 ∷ 0x00 ∷ 0x00 ∷ 0x80 ∷ 0x00 ∷ 0x08 ∷ [])
-    gives verdict (refused (seven 1 2)))
+    gives refusal (seven 1 2))
     ∷ []
 
-pub in-order : map (λ (c : Case). reply (c .asked)) order ≡ map (λ (c : Case). c .given) order
-unfolding order reply readReply firstOf readReasons headReasons tideReasons decoded minimaAt tideAt byteLength bitLength binary triangle breaking distance tide noTide validMinima every sum tabulate flatMap
-in-order = refl
+abbrev pub InOrder : Type 0
+InOrder = AsGiven order

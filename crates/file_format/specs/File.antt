@@ -5,7 +5,7 @@ use mathlib.Core.Bool.{not}
 use mathlib.Core.List.{List, [], _∷_, _++_, map, flatMap}
 use lib.Dec.{ltb, eqb}
 use lib.ListN.{length, take, replicate}
-use Rattle.lists.specs.Lists.{between, range, tabulate, isEmpty}
+use Rattle.lists.specs.Lists.{between, iota, tabulate, isEmpty}
 use Rattle.study.specs.declared.Minima.{Minima}
 use Rattle.study.specs.Study.{Tide, Study, Contents, size, tide, distance, validMinima}
 use Rattle.study.specs.Refusals.{number, Reason, _⇒_}
@@ -90,4 +90,4 @@ tideReasons S t =
 unfoldable pub readReasons : List ℕ → List Reason
 readReasons s =
     let S = decoded s .study in
-    headReasons s ++ flatMap (tideReasons S) (range 0 (size S))
+    headReasons s ++ flatMap (tideReasons S) (iota 0 (size S))

@@ -3,13 +3,12 @@
 use mathlib.Core.Bool.{Bool, cond}
 use mathlib.Core.List.{List, [], _∷_}
 use mathlib.Core.Option.{Option, none, some}
-use lib.ListN.{length}
-use Rattle.study.specs.Study.{Contents}
+use Rattle.study.specs.Study.{Study, Contents}
 use Rattle.study.specs.Refusals.{number, Verdict, refused, settled, Reason, firstOf}
-use Rattle.study.specs.Calls.{openReasons, opening, minimaReasons, settingMinima, enterReasons, entering, withdrawReasons, withdrawing, blockReasons}
+use Rattle.study.specs.Calls.{openReasons, opening}
 use Rattle.file_format.specs.File.{decoded, readReasons}
 use Rattle.validity.specs.Memory.{State, short, isDataset, contentsOf}
-use Rattle.guarantee.specs.Runs.{Call, call-open, call-read, call-minima, call-enter, call-withdraw, call-block}
+use Rattle.guarantee.specs.Runs.{updating, Inquiry, inquiring, Output, noOutput, Call, call-open, call-read, call-change, call-ask, Response}
 
 -- what record and memory hold: where they are a dataset as described, its contents; otherwise there is none
 unfoldable pub held : State → Option Contents
@@ -24,36 +23,56 @@ onHeld (some H) own = firstOf (own H)
 unfoldable pub ownVerdict : Option Contents → Call → Verdict
 ownVerdict h (call-open k) = firstOf (openReasons k)
 ownVerdict h (call-read file) = firstOf (readReasons file)
-ownVerdict h (call-minima M) = onHeld h (λ H. minimaReasons (H .study) M)
-ownVerdict h (call-enter setting row) = onHeld h (λ H. enterReasons (H .study) setting row)
-ownVerdict h (call-withdraw t) = onHeld h (λ H. withdrawReasons H t)
-ownVerdict h (call-block list records) = onHeld h (λ H. blockReasons (H .study) (length list) (length records))
+ownVerdict h (call-change c) = onHeld h (updating c .own)
+ownVerdict h (call-ask q) = onHeld h (inquiring q .own)
 
--- `scant` memory, too short for a dataset, stays so, and refuses every call
+-- memory that is too short for a dataset stays so, and refuses every call
 unfoldable pub verdict : Bool → Option Contents → Call → Verdict
-verdict scant h c = cond scant (refused (number 1)) (ownVerdict h c)
+verdict tooShort h c = cond tooShort (refused (number 1)) (ownVerdict h c)
 
-abbrev pub changing : Option Contents → (Contents → Contents) → Option Contents
+abbrev pub changing : {A : Type 0} → Option A → (A → A) → Option A
 changing none f = none
-changing (some H) f = some (f H)
+changing (some x) f = some (f x)
 
 -- what an accepted call makes of the study and the count
 unfoldable pub changed : Option Contents → Call → Option Contents
 changed h (call-open k) = some (opening k)
 changed h (call-read file) = some (decoded file)
-changed h (call-minima M) = changing h (settingMinima M)
-changed h (call-enter setting row) = changing h (entering setting row)
-changed h (call-withdraw t) = changing h (withdrawing t)
-changed h (call-block list records) = h
+changed h (call-change c) = changing h (updating c .makes)
+changed h (call-ask q) = h
 
 -- any refused call: the study stays
 unfoldable pub step : Bool → Option Contents → Call → Option Contents
-step scant h c = settled (verdict scant h c) (changed h c) h
+step tooShort h c = settled (verdict tooShort h c) (changed h c) h
 
 unfoldable pub following : Bool → Option Contents → List Call → Option Contents
-following scant h [] = h
-following scant h (c ∷ cs) = following scant (step scant h c) cs
+following tooShort h [] = h
+following tooShort h (c ∷ cs) = following tooShort (step tooShort h c) cs
 
 -- the study that the start and the calls bring in, and the count
 unfoldable pub contentsAfter : State → List Call → Option Contents
 contentsAfter start calls = following (short start) (held start) calls
+
+abbrev pub studyIn : Option Contents → Option Study
+studyIn none = none
+studyIn (some H) = some (H .study)
+
+-- the study of demand 3
+unfoldable pub studyAfter : State → List Call → Option Study
+studyAfter start calls = studyIn (contentsAfter start calls)
+
+-- ---- what a caller learns
+
+abbrev pub told : Verdict → Inquiry → Option Contents → Output
+told v Q none = Q .lent
+told v Q (some H) = settled v (Q .tells H) (Q .lent)
+
+unfoldable pub outputs : Bool → Option Contents → Call → Output
+outputs tooShort h (call-open k) = noOutput
+outputs tooShort h (call-read file) = noOutput
+outputs tooShort h (call-change c) = noOutput
+outputs tooShort h (call-ask q) = told (verdict tooShort h (call-ask q)) (inquiring q) h
+
+-- from the study and the count, if any, and the call: all that its caller learns
+unfoldable pub learnt : Bool → Option Contents → Call → Response
+learnt tooShort h c = record { verdict = verdict tooShort h c; output = outputs tooShort h c }

@@ -8,13 +8,13 @@ use mathlib.Core.List.{List, [], _∷_, _++_, map}
 use mathlib.Core.Option.{Option, none, some}
 use lib.Dec.{eqb}
 use lib.ListN.{length, getD}
-use Rattle.lists.specs.Lists.{range, count, filter}
+use Rattle.lists.specs.Lists.{iota, countBelow, filter}
 use Rattle.study.specs.Study.{Tide, Study, Contents, size, tide, distance}
 use Rattle.study.specs.Refusals.{settled}
 use Rattle.file_format.specs.File.{decoded}
 use Rattle.validity.specs.Memory.{State, short}
-use Rattle.guarantee.specs.Runs.{Call, call-open, call-read, call-minima, call-enter, call-withdraw, call-block}
-use Rattle.guarantee.specs.History.{held, verdict, step}
+use Rattle.guarantee.specs.Runs.{Change, set-minima, enter, withdraw, Call, call-open, call-read, call-change, call-ask}
+use Rattle.guarantee.specs.History.{held, verdict, changing, step}
 
 -- a tide that came in, by a file or by Enter: its setting, and its distance to the tide of each earlier name
 pub record Arrival : Type 0 where
@@ -35,7 +35,7 @@ named L m = getD (L .arrivals) m nobody
 
 -- the names of those that came in, without those withdrawn, in order
 unfoldable pub remaining : Ledger → List ℕ
-remaining L = filter (λ m. not (L .gone m)) (range 0 (length (L .arrivals)))
+remaining L = filter (λ m. not (L .gone m)) (iota 0 (length (L .arrivals)))
 
 -- the name of tide t
 unfoldable pub nameOf : Ledger → ℕ → ℕ
@@ -52,7 +52,7 @@ emptyLedger = record { arrivals = []; gone = λ m. false }
 unfoldable pub withArrival : ℕ → List ℕ → Ledger → Ledger
 withArrival setting row L =
     record {
-      arrivals = L .arrivals ++ (record { setting = setting; far = λ m. getD row (count m (λ j. not (L .gone j))) 0 } ∷ []);
+      arrivals = L .arrivals ++ (record { setting = setting; far = λ m. getD row (countBelow m (λ j. not (L .gone j))) 0 } ∷ []);
       gone = L .gone;
     }
 
@@ -60,23 +60,23 @@ withArrival setting row L =
 unfoldable pub withGone : ℕ → Ledger → Ledger
 withGone t L = record { arrivals = L .arrivals; gone = λ m. cond (eqb m (nameOf L (t - 1))) true (L .gone m) }
 
-abbrev pub noting : Option Ledger → (Ledger → Ledger) → Option Ledger
-noting none f = none
-noting (some L) f = some (f L)
+-- what an accepted change makes of the ledger
+abbrev pub noting : Change → Ledger → Ledger
+noting (set-minima M) L = L
+noting (enter setting row) L = withArrival setting row L
+noting (withdraw t) L = withGone t L
 
--- what an accepted call makes of the ledger: Open and Read begin anew
+-- what an accepted call makes of it: Open and Read begin anew
 unfoldable pub noted : Option Ledger → Call → Option Ledger
 noted l (call-open k) = some emptyLedger
 noted l (call-read file) = some (fileLedger (decoded file .study))
-noted l (call-minima M) = l
-noted l (call-enter setting row) = noting l (withArrival setting row)
-noted l (call-withdraw t) = noting l (withGone t)
-noted l (call-block list records) = l
+noted l (call-change c) = changing l (noting c)
+noted l (call-ask q) = l
 
 -- along the calls; a refused call changes nothing
 unfoldable pub noteAll : Bool → Option Contents → Option Ledger → List Call → Option Ledger
-noteAll scant h l [] = l
-noteAll scant h l (c ∷ cs) = noteAll scant (step scant h c) (settled (verdict scant h c) (noted l c) l) cs
+noteAll tooShort h l [] = l
+noteAll tooShort h l (c ∷ cs) = noteAll tooShort (step tooShort h c) (settled (verdict tooShort h c) (noted l c) l) cs
 
 -- a dataset at the start counts as a file's
 abbrev pub begun : Option Contents → Option Ledger

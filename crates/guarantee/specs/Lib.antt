@@ -4,8 +4,3 @@ pub mod History
 pub mod Ledger
 pub mod Cases
 pub mod Theorems
-pub mod Follows
-pub mod Names
-pub mod LedgerLaws
-pub mod BlockLaws
-pub mod Proofs

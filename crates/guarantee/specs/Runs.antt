@@ -1,43 +1,158 @@
--- Calls as data, and the run of a list of calls over any record and memory of any length and content. Each step is made of the very
--- definitions that the calls' contracts cite. Assumes nothing.
+-- Calls as data, and the run of a list of calls over any record and memory of any length and content. What a call asks, makes and tells
+-- stands once, in the tables `updating` and `inquiring`; `AsContracts` (Theorems) says that it is what the call's contract cites. Assumes
+-- nothing.
 use Prim.Native.Nat.{ℕ}
-use mathlib.Core.List.{List, [], _∷_}
-use lib.ListN.{length}
+use mathlib.Core.Bool.{not}
+use mathlib.Core.List.{List, [], _∷_, _++_}
+use lib.ListN.{length, drop}
+use Rattle.lists.specs.Lists.{overwrite}
 use Rattle.study.specs.declared.Minima.{Minima}
 use Rattle.study.specs.declared.BlockRecord.{BlockRecord}
-use Rattle.study.specs.Refusals.{Verdict}
-use Rattle.validity.specs.Memory.{State}
-use Rattle.dataset.specs.Answers.{openAnswer, openLeaves, minimaAnswer, minimaLeaves, enterAnswer, enterLeaves, withdrawAnswer, withdrawLeaves}
-use Rattle.study_file.specs.Answers.{readAnswer, readLeaves}
-use Rattle.blocking.specs.Answers.{blockAnswer}
+use Rattle.study.specs.Problem.{blocking}
+use Rattle.study.specs.Study.{Contents, size, problem}
+use Rattle.study.specs.Refusals.{number, Verdict, settled, Reason, _⇒_}
+use Rattle.study.specs.Calls.{openReasons, minimaReasons, settingMinima, enterReasons, entering, withdrawReasons, withdrawing, centresReasons, centreNumbers, blockReasons, Figures, figures, blockRecord, judgeReasons, Judgement, approval, disapproval, judgement}
+use Rattle.file_format.specs.File.{fileOf, readReasons}
+use Rattle.validity.specs.Memory.{State, short, isDataset, contentsOf, stored}
+use Rattle.dataset.specs.Answers.{heldAnswer, openAnswer, openLeaves}
+use Rattle.study_file.specs.Answers.{readAnswer, readLeaves, writeReasons}
 
--- a call with the values of its arguments: k; a file's bytes; the minima; a setting and a row; a tide's number; the list and the
--- records that Block is lent
+-- ---- the calls that change a dataset's contents
+
+pub data Change : Type 0 where
+  set-minima : Minima → Change
+  -- a setting and a row
+  enter : ℕ → List ℕ → Change
+  -- a tide's number
+  withdraw : ℕ → Change
+
+-- its own reasons for a refusal, and what an accepted call makes of the contents
+pub record Update : Type 0 where
+  pub own : Contents → List Reason
+  pub makes : Contents → Contents
+
+unfoldable pub updating : Change → Update
+updating (set-minima M) = record { own = λ H. minimaReasons (H .study) M; makes = settingMinima M }
+updating (enter setting row) = record { own = λ H. enterReasons (H .study) setting row; makes = entering setting row }
+updating (withdraw t) = record { own = λ H. withdrawReasons H t; makes = withdrawing t }
+
+-- ---- the calls that only read
+
+pub data Query : Type 0 where
+  -- a radius, and the list for the centres
+  find-centres : ℕ → List ℕ → Query
+  -- the list and the records for the blocks
+  make-blocks : List ℕ → List BlockRecord → Query
+  -- block numbers made by anyone
+  judge-list : List ℕ → Query
+  -- the bytes for the file
+  write-file : List ℕ → Query
+
+-- the numbers that a call answers, and the lists and records that it is lent, as they stand
+pub record Output : Type 0 where
+  pub numbers : List ℕ
+  pub lists : List (List ℕ)
+  pub records : List BlockRecord
+
+abbrev pub noOutput : Output
+noOutput = record { numbers = []; lists = []; records = [] }
+
+-- its own reasons for a refusal, what it is lent, and what an accepted call answers and leaves there
+pub record Inquiry : Type 0 where
+  pub own : Contents → List Reason
+  pub lent : Output
+  pub tells : Contents → Output
+
+-- block count, radius and greatest diameter
+abbrev pub figureNumbers : Figures → List ℕ
+figureNumbers F = F .blocks ∷ F .radius ∷ F .widest ∷ []
+
+-- 1 and the greatest diameter for yes, 0 for no
+abbrev pub judgementNumbers : Judgement → List ℕ
+judgementNumbers (approval w) = 1 ∷ w ∷ []
+judgementNumbers disapproval = 0 ∷ []
+
+unfoldable pub inquiring : Query → Inquiry
+inquiring (find-centres g list) =
+    record {
+      own = λ H. centresReasons (H .study) (length list);
+      lent = record { numbers = []; lists = list ∷ []; records = [] };
+      tells = λ H. let front = centreNumbers (H .study) g in record { numbers = length front ∷ []; lists = (front ++ drop (length front) list) ∷ []; records = [] };
+    }
+inquiring (make-blocks list records) =
+    record {
+      own = λ H. blockReasons (H .study) (length list) (length records);
+      lent = record { numbers = []; lists = list ∷ []; records = records };
+      tells = λ H. let S = H .study in record {
+        numbers = figureNumbers (figures S);
+        lists = (blocking (problem S) ++ drop (size S) list) ∷ [];
+        records = overwrite (figures S .blocks) (blockRecord S) records;
+      };
+    }
+inquiring (judge-list list) =
+    record {
+      own = λ H. judgeReasons (H .study) list;
+      lent = noOutput;
+      tells = λ H. record { numbers = judgementNumbers (judgement (H .study) list); lists = []; records = [] };
+    }
+inquiring (write-file bytes) =
+    record {
+      own = λ H. writeReasons H (length bytes);
+      lent = record { numbers = []; lists = bytes ∷ []; records = [] };
+      tells = λ H. let file = fileOf H in record { numbers = length file ∷ []; lists = (file ++ drop (length file) bytes) ∷ []; records = [] };
+    }
+
+-- ---- any call
+
+-- Open with its k, Read with the file's bytes
 pub data Call : Type 0 where
   call-open : ℕ → Call
   call-read : List ℕ → Call
-  call-minima : Minima → Call
-  call-enter : ℕ → List ℕ → Call
-  call-withdraw : ℕ → Call
-  call-block : List ℕ → List BlockRecord → Call
+  call-change : Change → Call
+  call-ask : Query → Call
+
+-- document 01's reasons, in its order: short book memory (1) first, then 21 except for Open and Read, then the call's own
+unfoldable pub reasons : State → Call → List Reason
+reasons s (call-open k) = (short s ⇒ number 1) ∷ openReasons k
+reasons s (call-read file) = (short s ⇒ number 1) ∷ readReasons file
+reasons s (call-change c) = (short s ⇒ number 1) ∷ (not (isDataset s) ⇒ number 21) ∷ updating c .own (contentsOf s)
+reasons s (call-ask q) = (short s ⇒ number 1) ∷ (not (isDataset s) ⇒ number 21) ∷ inquiring q .own (contentsOf s)
 
 -- whether the call is refused, and why
 unfoldable pub answer : State → Call → Verdict
 answer s (call-open k) = openAnswer s k
 answer s (call-read file) = readAnswer s file
-answer s (call-minima M) = minimaAnswer s M
-answer s (call-enter setting row) = enterAnswer s setting row
-answer s (call-withdraw t) = withdrawAnswer s t
-answer s (call-block list records) = blockAnswer s (length list) (length records)
+answer s (call-change c) = heldAnswer s (updating c .own)
+answer s (call-ask q) = heldAnswer s (inquiring q .own)
 
--- the record and the memory that it leaves; Block only reads them
+-- the record and the memory that it leaves
 unfoldable pub after : State → Call → State
 after s (call-open k) = openLeaves s k
 after s (call-read file) = readLeaves s file
-after s (call-minima M) = minimaLeaves s M
-after s (call-enter setting row) = enterLeaves s setting row
-after s (call-withdraw t) = withdrawLeaves s t
-after s (call-block list records) = s
+after s (call-change c) = settled (heldAnswer s (updating c .own)) (stored (updating c .makes (contentsOf s)) s) s
+after s (call-ask q) = s
+
+-- what it is lent besides record and memory
+unfoldable pub lent : Call → Output
+lent (call-open k) = noOutput
+lent (call-read file) = noOutput
+lent (call-change c) = noOutput
+lent (call-ask q) = inquiring q .lent
+
+-- the numbers that it answers, and what then stands in what it was lent
+unfoldable pub output : State → Call → Output
+output s (call-open k) = noOutput
+output s (call-read file) = noOutput
+output s (call-change c) = noOutput
+output s (call-ask q) = settled (heldAnswer s (inquiring q .own)) (inquiring q .tells (contentsOf s)) (inquiring q .lent)
+
+-- all that its caller learns
+pub record Response : Type 0 where
+  pub verdict : Verdict
+  pub output : Output
+
+unfoldable pub response : State → Call → Response
+response s c = record { verdict = answer s c; output = output s c }
 
 -- each call gets record and memory as the last one left them
 unfoldable pub run : State → List Call → State

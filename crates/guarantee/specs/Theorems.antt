@@ -1,24 +1,72 @@
--- What is proved of every list of calls; there are no proofs here. `demand2` and `demand3` of Proofs.antt prove the two records at the
--- end. Assumes nothing.
+-- What is proved of every list of calls; there are no proofs here. `demand1`, `demand2` and `demand3` of proofs/Proofs.antt prove the
+-- three records of these names. Assumes nothing.
 use Prim.Native.Nat.{ℕ, suc, _*_, _≤_, _<_}
 use mathlib.Core.Path.{_≡_}
 use mathlib.Core.Logic.{_↔_}
-use mathlib.Core.List.{List, _∷_, _++_}
+use mathlib.Core.Bool.{false}
+use mathlib.Core.List.{List, [], _∷_, _++_}
 use mathlib.Core.Option.{none, some}
-use lib.ListN.{length, drop}
+use lib.Dec.{T}
+use lib.ListN.{length, take, drop}
 use Rattle.lists.specs.Lists.{greatest, overwrite}
+use Rattle.study.specs.declared.Minima.{Minima}
 use Rattle.study.specs.declared.BlockRecord.{BlockRecord}
 use Rattle.study.specs.Problem.{centres, labels, radius, blocking, diameter, greatestDiameter, Feasible}
 use Rattle.study.specs.Study.{Study, Contents, size, problem, Renumbered}
 use Rattle.study.specs.Theorems.{Singled}
-use Rattle.study.specs.Refusals.{number, Numbered, accepted, value, refusal}
+use Rattle.study.specs.Refusals.{number, Numbered, accepted, refused, settled, Reply, value, refusal, firstOf}
 use Rattle.study.specs.Calls.{opening, Figures, blockRecord}
 use Rattle.file_format.specs.File.{decoded}
-use Rattle.validity.specs.Memory.{State, short}
-use Rattle.blocking.specs.Answers.{blockReply, blockList, blockRecords}
-use Rattle.guarantee.specs.Runs.{Call, call-open, call-read, answer, run}
-use Rattle.guarantee.specs.History.{held, verdict, contentsAfter}
+use Rattle.file_format.specs.Theorems.{Bytes}
+use Rattle.validity.specs.Memory.{State, short, isDataset, contentsOf}
+use Rattle.dataset.specs.Answers.{openAnswer, openLeaves, minimaAnswer, minimaLeaves, enterAnswer, enterLeaves, withdrawAnswer, withdrawLeaves}
+use Rattle.study_file.specs.Answers.{readAnswer, readLeaves, writeAnswer, writeReply, writeLeaves}
+use Rattle.blocking.specs.Answers.{centresAnswer, centresFront, centresLeaves, blockAnswer, blockReply, blockList, blockRecords, judgeAnswer, judgeReply}
+use Rattle.guarantee.specs.Runs.{set-minima, enter, withdraw, find-centres, make-blocks, judge-list, write-file, Query, Output, figureNumbers, judgementNumbers, Call, call-open, call-read, call-change, call-ask, reasons, answer, after, lent, output, Response, response, run}
+use Rattle.guarantee.specs.History.{held, contentsAfter, studyAfter, learnt}
 use Rattle.guarantee.specs.Ledger.{Ledger, emptyLedger, fileLedger, noteAll, ledgerAfter, Exactly}
+
+-- ---- the calls of a run are the calls of the contracts
+
+-- the numbers of an answer that carries a value; none of a refusal
+abbrev pub replyNumbers : {A : Type 0} → (A → List ℕ) → Reply A → List ℕ
+replyNumbers f (value x) = f x
+replyNumbers f (refusal r) = []
+
+-- what a run says of each call is, by equations, what the call's contract says of it
+pub record AsContracts (s : State) : Type 0 where
+  pub on-open : (k : ℕ) → (answer s (call-open k) ≡ openAnswer s k) × (after s (call-open k) ≡ openLeaves s k)
+  pub on-read : (file : List ℕ) → (answer s (call-read file) ≡ readAnswer s file) × (after s (call-read file) ≡ readLeaves s file)
+  pub on-minima : (M : Minima) → let c = call-change (set-minima M) in (answer s c ≡ minimaAnswer s M) × (after s c ≡ minimaLeaves s M)
+  pub on-enter : (setting : ℕ) (row : List ℕ)
+      → let c = call-change (enter setting row) in (answer s c ≡ enterAnswer s setting row) × (after s c ≡ enterLeaves s setting row)
+  pub on-withdraw : (t : ℕ) → let c = call-change (withdraw t) in (answer s c ≡ withdrawAnswer s t) × (after s c ≡ withdrawLeaves s t)
+  pub on-centres : (g : ℕ) (list : List ℕ) → let c = call-ask (find-centres g list) in
+      (answer s c ≡ centresAnswer s list) × (output s c .lists ≡ centresLeaves s g list ∷ [])
+      × (output s c .numbers ≡ settled (answer s c) (length (centresFront s g list) ∷ []) [])
+  pub on-block : (list : List ℕ) (records : List BlockRecord) → let c = call-ask (make-blocks list records) in
+      (answer s c ≡ blockAnswer s (length list) (length records))
+      × (output s c .numbers ≡ replyNumbers figureNumbers (blockReply s (length list) (length records)))
+      × (output s c .lists ≡ blockList s list (length records) ∷ [])
+      × (output s c .records ≡ blockRecords s (length list) records)
+  pub on-judge : (list : List ℕ) → let c = call-ask (judge-list list) in
+      (answer s c ≡ judgeAnswer s list) × (output s c .numbers ≡ replyNumbers judgementNumbers (judgeReply s list))
+  pub on-write : (bytes : List ℕ) → let c = call-ask (write-file bytes) in
+      (answer s c ≡ writeAnswer s (length bytes))
+      × (output s c .numbers ≡ replyNumbers (λ n. n ∷ []) (writeReply s (length bytes)))
+      × (output s c .lists ≡ writeLeaves s bytes ∷ [])
+
+-- ---- demand 1
+
+-- for any record and memory and any call: the answer is the first of document 01's reasons that holds, and accepted where none does; a
+-- refused call leaves record and memory as they were, and writes into nothing that it is lent
+pub record Demand1 : Type 0 where
+  pub contracts : (s : State) → AsContracts s
+  pub first : (s : State) (c : Call) → answer s c ≡ firstOf (reasons s c)
+  pub unchanged : (s : State) (c : Call) (r : Numbered) → answer s c ≡ refused r → after s c ≡ s
+  pub unwritten : (s : State) (c : Call) (r : Numbered) → answer s c ≡ refused r → output s c ≡ lent c
+  -- a call that only reads leaves record and memory, accepted or not
+  pub only-reads : (s : State) (q : Query) → after s (call-ask q) ≡ s
 
 -- ---- demand 3
 
@@ -38,16 +86,19 @@ pub record Guaranteed (S : Study) (F : Figures) (list : List ℕ) : Type 0 where
   pub bounded : (R : Study) → Renumbered S R → (D : ℕ → ℕ) → Feasible (problem R) D
       → (F .radius ≤ greatestDiameter (problem R) D) × (F .widest ≤ 2 * greatestDiameter (problem R) D)
 
+-- the response of an accepted Block: its figures, and the list and the records as they then stand
+abbrev pub blocked : Figures → List ℕ → List BlockRecord → Response
+blocked F list records = record { verdict = accepted; output = record { numbers = figureNumbers F; lists = list ∷ []; records = records } }
+
 -- for every start, every list of calls, and the Block after it, lent any list and records
 pub record Demand3 : Type 0 where
   -- where it is not refused, there is a study, and the guarantee holds of it
-  pub guaranteed : (start : State) (calls : List Call) (list : List ℕ) (records : List BlockRecord) (F : Figures)
-      → blockReply (run start calls) (length list) (length records) ≡ value F
-      → (H : Contents) × (contentsAfter start calls ≡ some H) × Guaranteed (H .study) F (blockList (run start calls) list (length records))
+  pub guaranteed : (start : State) (calls : List Call) (list₀ list : List ℕ) (records₀ records : List BlockRecord) (F : Figures)
+      → response (run start calls) (call-ask (make-blocks list₀ records₀)) ≡ blocked F list records
+      → (S : Study) × (studyAfter start calls ≡ some S) × Guaranteed S F list
   -- while there is no study, it is refused
-  pub no-study : (start : State) (calls : List Call) (list : List ℕ) (records : List BlockRecord)
-      → contentsAfter start calls ≡ none
-      → (r : Numbered) × (blockReply (run start calls) (length list) (length records) ≡ refusal r)
+  pub no-study : (start : State) (calls : List Call) (list : List ℕ) (records : List BlockRecord) → studyAfter start calls ≡ none
+      → (r : Numbered) × (answer (run start calls) (call-ask (make-blocks list records)) ≡ refused r)
 
 -- ---- demand 2
 
@@ -68,20 +119,34 @@ pub record Anew (start : State) (before since : List Call) : Type 0 where
   pub read : (file : List ℕ) → answer (run start before) (call-read file) ≡ accepted
       → ledgerAfter start (before ++ (call-read file ∷ since)) ≡ noteAll (short start) (some (decoded file)) (some (fileLedger (decoded file .study))) since
 
+-- files and datasets correspond one to one, of what Write and Read leave
+pub record FilesAndDatasets : Type 0 where
+  -- what Write writes, Read reads back: over the same record and memory nothing changes, over any other there is the same dataset
+  pub same : (s : State) (bytes : List ℕ) (n : ℕ) → writeReply s (length bytes) ≡ value n → readLeaves s (take n (writeLeaves s bytes)) ≡ s
+  pub read-back : (s over : State) (bytes : List ℕ) (n : ℕ) → writeReply s (length bytes) ≡ value n → short over ≡ false
+      → let read = readLeaves over (take n (writeLeaves s bytes)) in T (isDataset read) × (contentsOf read ≡ contentsOf s)
+  -- a file that Read accepts is what Write then writes
+  pub written-again : (over : State) (file bytes : List ℕ) → Bytes file → readAnswer over file ≡ accepted → length file ≤ length bytes
+      → let read = readLeaves over file in
+      (writeReply read (length bytes) ≡ value (length file)) × (take (length file) (writeLeaves read bytes) ≡ file)
+
 -- for every start and every list of calls
 pub record Demand2 : Type 0 where
-  -- what record and memory hold is what the start and the calls brought in, and the same settles each call's answer
+  -- what record and memory hold is what the start and the calls brought in, and the same settles all that the caller of any call learns
   pub holds : (start : State) (calls : List Call) → held (run start calls) ≡ contentsAfter start calls
-  pub settles : (start : State) (calls : List Call) (c : Call) → answer (run start calls) c ≡ verdict (short start) (contentsAfter start calls) c
+  pub settles : (start : State) (calls : List Call) (c : Call) → response (run start calls) c ≡ learnt (short start) (contentsAfter start calls) c
   -- the last file's tides, if any, and those entered since, without those withdrawn, in order
   pub exactly : (start : State) (calls : List Call) (H : Contents) → held (run start calls) ≡ some H
       → (L : Ledger) × (ledgerAfter start calls ≡ some L) × Exactly (H .study) L
   pub anew : (start : State) (before since : List Call) → Anew start before since
   -- 25, where no earlier reason holds, exactly when no partition is feasible
-  pub too-few : (start : State) (calls : List Call) (H : Contents) (list records : ℕ) → contentsAfter start calls ≡ some H → 0 < size (H .study)
-      → (blockReply (run start calls) list records ≡ refusal (number 25)) ↔ ((D : ℕ → ℕ) → Feasible (problem (H .study)) D → ⊥)
-  pub blocking : (start : State) (calls : List Call) (H : Contents) (list : List ℕ) (records : List BlockRecord) (F : Figures)
-      → contentsAfter start calls ≡ some H
-      → let s = run start calls in
-      blockReply s (length list) (length records) ≡ value F
-      → SingledOut (H .study) F list (blockList s list (length records)) records (blockRecords s (length list) records)
+  pub too-few : (start : State) (calls : List Call) (S : Study) (list : List ℕ) (records : List BlockRecord)
+      → studyAfter start calls ≡ some S → 0 < size S
+      → (answer (run start calls) (call-ask (make-blocks list records)) ≡ refused (number 25)) ↔ ((D : ℕ → ℕ) → Feasible (problem S) D → ⊥)
+  -- an accepted Block's figures, list and records are those that document 01 singles out
+  pub blocking : (start : State) (calls : List Call) (S : Study) (list₀ list : List ℕ) (records₀ records : List BlockRecord) (F : Figures)
+      → studyAfter start calls ≡ some S
+      → response (run start calls) (call-ask (make-blocks list₀ records₀)) ≡ blocked F list records
+      → SingledOut S F list₀ list records₀ records
+  -- files and datasets correspond one to one
+  pub files : FilesAndDatasets

@@ -5,9 +5,9 @@ use mathlib.Core.List.{List, [], _∷_, _++_, map, flatMap, List·Memᴰ}
 use lib.Dec.{leb, eqb}
 use lib.ListN.{drop, getD}
 
-infix 40 _∈_
-abbrev pub _∈_ : {A : Type 0} → A → List A → Type 0
-x ∈ xs = List·Memᴰ x xs
+infix 40 _among_
+abbrev pub _among_ : {A : Type 0} → A → List A → Type 0
+x among xs = List·Memᴰ x xs
 
 -- x is lo, hi or between them
 abbrev pub between : ℕ → ℕ → ℕ → Bool
@@ -19,9 +19,9 @@ each [] = true
 each (b ∷ bs) = b && each bs
 
 -- k, k + 1, .. : n numbers
-abbrev pub range : ℕ → ℕ → List ℕ
-range k zero = []
-range k (suc n) = k ∷ range (suc k) n
+abbrev pub iota : ℕ → ℕ → List ℕ
+iota k zero = []
+iota k (suc n) = k ∷ iota (suc k) n
 
 -- ---- over the numbers below n
 
@@ -31,17 +31,17 @@ every zero p = true
 every (suc n) p = every n p && p n
 
 -- f 0 + f 1 + .. + f (n - 1)
-unfoldable pub sum : ℕ → (ℕ → ℕ) → ℕ
-sum zero f = 0
-sum (suc n) f = sum n f + f n
+unfoldable pub sumBelow : ℕ → (ℕ → ℕ) → ℕ
+sumBelow zero f = 0
+sumBelow (suc n) f = sumBelow n f + f n
 
 abbrev pub bit : Bool → ℕ
 bit true = 1
 bit false = 0
 
 -- how many pass p
-unfoldable pub count : ℕ → (ℕ → Bool) → ℕ
-count n p = sum n (λ t. bit (p t))
+unfoldable pub countBelow : ℕ → (ℕ → Bool) → ℕ
+countBelow n p = sumBelow n (λ t. bit (p t))
 
 -- the greatest f t; 0 where n is 0
 unfoldable pub greatest : ℕ → (ℕ → ℕ) → ℕ
@@ -50,7 +50,7 @@ greatest (suc n) f = max (f n) (greatest n f)
 
 -- f 0, f 1, .. f (n - 1)
 unfoldable pub tabulate : {A : Type 0} → ℕ → (ℕ → A) → List A
-tabulate n f = map f (range 0 n)
+tabulate n f = map f (iota 0 n)
 
 -- the first n places hold f 0, f 1, ..; those past them stay
 unfoldable pub overwrite : {A : Type 0} → ℕ → (ℕ → A) → List A → List A
@@ -64,9 +64,9 @@ at l i j = getD l (i * 120 + j) 0
 
 module _ {A : Type 0} where
   -- p holds of each element
-  abbrev pub all : (A → Bool) → List A → Bool
-  all p [] = true
-  all p (x ∷ xs) = p x && all p xs
+  abbrev pub allOf : (A → Bool) → List A → Bool
+  allOf p [] = true
+  allOf p (x ∷ xs) = p x && allOf p xs
 
   -- the elements of which p holds, in order
   abbrev pub filter : (A → Bool) → List A → List A

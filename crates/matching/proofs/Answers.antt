@@ -5,8 +5,10 @@ use mathlib.Core.Bool.{true, false, true≢false, false≢true}
 use Prim.Native.Nat.{ℕ, _*_, _<_}
 use native.Mathlib.Omega.{arith}
 use Rattle.study.specs.declared.Minima.{Minima}
-use Rattle.matching.specs.Promise.{Asked, Promise, Nowhere}
-use Rattle.matching.specs.Enough.{enough-tides}
+use Rattle.promise.specs.Promise.{Asked, Promise, Nowhere}
+use Rattle.promise.proofs.Enough.{enough-tides}
+use Rattle.promise.specs.Promise.{meeting, Able}
+use Rattle.promise.proofs.MeetingLaws.{meeting-least}
 use Rattle.matching.specs.Matching.{Unsaturable}
 use Rattle.matching.specs.Graph.{Edge, Saturated}
 use Rattle.matching.specs.Slots.{Slots}
@@ -15,18 +17,18 @@ use Rattle.matching.proofs.Correspondence.{no-assignment, written-assig
 
 module _ (n blocks : ℕ) (M : Minima) (settings allowed list : List ℕ) where
   -- more slots than tides
-  pub too-few : n < blocks * M .b0 → Promise n blocks M settings allowed list list false
+  pub too-few : n < blocks * M .b0 → Promise n blocks (meeting M n settings) allowed list list false
   too-few h =
       record {
         found = λ e. absurd (false≢true e);
-        none = λ _ D asg. let l = enough-tides n blocks M settings _ D asg in omega arith;
+        none = λ _ D asg. let l = enough-tides n blocks (M .b0) (meeting M n settings) _ D (meeting-least M n settings) asg in omega arith;
         same-length = refl;
         rest = refl;
       }
 
-  module _ (owner kind list′ : List ℕ) (ask : Asked n blocks M settings allowed list) (sl : Slots blocks (M .b0) (M .b) owner kind) where
+  module _ (owner kind list′ : List ℕ) (ask : Asked (Able M n settings) n blocks allowed list) (sl : Slots blocks (M .b0) (M .b) owner kind) where
     -- no matching gives every slot a tide
-    pub unsaturable : Unsaturable (Edge allowed settings owner kind) (blocks * M .b0) n → Rest n list list′ → Promise n blocks M settings allowed list list′ false
+    pub unsaturable : Unsaturable (Edge allowed settings owner kind) (blocks * M .b0) n → Rest n list list′ → Promise n blocks (meeting M n settings) allowed list list′ false
     unsaturable un re =
         record {
           found = λ e. absurd (false≢true e);
@@ -37,10 +39,10 @@ module _ (n blocks : ℕ) (M : Minima) (settings allowed list : List ℕ) where
 
     -- one does, and the list is written
     pub listed : (tide slot : List ℕ) → Saturated (Edge allowed settings owner kind) (blocks * M .b0) n (blocks * M .b0) tide slot
-        → Written n blocks (blocks * M .b0) allowed owner slot list′ → Rest n list list′ → Promise n blocks M settings allowed list list′ true
+        → Written n blocks (blocks * M .b0) allowed owner slot list′ → Rest n list list′ → Promise n blocks (meeting M n settings) allowed list list′ true
     listed tide slot sat wr re =
         record {
-          found = λ _. written-assigned n blocks M settings allowed owner kind tide slot list′ (ask .fit) sl sat wr;
+          found = λ _. written-assigned n blocks M settings allowed owner kind tide slot list′ (ask .able .fit) sl sat wr;
           none = λ e. absurd (true≢false e);
           same-length = re .same-length;
           rest = re .rest;
@@ -48,7 +50,7 @@ module _ (n blocks : ℕ) (M : Minima) (settings allowed list : List ℕ) where
 
   -- a tide may go nowhere
   pub no-place : (list₁ list₂ : List ℕ) → (t : ℕ) × (t < n) × Nowhere allowed t blocks → Rest n list list₁ → Rest n list₁ list₂
-      → Promise n blocks M settings allowed list list₂ false
+      → Promise n blocks (meeting M n settings) allowed list list₂ false
   no-place list₁ list₂ w re re′ =
       record {
         found = λ e. absurd (false≢true e);

@@ -8,15 +8,17 @@ use native.Mathlib.Omega.{arith}
 use lib.Dec.{T, eqb, leb, eqb→eq, eqb-refl, nleb→lt}
 use lib.ListN.{getD}
 use borrow.Author.Tests.{eq-eqb, ne-eqb, lt-leb}
-use Rattle.lists.specs.Lists.{count}
-use Rattle.lists.specs.Tests.{and-T, T-left, T-right, eq→eqb}
-use Rattle.lists.specs.Counts.{sum-same, count-into}
+use Rattle.lists.specs.Lists.{countBelow}
+use Rattle.lists.proofs.Tests.{and-T, T-left, T-right, eq→eqb}
+use Rattle.lists.proofs.Counts.{sum-same, count-into}
 use Rattle.study.specs.declared.Minima.{Minima}
 use Rattle.study.specs.Problem.{block, labels}
-use Rattle.study.specs.StudyLaws.{Meets, meets-T}
-use Rattle.matching.specs.Promise.{allows, Assigned, Asked}
-use Rattle.matching.specs.Counting.{sum-none, sum-one, count-before, count-apart, count-none, nth, Nth, nth-is, firsts}
-use Rattle.matching.specs.Surplus.{ofSetting, surplus, own-needed, own-setting, own-in, surplus-in, surplus-not, count-own, count-surplus}
+use Rattle.study.specs.Minima.{Meets}
+use Rattle.study.proofs.StudyLaws.{meets-T}
+use Rattle.promise.specs.Promise.{allows, Assigned, Asked}
+use Rattle.promise.specs.Promise.{meeting, Able}
+use Rattle.lists.proofs.Counting.{sum-none, sum-one, count-before, count-apart, count-none, nth, Nth, nth-is, firsts}
+use Rattle.matching.proofs.Surplus.{ofSetting, surplus, own-needed, own-setting, own-in, surplus-in, surplus-not, count-own, count-surplus}
 use Rattle.matching.specs.Matching.{at, Unsaturable}
 use Rattle.matching.specs.Graph.{Edge, Saturated}
 use Rattle.matching.specs.Slots.{total, blockSum, slotTest, Slots}
@@ -34,7 +36,7 @@ ofBlock m x y = eqb x m
 
 module _ (blocks b0 : ℕ) (b owner kind : List ℕ) (sl : Slots blocks b0 b owner kind) where
   -- a test that fails at every slot of another block
-  one-block : (Q : ℕ → ℕ → Bool) (m : ℕ) → m < blocks → ((x y : ℕ) → (x ≡ m → ⊥) → Q x y ≡ false) → count (blocks * b0) (slotTest Q owner kind) ≡ blockSum Q b0 b m
+  one-block : (Q : ℕ → ℕ → Bool) (m : ℕ) → m < blocks → ((x y : ℕ) → (x ≡ m → ⊥) → Q x y ≡ false) → countBelow (blocks * b0) (slotTest Q owner kind) ≡ blockSum Q b0 b m
   unfolding blockSum
   one-block Q m l out =
       sl .law Q ∙ sum-one blocks (blockSum Q b0 b) m l (λ x _ n.
@@ -42,7 +44,7 @@ module _ (blocks b0 : ℕ) (b owner kind : List ℕ) (sl : Slots blocks b0 b own
       let c : cond (Q x 0) (b0 - total b) 0 ≡ 0 = rw (out x 0 n) in
       omega arith)
 
-  class-count : (m j : ℕ) → m < blocks → j < 8 → count (blocks * b0) (slotTest (cls m (suc j)) owner kind) ≡ at b j
+  class-count : (m j : ℕ) → m < blocks → j < 8 → countBelow (blocks * b0) (slotTest (cls m (suc j)) owner kind) ≡ at b j
   unfolding blockSum
   class-count m j ml jl =
       let o = one-block (cls m (suc j)) m ml (λ x y n. rw (ne-eqb x m n)) in
@@ -53,7 +55,7 @@ module _ (blocks b0 : ℕ) (b owner kind : List ℕ) (sl : Slots blocks b0 b own
       let c : cond (cls m (suc j) m 0) (b0 - total b) 0 ≡ 0 = rw (eq-eqb m m refl, ne-eqb 0 (suc j) (λ r. omega arith)) in
       omega arith
 
-  rest-count : (m : ℕ) → m < blocks → count (blocks * b0) (slotTest (cls m 0) owner kind) ≡ b0 - total b
+  rest-count : (m : ℕ) → m < blocks → countBelow (blocks * b0) (slotTest (cls m 0) owner kind) ≡ b0 - total b
   unfolding blockSum
   rest-count m ml =
       let o = one-block (cls m 0) m ml (λ x y n. rw (ne-eqb x m n)) in
@@ -61,7 +63,7 @@ module _ (blocks b0 : ℕ) (b owner kind : List ℕ) (sl : Slots blocks b0 b own
       let c : cond (cls m 0 m 0) (b0 - total b) 0 ≡ b0 - total b = rw (eq-eqb m m refl) in
       omega arith
 
-  block-count : total b ≤ b0 → (m : ℕ) → m < blocks → count (blocks * b0) (slotTest (ofBlock m) owner kind) ≡ b0
+  block-count : total b ≤ b0 → (m : ℕ) → m < blocks → countBelow (blocks * b0) (slotTest (ofBlock m) owner kind) ≡ b0
   unfolding blockSum
   block-count fit m ml =
       let o = one-block (ofBlock m) m ml (λ x y n. rw (ne-eqb x m n)) in
@@ -70,7 +72,7 @@ module _ (blocks b0 : ℕ) (b owner kind : List ℕ) (sl : Slots blocks b0 b own
       omega arith
 
   -- a test that fails at the slots of every block
-  no-slot : (Q : ℕ → ℕ → Bool) → ((m : ℕ) → m < blocks → (k : ℕ) → k ≤ 8 → Q m k ≡ false) → count (blocks * b0) (slotTest Q owner kind) ≡ 0
+  no-slot : (Q : ℕ → ℕ → Bool) → ((m : ℕ) → m < blocks → (k : ℕ) → k ≤ 8 → Q m k ≡ false) → countBelow (blocks * b0) (slotTest Q owner kind) ≡ 0
   unfolding blockSum
   no-slot Q out =
       sl .law Q ∙ sum-none blocks (blockSum Q b0 b) (λ m ml.
@@ -114,8 +116,8 @@ module _ (b : List ℕ) (setting : ℕ → ℕ) (p : ℕ → Bool) where
   same-kind (suc k) zero t h g = absurd (surplus-not b setting p t g (own-needed b setting p k t h))
   same-kind (suc k) (suc i) t h g = sym (own-setting b setting p k t h) ∙ own-setting b setting p i t g
 
-module _ (n blocks : ℕ) (M : Minima) (settings allowed list owner kind : List ℕ) (D : ℕ → ℕ) (ask : Asked n blocks M settings allowed list)
-    (sl : Slots blocks (M .b0) (M .b) owner kind) (asg : Assigned n blocks M settings allowed D) where
+module _ (n blocks : ℕ) (M : Minima) (settings allowed list owner kind : List ℕ) (D : ℕ → ℕ) (ask : Asked (Able M n settings) n blocks allowed list)
+    (sl : Slots blocks (M .b0) (M .b) owner kind) (asg : Assigned n blocks (meeting M n settings) allowed D) where
   abbrev slots : ℕ
   slots = blocks * M .b0
 
@@ -123,24 +125,25 @@ module _ (n blocks : ℕ) (M : Minima) (settings allowed list owner kind : List 
   setting t = getD settings t 0
 
   meet : (m : ℕ) → m < blocks → Meets M n setting (block D m)
+  unfolding meeting
   meet m l = meets-T M n setting (block D m) .0 (asg .enough m l)
 
   -- no more slots than tides
-  enough : (m k : ℕ) → m < blocks → k ≤ 8 → count slots (slotTest (cls m k) owner kind) ≤ count n (fitting (M .b) setting (block D m) k)
+  enough : (m k : ℕ) → m < blocks → k ≤ 8 → countBelow slots (slotTest (cls m k) owner kind) ≤ countBelow n (fitting (M .b) setting (block D m) k)
   unfolding fitting ofSetting
   enough m zero ml kl =
       let e = meet m ml in
       omega (
         arith,
         rest-count blocks (M .b0) (M .b) owner kind sl m ml,
-        count-surplus (M .b) setting (block D m) n (ask .setting-low) (ask .setting-high) (M .b0) (e .whole) (e .each) (ask .fit),
+        count-surplus (M .b) setting (block D m) n (ask .able .setting-low) (ask .able .setting-high) (M .b0) (e .whole) (e .each) (ask .able .fit),
       )
   enough m (suc j) ml kl =
       let e = meet m ml in
       omega (
         arith,
         class-count blocks (M .b0) (M .b) owner kind sl m j ml (omega arith),
-        count-own (M .b) setting (block D m) n (ask .setting-low) (ask .setting-high) (M .b0) (e .whole) (e .each) (ask .fit) j (omega arith),
+        count-own (M .b) setting (block D m) n (ask .able .setting-low) (ask .able .setting-high) (M .b0) (e .whole) (e .each) (ask .able .fit) j (omega arith),
       )
 
   -- the test that a slot passes with its like, and its place among them
@@ -148,7 +151,7 @@ module _ (n blocks : ℕ) (M : Minima) (settings allowed list owner kind : List 
   like s = slotTest (cls (at owner s) (at kind s)) owner kind
 
   abbrev idx : ℕ → ℕ
-  idx s = count s (like s)
+  idx s = countBelow s (like s)
 
   abbrev fit : ℕ → ℕ → Bool
   fit s = fitting (M .b) setting (block D (at owner s)) (at kind s)
@@ -186,8 +189,8 @@ module _ (n blocks : ℕ) (M : Minima) (settings allowed list owner kind : List 
       let p : T (fitting (M .b) setting (block D (at owner s)) (at kind u) (give s))
       = subst₂ (λ (x y : ℕ). T (fitting (M .b) setting (block D x) (at kind u) y)) (sym m) (sym e) (gives u k .pass) in
       let q : at kind s ≡ at kind u = same-kind (M .b) setting (block D (at owner s)) (at kind s) (at kind u) (give s) (gives s l .pass) p in
-      let r : idx s ≡ idx u = sym (gives s l .rank) ∙ (λ i. count (e i) (fitting (M .b) setting (block D (m i)) (q i))) ∙ gives u k .rank in
-      let a : count s (like s) ≡ count u (like s) = r ∙ (λ i. count u (slotTest (cls (sym m i) (sym q i)) owner kind)) in
+      let r : idx s ≡ idx u = sym (gives s l .rank) ∙ (λ i. countBelow (e i) (fitting (M .b) setting (block D (m i)) (q i))) ∙ gives u k .rank in
+      let a : countBelow s (like s) ≡ countBelow u (like s) = r ∙ (λ i. countBelow u (slotTest (cls (sym m i) (sym q i)) owner kind)) in
       count-apart (like s) s u (like-self s)
       (and-T (eqb (at owner u) (at owner s)) (eqb (at kind u) (at kind s)) (eq→eqb (at owner u) (at owner s) (sym m)) (eq→eqb (at kind u) (at kind s) (sym q))) a
 
@@ -236,8 +239,8 @@ module _ (n blocks : ℕ) (M : Minima) (settings allowed owner kind tide slot li
         );
       }
 
-  pub written-assigned : Assigned n blocks M settings allowed (labels list)
-  unfolding labels
+  pub written-assigned : Assigned n blocks (meeting M n settings) allowed (labels list)
+  unfolding labels meeting
   written-assigned =
       record {
         below = wr .below;

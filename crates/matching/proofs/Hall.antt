@@ -3,7 +3,7 @@ use mathlib.Core.Path.{_≡_, sym, ap, _∙_}
 use mathlib.Core.List.{List}
 use Prim.Native.Nat.{ℕ, _-_, _≤_, _<_}
 use native.Mathlib.Omega.{arith}
-use Rattle.lists.specs.Counts.{pigeonhole}
+use Rattle.lists.proofs.Counts.{pigeonhole}
 use Rattle.matching.specs.Matching.{at, Saturating, Unsaturable, Matching, Tree, Closed}
 
 module _ (E : ℕ → ℕ → Type 0) (slots tides tail : ℕ) (tide slot from rank queue : List ℕ) (small : slots ≤ 120)

@@ -7,24 +7,24 @@ use native.Mathlib.Nat.{mul-le-mul-right}
 use native.Mathlib.Omega.{arith}
 use lib.ListN.{set, length-set}
 use lib.Seq.{getD-set-same, getD-set-other}
-use Rattle.lists.specs.Lists.{sum, bit, count}
-use Rattle.lists.specs.Counts.{sum-zero, sum-suc, count-zero, count-same}
-use Rattle.matching.specs.Counting.{sum-more, sum-front, count-more}
+use Rattle.lists.specs.Lists.{sumBelow, bit, countBelow}
+use Rattle.lists.proofs.Counts.{sum-zero, sum-suc, count-zero, count-same}
+use Rattle.lists.proofs.Counting.{sum-more, sum-front, count-more}
 use Rattle.matching.specs.Matching.{at}
 use Rattle.matching.specs.Slots.{total, blockSum, slotTest, Slots, Tables, Added, BlockAdded}
 
 -- the slots of the settings below j of block m stand from start up to pos
 pub record PartAdded (start m j pos : ℕ) (b owner₀ kind₀ owner kind : List ℕ) : Type 0 where
   pub tables : Tables owner kind
-  pub place : pos ≡ start + sum j (λ i. at b i)
+  pub place : pos ≡ start + sumBelow j (λ i. at b i)
   pub law : (Q : ℕ → ℕ → Bool)
-      → count pos (slotTest Q owner kind) ≡ count start (slotTest Q owner₀ kind₀) + sum j (λ i. cond (Q m (i + 1)) (at b i) 0)
+      → countBelow pos (slotTest Q owner kind) ≡ countBelow start (slotTest Q owner₀ kind₀) + sumBelow j (λ i. cond (Q m (i + 1)) (at b i) 0)
 
 -- the slots of the blocks below m stand up to pos
 pub record LaidOut (m pos b0 : ℕ) (b owner kind : List ℕ) : Type 0 where
   pub tables : Tables owner kind
   pub place : pos ≡ m * b0
-  pub law : (Q : ℕ → ℕ → Bool) → count pos (slotTest Q owner kind) ≡ sum m (blockSum Q b0 b)
+  pub law : (Q : ℕ → ℕ → Bool) → countBelow pos (slotTest Q owner kind) ≡ sumBelow m (blockSum Q b0 b)
 
 cond-more : (q : Bool) (i : ℕ) → cond q (i + 1) 0 ≡ cond q i 0 + bit q
 cond-more true i = refl
@@ -39,7 +39,7 @@ added-start pos m k owner kind ta =
     record {
       tables = ta;
       law = λ Q.
-          let e : count (pos + 0) (slotTest Q owner kind) ≡ count pos (slotTest Q owner kind) = ap (λ (x : ℕ). count x (slotTest Q owner kind)) (omega arith) in
+          let e : countBelow (pos + 0) (slotTest Q owner kind) ≡ countBelow pos (slotTest Q owner kind) = ap (λ (x : ℕ). countBelow x (slotTest Q owner kind)) (omega arith) in
           omega (arith, cond-zero (Q m k));
     }
 
@@ -51,16 +51,16 @@ added-more pos m k i owner₀ kind₀ owner kind ad l =
       law = law;
     }
   where
-    law : (Q : ℕ → ℕ → Bool) → count (pos + (i + 1)) (slotTest Q (set owner (pos + i) m) (set kind (pos + i) k)) ≡ count pos (slotTest Q owner₀ kind₀) + cond (Q m k) (i + 1) 0
+    law : (Q : ℕ → ℕ → Bool) → countBelow (pos + (i + 1)) (slotTest Q (set owner (pos + i) m) (set kind (pos + i) k)) ≡ countBelow pos (slotTest Q owner₀ kind₀) + cond (Q m k) (i + 1) 0
     law Q =
         let q : ℕ → Bool = slotTest Q (set owner (pos + i) m) (set kind (pos + i) k) in
         let x : at (set owner (pos + i) m) (pos + i) ≡ m = getD-set-same owner (pos + i) m 0 (omega (arith, ad .tables .owner-long)) in
         let y : at (set kind (pos + i) k) (pos + i) ≡ k = getD-set-same kind (pos + i) k 0 (omega (arith, ad .tables .kind-long)) in
         let here : bit (q (pos + i)) ≡ bit (Q m k) = rw (x, y) in
-        let below : count (pos + i) q ≡ count (pos + i) (slotTest Q owner kind)
+        let below : countBelow (pos + i) q ≡ countBelow (pos + i) (slotTest Q owner kind)
         = count-same (pos + i) q (slotTest Q owner kind)
         (λ s h. rw (getD-set-other owner (pos + i) s m 0 (λ q. omega arith), getD-set-other kind (pos + i) s k 0 (λ q. omega arith))) in
-        let e : count (pos + (i + 1)) q ≡ count (pos + i + 1) q = ap (λ (x : ℕ). count x q) (omega arith) in
+        let e : countBelow (pos + (i + 1)) q ≡ countBelow (pos + i + 1) q = ap (λ (x : ℕ). countBelow x q) (omega arith) in
         omega (arith, count-more (pos + i) q, cond-more (Q m k) i, ad .law Q)
 
 pub part-start : (start m : ℕ) (b owner kind : List ℕ) → Tables owner kind → PartAdded start m 0 start b owner kind owner kind
@@ -94,10 +94,10 @@ module _ (start m j pos b0 : ℕ) (b owner₀ kind₀ owner kind : List ℕ) (pa
         tables = ad .tables;
         law = λ Q.
             let q : j ≡ 8 = omega arith in
-            let p : pos ≡ start + total b = pa .place ∙ ap (λ (i : ℕ). start + sum i (λ j. at b j)) q in
-            let e : count (pos + (start + b0 - pos)) (slotTest Q owner′ kind′) ≡ count (start + b0) (slotTest Q owner′ kind′) = ap (λ (x : ℕ). count x (slotTest Q owner′ kind′)) (omega arith) in
+            let p : pos ≡ start + total b = pa .place ∙ ap (λ (i : ℕ). start + sumBelow i (λ j. at b j)) q in
+            let e : countBelow (pos + (start + b0 - pos)) (slotTest Q owner′ kind′) ≡ countBelow (start + b0) (slotTest Q owner′ kind′) = ap (λ (x : ℕ). countBelow x (slotTest Q owner′ kind′)) (omega arith) in
             let r : cond (Q m 0) (start + b0 - pos) 0 ≡ cond (Q m 0) (b0 - total b) 0 = ap (λ (x : ℕ). cond (Q m 0) x 0) (omega arith) in
-            let l = pa .law Q ∙ ap (λ (i : ℕ). count start (slotTest Q owner₀ kind₀) + sum i (λ j. cond (Q m (j + 1)) (at b j) 0)) q in
+            let l = pa .law Q ∙ ap (λ (i : ℕ). countBelow start (slotTest Q owner₀ kind₀) + sumBelow i (λ j. cond (Q m (j + 1)) (at b j) 0)) q in
             omega (arith, ad .law Q);
       }
 
@@ -122,5 +122,5 @@ module _ (m pos b0 blocks : ℕ) (b owner kind : List ℕ) (la : LaidOut m pos b
       record {
         law = λ Q.
             let q : m ≡ blocks = omega arith in
-            ap (λ (x : ℕ). count x (slotTest Q owner kind)) (sym (la .place ∙ ap (λ (i : ℕ). i * b0) q)) ∙ la .law Q ∙ ap (λ (i : ℕ). sum i (blockSum Q b0 b)) q;
+            ap (λ (x : ℕ). countBelow x (slotTest Q owner kind)) (sym (la .place ∙ ap (λ (i : ℕ). i * b0) q)) ∙ la .law Q ∙ ap (λ (i : ℕ). sumBelow i (blockSum Q b0 b)) q;
       }

@@ -1,5 +1,4 @@
 -- Lemmas on plain lists for the proofs of the functions.
-pub mod Pairs
 pub mod Laying
 pub mod Hall
 pub mod Push
@@ -8,3 +7,5 @@ pub mod Turns
 pub mod Correspondence
 pub mod Writing
 pub mod Answers
+pub mod Surplus
+pub mod PartialSolutionProof

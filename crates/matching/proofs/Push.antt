@@ -6,7 +6,7 @@ use native.Mathlib.Decide.{ℕ-discrete, decLt}
 use native.Mathlib.Omega.{arith}
 use lib.ListN.{set, length-set}
 use lib.Seq.{getD-set-same, getD-set-other}
-use Rattle.lists.specs.Counts.{pigeonhole}
+use Rattle.lists.proofs.Counts.{pigeonhole}
 use Rattle.matching.specs.Matching.{at, Matching, Tree}
 
 -- h first, and then f

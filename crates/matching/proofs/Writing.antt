@@ -10,7 +10,8 @@ use lib.Dec.{T}
 use lib.ListN.{length, set, length-set}
 use lib.Seq.{getD-set-same, getD-set-other, drop-set-lt}
 use Rattle.study.specs.declared.Minima.{Minima}
-use Rattle.matching.specs.Promise.{allows, Asked, Nowhere}
+use Rattle.promise.specs.Promise.{allows, Asked, Nowhere}
+use Rattle.promise.specs.Promise.{Able}
 use Rattle.matching.specs.Matching.{at, Matching}
 use Rattle.matching.specs.Graph.{Edge, Sized}
 use Rattle.matching.specs.Slots.{Slots}
@@ -65,10 +66,10 @@ module _ (t n blocks slots : ℕ) (allowed owner slot list₀ list : List ℕ) (
 
 -- ---- what the parts of the search may assume
 
-pub slots-bound : (n blocks : ℕ) (M : Minima) (settings allowed list : List ℕ) → Asked n blocks M settings allowed list → blocks * M .b0 ≤ 14400
-slots-bound n blocks M settings allowed list ask = let a = mul-le-mul-right (M .b0) (ask .few-blocks) in omega (arith, ask .small)
+pub slots-bound : (n blocks : ℕ) (M : Minima) (settings allowed list : List ℕ) → Asked (Able M n settings) n blocks allowed list → blocks * M .b0 ≤ 14400
+slots-bound n blocks M settings allowed list ask = let a = mul-le-mul-right (M .b0) (ask .few-blocks) in omega (arith, ask .able .small)
 
-module _ (n blocks : ℕ) (M : Minima) (settings allowed list owner kind : List ℕ) (ask : Asked n blocks M settings allowed list) (fit : blocks * M .b0 ≤ n)
+module _ (n blocks : ℕ) (M : Minima) (settings allowed list owner kind : List ℕ) (ask : Asked (Able M n settings) n blocks allowed list) (fit : blocks * M .b0 ≤ n)
     (sl : Slots blocks (M .b0) (M .b) owner kind) where
   pub sized : Sized allowed settings owner kind (blocks * M .b0) n
   sized =
@@ -76,10 +77,10 @@ module _ (n blocks : ℕ) (M : Minima) (settings allowed list owner kind : List 
         few-slots = omega (arith, ask .few-tides);
         few-tides = ask .few-tides;
         allowed-long = ask .allowed-long;
-        settings-long = ask .settings-long;
+        settings-long = ask .able .settings-long;
         blocks = λ s l. omega (arith, slot-below blocks (M .b0) (M .b) owner kind sl s l, ask .few-blocks);
         kinds = λ s l. slot-kind blocks (M .b0) (M .b) owner kind sl s l;
-        high = ask .setting-high;
+        high = ask .able .setting-high;
       }
 
   pub owned : (tide slot : List ℕ) → Matching (Edge allowed settings owner kind) (blocks * M .b0) n tide slot → (t : ℕ) → t < n → Owned allowed owner slot blocks (blocks * M .b0) t

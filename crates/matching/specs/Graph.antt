@@ -6,7 +6,7 @@ use mathlib.Core.Logic.{_⊎_}
 use Prim.Native.Nat.{ℕ, _+_, _*_, _≤_, _<_}
 use lib.Dec.{T}
 use lib.ListN.{length}
-use Rattle.matching.specs.Promise.{allows}
+use Rattle.promise.specs.Promise.{allows}
 use Rattle.matching.specs.Matching.{at, Matching, Tree, Path, Kept, Unsaturable}
 
 -- a slot of block m and kind k can hold the tide t: the tide may go to the block, and the kind is 0 or the tide's setting

@@ -1,10 +1,5 @@
--- What a caller reads: Promise, PartialSolution, Enough. The rest serves the contracts of private functions and the proofs.
-pub mod Promise
+-- What a caller reads: Meeting, PartialSolution. The rest serves the contracts of private functions and the proofs.
 pub mod PartialSolution
-pub mod Counting
-pub mod Enough
-pub mod Surplus
-pub mod PartialSolutionProof
 pub mod Matching
 pub mod Graph
 pub mod Slots

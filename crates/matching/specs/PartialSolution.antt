@@ -6,7 +6,7 @@ use mathlib.Core.Logic.{_↔_}
 use mathlib.Core.Bool.{_&&_}
 use lib.Dec.{T, eqb}
 use lib.ListN.{length, getD}
-use Rattle.lists.specs.Lists.{count}
+use Rattle.lists.specs.Lists.{countBelow}
 use Rattle.study.specs.Problem.{centres, centreOf, block, assignable}
 use Rattle.study.specs.Study.{Study, size, tide, problem, Valid}
 
@@ -15,9 +15,9 @@ use Rattle.study.specs.Study.{Study, size, tide, problem, Valid}
 pub record PartialSolution (S : Study) (g : ℕ) (D : ℕ → ℕ) : Type 0 where
   pub inside : (t : ℕ) → t < size S → D t ≤ length (centres (problem S) g)
   pub near : (t : ℕ) → t < size S → 1 ≤ D t → problem S .dist (centreOf (centres (problem S) g) (D t)) t ≤ g
-  pub whole : (m : ℕ) → 1 ≤ m → m ≤ length (centres (problem S) g) → count (size S) (block D m) ≡ S .minima .b0
+  pub whole : (m : ℕ) → 1 ≤ m → m ≤ length (centres (problem S) g) → countBelow (size S) (block D m) ≡ S .minima .b0
   pub each : (m : ℕ) → 1 ≤ m → m ≤ length (centres (problem S) g) → (j : ℕ) → j < 8
-      → getD (S .minima .b) j 0 ≤ count (size S) (λ t. block D m t && eqb (tide S t .setting) (suc j))
+      → getD (S .minima .b) j 0 ≤ countBelow (size S) (λ t. block D m t && eqb (tide S t .setting) (suc j))
 
 abbrev pub PartialSolutionExactly : Type 0
 PartialSolutionExactly = (S : Study) → Valid S → (g : ℕ) → ((D : ℕ → ℕ) × PartialSolution S g D) ↔ T (assignable (problem S) g)

@@ -5,16 +5,16 @@ use mathlib.Core.List.{List}
 use mathlib.Core.Bool.{Bool, cond}
 use Prim.Native.Nat.{ℕ, _+_, _*_, _-_}
 use lib.ListN.{length}
-use Rattle.lists.specs.Lists.{sum, count}
+use Rattle.lists.specs.Lists.{sumBelow, countBelow}
 use Rattle.matching.specs.Matching.{at}
 
 -- the minima of the settings together
 abbrev pub total : List ℕ → ℕ
-total b = sum 8 (λ j. at b j)
+total b = sumBelow 8 (λ j. at b j)
 
 -- how many of the slots of block m pass a test of block and kind: at b j of the kind j + 1, and the rest of b0 of kind 0
 unfoldable pub blockSum : (Q : ℕ → ℕ → Bool) (b0 : ℕ) (b : List ℕ) (m : ℕ) → ℕ
-blockSum Q b0 b m = sum 8 (λ j. cond (Q m (j + 1)) (at b j) 0) + cond (Q m 0) (b0 - total b) 0
+blockSum Q b0 b m = sumBelow 8 (λ j. cond (Q m (j + 1)) (at b j) 0) + cond (Q m 0) (b0 - total b) 0
 
 -- a test of a slot's block and kind
 abbrev pub slotTest : (Q : ℕ → ℕ → Bool) (owner kind : List ℕ) → ℕ → Bool
@@ -22,7 +22,7 @@ slotTest Q owner kind s = Q (at owner s) (at kind s)
 
 -- owner and kind list the slots of the blocks below blocks, in some order: for every test, as many slots pass as the minima say
 pub record Slots (blocks b0 : ℕ) (b owner kind : List ℕ) : Type 0 where
-  pub law : (Q : ℕ → ℕ → Bool) → count (blocks * b0) (slotTest Q owner kind) ≡ sum blocks (blockSum Q b0 b)
+  pub law : (Q : ℕ → ℕ → Bool) → countBelow (blocks * b0) (slotTest Q owner kind) ≡ sumBelow blocks (blockSum Q b0 b)
 
 -- the tables of the slots' blocks and kinds
 pub record Tables (owner kind : List ℕ) : Type 0 where
@@ -32,9 +32,9 @@ pub record Tables (owner kind : List ℕ) : Type 0 where
 -- size slots of block m and kind k stand from pos on, behind the slots that were there
 pub record Added (pos m k size : ℕ) (owner₀ kind₀ owner kind : List ℕ) : Type 0 where
   pub tables : Tables owner kind
-  pub law : (Q : ℕ → ℕ → Bool) → count (pos + size) (slotTest Q owner kind) ≡ count pos (slotTest Q owner₀ kind₀) + cond (Q m k) size 0
+  pub law : (Q : ℕ → ℕ → Bool) → countBelow (pos + size) (slotTest Q owner kind) ≡ countBelow pos (slotTest Q owner₀ kind₀) + cond (Q m k) size 0
 
 -- the slots of block m stand from start on
 pub record BlockAdded (start m b0 : ℕ) (b owner₀ kind₀ owner kind : List ℕ) : Type 0 where
   pub tables : Tables owner kind
-  pub law : (Q : ℕ → ℕ → Bool) → count (start + b0) (slotTest Q owner kind) ≡ count start (slotTest Q owner₀ kind₀) + blockSum Q b0 b m
+  pub law : (Q : ℕ → ℕ → Bool) → countBelow (start + b0) (slotTest Q owner kind) ≡ countBelow start (slotTest Q owner₀ kind₀) + blockSum Q b0 b m

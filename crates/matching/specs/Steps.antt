@@ -5,7 +5,7 @@ use mathlib.Core.Bool.{Bool, true, false}
 use Prim.Native.Nat.{ℕ, _≤_, _<_}
 use lib.Dec.{T}
 use lib.ListN.{length, drop}
-use Rattle.matching.specs.Promise.{allows, Nowhere}
+use Rattle.promise.specs.Promise.{allows, Nowhere}
 use Rattle.matching.specs.Matching.{at}
 
 -- where the tide t has a slot, it may go to the slot's block

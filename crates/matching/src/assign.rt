@@ -1,5 +1,5 @@
 // The list that a matching gives: the block of each tide.
-use crate::table::first_allowed;
+use promise::table::first_allowed;
 ghost use Prim.Native.Nat.{ℕ, _<_, _≤_};
 ghost use lib.ListN.{length};
 ghost use Rattle.matching.specs.Matching.{at};

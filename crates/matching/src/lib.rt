@@ -5,7 +5,6 @@ mod assign;
 mod augment;
 mod slots;
 mod start;
-pub mod table;
 
 use crate::assign::write_list;
 use crate::assign::write_partial;
@@ -14,7 +13,8 @@ use crate::slots::lay_out;
 use crate::start::adopt;
 use study::Minima;
 ghost use Prim.Native.Nat.{_*_, _≤_};
-ghost use Rattle.matching.specs.Promise.{Asked, Promise};
+ghost use Rattle.promise.specs.Promise.{Asked, Promise};
+ghost use Rattle.promise.specs.Promise.{meeting, Able};
 ghost use Rattle.matching.specs.Slots.{Slots};
 
 // Whether there is an assignment, which is then left in the first n places of list. What list holds
@@ -28,8 +28,8 @@ pub fn search(
     allowed: &[u8],
     list: &mut [u8],
 ) -> bool
-    requires { ⌜ Asked n blocks minima (now settings) (now allowed) (now list) ⌝ }
-    ensures { λ r. ⌜ Promise n blocks minima (now (settings .entry)) (now (allowed .entry)) (now (list .entry)) (now (list .exit)) r ⌝ }
+    requires { ⌜ Asked (Able minima n (now settings)) n blocks (now allowed) (now list) ⌝ }
+    ensures { λ r. ⌜ Promise n blocks (meeting minima n (now (settings .entry))) (now (allowed .entry)) (now (list .entry)) (now (list .exit)) r ⌝ }
 {
     let b0 = minima.b0 as usize;
     if blocks * b0 > n {
@@ -65,10 +65,10 @@ fn match_slots(
     next: &mut [u8; 1080],
     list: &mut [u8],
 ) -> bool
-    requires { ⌜ Asked n blocks minima (now settings) (now allowed) (now list) ⌝ }
+    requires { ⌜ Asked (Able minima n (now settings)) n blocks (now allowed) (now list) ⌝ }
     requires { ⌜ blocks * minima .b0 ≤ n ⌝ }
     requires { ⌜ Slots blocks (minima .b0) (minima .b) (now owner) (now kind) ⌝ }
-    ensures { λ r. ⌜ Promise n blocks minima (now (settings .entry)) (now (allowed .entry)) (now (list .entry)) (now (list .exit)) r ⌝ }
+    ensures { λ r. ⌜ Promise n blocks (meeting minima n (now (settings .entry))) (now (allowed .entry)) (now (list .entry)) (now (list .exit)) r ⌝ }
 {
     let slots = blocks * (minima.b0 as usize);
     let mut tide: [usize; 120] = [120; 120];

@@ -3,7 +3,7 @@ use Prim.Native.String.{String}
 use mathlib.Core.Path.{_≡_, refl}
 use mathlib.Core.List.{List, [], _∷_, map, flatMap}
 use lib.ListN.{replicate}
-use Rattle.lists.specs.Lists.{every, sum, tabulate}
+use Rattle.lists.specs.Lists.{every, sumBelow, tabulate}
 use Rattle.study.specs.Study.{noTide, tide, distance, validMinima}
 use Rattle.study.specs.Refusals.{number, seven, firstOf}
 use Rattle.study.specs.Calls.{openReasons, opened, opening, minimaReasons, withMinima, settingMinima, triangle, breaking, enterReasons, entered, entering}
@@ -47,10 +47,10 @@ cases =
     ∷ []
 
 pub worked-cases : map (λ (c : Case). packAnswer (ascii (c .text)) 8) cases ≡ map (λ (c : Case). c .told) cases
-unfolding cases packAnswer textOf turnsOf turnOf tideOf headOf minimaOf openingOf minimaFrom numbersOf numberOf nextOf wordAt numeralOf valueFrom withDigit digit wordOf startOf past commentAfter begins endsWord newlines openReasons opening opened minimaReasons settingMinima withMinima validMinima enterReasons entering entered breaking triangle distance tide noTide firstOf every sum tabulate flatMap fileOf fields tideFields packed pack allBits binary
+unfolding cases packAnswer textOf turnsOf turnOf tideOf headOf minimaOf openingOf minimaFrom numbersOf numberOf nextOf wordAt numeralOf valueFrom withDigit digit wordOf startOf past commentAfter begins endsWord newlines openReasons opening opened minimaReasons settingMinima withMinima validMinima enterReasons entering entered breaking triangle distance tide noTide firstOf every sumBelow tabulate flatMap fileOf fields tideFields packed pack allBits binary
 worked-cases = refl
 
 -- the file of one tide, and a byte past it
 pub one-tide : packLeaves (ascii "1 1 0 1\n") (replicate 8 170) ≡ 0x54 ∷ 0x02 ∷ 0x20 ∷ 0x40 ∷ 0x00 ∷ 0x00 ∷ 0x00 ∷ 170 ∷ []
-unfolding packLeaves textOf turnsOf turnOf tideOf headOf minimaOf openingOf minimaFrom numbersOf numberOf nextOf wordAt numeralOf valueFrom withDigit digit wordOf startOf past commentAfter begins endsWord newlines openReasons opening opened minimaReasons settingMinima withMinima validMinima enterReasons entering entered breaking triangle distance tide noTide firstOf every sum tabulate flatMap fileOf fields tideFields packed pack allBits binary
+unfolding packLeaves textOf turnsOf turnOf tideOf headOf minimaOf openingOf minimaFrom numbersOf numberOf nextOf wordAt numeralOf valueFrom withDigit digit wordOf startOf past commentAfter begins endsWord newlines openReasons opening opened minimaReasons settingMinima withMinima validMinima enterReasons entering entered breaking triangle distance tide noTide firstOf every sumBelow tabulate flatMap fileOf fields tideFields packed pack allBits binary
 one-tide = refl

@@ -2,10 +2,6 @@
 pub mod Words
 pub mod Packing
 pub mod Cases
-pub mod WordLaws
 pub mod Steps
 pub mod Narrowing
 pub mod Reached
-pub mod Calls
-pub mod Turns
-pub mod Writing

@@ -1,10 +1,10 @@
 -- The words of a text: what stands next at a place. Bytes are ASCII. Assumes nothing.
-use Prim.Native.Nat.{ℕ, _+_, _-_, _*_}
+use Prim.Native.Nat.{ℕ, _+_, _-_, _*_, _≤_}
 use mathlib.Core.Bool.{Bool, false, cond, not, _&&_, _||_}
 use mathlib.Core.List.{List, [], _∷_}
-use lib.Dec.{leb, eqb}
+use lib.Dec.{leb, eqb, ltb}
 use lib.ListN.{length, drop}
-use Rattle.lists.specs.Lists.{between, bit, all}
+use Rattle.lists.specs.Lists.{between, bit, allOf}
 use Rattle.packing.specs.declared.words.Cursor.{Cursor}
 use Rattle.packing.specs.declared.words.Word.{Word}
 use Rattle.packing.specs.declared.words.Word.the-variants as Next
@@ -59,7 +59,7 @@ valueFrom v [] = v
 valueFrom v (b ∷ bs) = valueFrom (withDigit v b) bs
 
 unfoldable pub numeralOf : List ℕ → Numeral
-numeralOf w = cond (all digit w) (cond (leb (valueFrom 0 w) 4294967295) (Found.Number (valueFrom 0 w)) Found.TooLarge) Found.Bad
+numeralOf w = cond (allOf digit w) (cond (leb (valueFrom 0 w) 4294967295) (Found.Number (valueFrom 0 w)) Found.TooLarge) Found.Bad
 
 -- ---- the next word from a place on
 
@@ -76,3 +76,13 @@ wordAt text start =
 
 unfoldable pub nextOf : List ℕ → Cursor → Word
 nextOf text c = wordAt text (startOf false c (drop (c .at) text))
+
+-- a place in a text that is not too long; a byte ends at most one line
+pub record Within (text : List ℕ) (c : Cursor) : Type 0 where
+  pub short : length text ≤ 131072
+  pub inside : c .at ≤ length text
+  pub line-low : c .line ≤ c .at + 1
+
+-- what is too large stays at 2 ^ 32
+unfoldable pub capped : ℕ → ℕ
+capped x = cond (ltb x 4294967296) x 4294967296

@@ -19,9 +19,9 @@ ghost use mathlib.Core.Path.{_≡_};
 ghost use Prim.Native.Nat.{_≤_};
 ghost use lib.ListN.{length};
 ghost use Rattle.validity.specs.Memory.{stateOf, contentsOf};
-ghost use Rattle.dataset.specs.Ways.{Passed};
+ghost use Rattle.dataset.specs.Told.{Passed};
 ghost use Rattle.packing.specs.Packing.{minimaFrom, openingOf, minimaOf, headOf, tideOf, entered, turnOf, turnsOf, textOf, going};
-ghost use Rattle.packing.specs.WordLaws.{Within};
+ghost use Rattle.packing.specs.Words.{Within};
 ghost use Rattle.packing.specs.Reached.{Reaches, Begins, Finishes, stoppedAt, afterCall};
 ghost use Rattle.packing.specs.Narrowing.{narrowMinima};
 

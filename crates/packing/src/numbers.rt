@@ -8,7 +8,7 @@ ghost use lib.ListN.{length};
 ghost use Rattle.packing.specs.Packing.{numberOf, numbersOf};
 ghost use Rattle.packing.specs.Steps.{givenOf, readOf};
 ghost use Rattle.packing.specs.Narrowing.{narrowed};
-ghost use Rattle.packing.specs.WordLaws.{Within};
+ghost use Rattle.packing.specs.Words.{Within};
 
 pub enum Given {
     // The number and the place after it.

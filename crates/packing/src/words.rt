@@ -5,7 +5,7 @@ ghost use mathlib.Core.Bool.{false};
 ghost use Prim.Native.Nat.{_+_, _≤_, _<_};
 ghost use lib.ListN.{length, drop};
 ghost use Rattle.packing.specs.Words.{newline, newlines, endsWord, begins, commentAfter, digit, withDigit, startOf, wordOf, numeralOf, nextOf};
-ghost use Rattle.packing.specs.WordLaws.{Within, capped};
+ghost use Rattle.packing.specs.Words.{Within, capped};
 
 // A place in the text, and its line, from 1.
 pub struct Cursor {

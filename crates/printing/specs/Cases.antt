@@ -1,7 +1,7 @@
 -- The sheets of document 01 and some more, from the bytes of a file, by computation. Assumes nothing.
 use mathlib.Core.Path.{_≡_, refl}
 use mathlib.Core.List.{[], _∷_, map, flatMap, headD}
-use Rattle.lists.specs.Lists.{every, sum, count, greatest, tabulate}
+use Rattle.lists.specs.Lists.{every, sumBelow, countBelow, greatest, tabulate}
 use Rattle.study.specs.Problem.{centresAmong, centres, centreOf, choices, block, labels, allSufficient, assignments, assignable, candidates, radius, blocking, diameter, greatestDiameter}
 use Rattle.study.specs.Study.{noTide, tide, distance, meets, sufficient, problem, validMinima}
 use Rattle.study.specs.Refusals.{firstOf}
@@ -32,5 +32,5 @@ pub sheets : map sheetOf
     ∷ ascii "refused 8\n"
     ∷ ascii "refused 7\n"
     ∷ []
-unfolding sheetOf readReasons headReasons tideReasons decoded minimaAt tideAt byteLength bitLength binary triangle breaking distance tide noTide validMinima every sum tabulate flatMap firstOf blockReasons figures blockRecord centresAmong centres centreOf choices block labels allSufficient assignments assignable candidates radius blocking diameter greatestDiameter meets sufficient problem count greatest headD heading lines line closing refusedText decimal digits
+unfolding sheetOf readReasons headReasons tideReasons decoded minimaAt tideAt byteLength bitLength binary triangle breaking distance tide noTide validMinima every sumBelow tabulate flatMap firstOf blockReasons figures blockRecord centresAmong centres centreOf choices block labels allSufficient assignments assignable candidates radius blocking diameter greatestDiameter meets sufficient problem countBelow greatest headD heading lines line closing refusedText decimal digits
 sheets = refl

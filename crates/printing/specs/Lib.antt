@@ -1,5 +1,3 @@
 -- Statements: Sheet, Cases, and `decided` of Limit. Laws for the code: Laws.
 pub mod Sheet
 pub mod Cases
-pub mod Laws
-pub mod Limit

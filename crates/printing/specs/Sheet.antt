@@ -7,6 +7,9 @@ use Rattle.study.specs.Refusals.{Verdict, replied, firstOf}
 use Rattle.study.specs.Calls.{blockReasons, figures, blockRecord}
 use Rattle.file_format.specs.File.{decoded, readReasons}
 use Rattle.sheet_text.specs.Text.{sheetText}
+use Rattle.validity.specs.Memory.{State}
+use Rattle.blocking.specs.Answers.{blockReply, blockRecords}
+use Rattle.blocking.specs.Rows.{noRecords}
 
 -- accepted: the blocks of the study, and the withdrawals; otherwise the refusal
 abbrev pub printed : Verdict → Contents → List ℕ
@@ -19,3 +22,7 @@ unfoldable pub sheetOf : List ℕ → List ℕ
 sheetOf file =
     let H = decoded file in
     printed (firstOf (readReasons file ++ blockReasons (H .study) 120 120)) H
+
+-- what is printed of Block on a record and memory, with room for 120 tides
+unfoldable pub blockedText : State → List ℕ
+blockedText s = sheetText (blockReply s 120 120) (blockRecords s 120 noRecords) (s .dataset .withdrawn)

@@ -15,7 +15,7 @@ ghost use Rattle.study.specs.Refusals.{numbered};
 ghost use Rattle.validity.specs.Memory.{stateOf};
 ghost use Rattle.sheet_text.specs.Text.{refusedText};
 ghost use Rattle.printing.specs.Sheet.{sheetOf};
-ghost use Rattle.printing.specs.Laws.{blockedText};
+ghost use Rattle.printing.specs.Sheet.{blockedText};
 
 // A record to read over: Read takes any.
 fn blank() -> Dataset {

@@ -1,3 +1,2 @@
 pub mod Posed
-pub mod Gaps
 pub mod Radii

@@ -1,39 +1,21 @@
 -- The radii from one upwards as far as the centres stay, and the least with an assignment. Assumes nothing.
-use Prim.Native.Nat.{ℕ, _+_, _*_, _-_, _≤_, _<_}
-use native.Mathlib.Omega.{arith}
-use mathlib.Core.Path.{_≡_, refl, sym, ap, _∙_, subst}
-use mathlib.Core.Logic.{_⊎_, inl, inr, ⊎-elim}
-use mathlib.Core.Bool.{Bool, true, false, not}
-use mathlib.Core.List.{List, Memᴰ·cast}
-use lib.Dec.{T, eqb, eqb→eq, T-not}
-use lib.ListN.{length, drop, getD}
-use Rattle.lists.specs.Lists.{_∈_, at, every}
-use Rattle.lists.specs.Tests.{split, test, every-at, not-every, not-not, eq→eqb}
-use Rattle.lists.specs.Members.{place}
-use Rattle.study.specs.declared.Minima.{Minima}
-use Rattle.study.specs.Problem.{Problem, centres, candidates, labels}
+use Prim.Native.Nat.{ℕ, _≤_, _<_}
+use mathlib.Core.Path.{_≡_}
+use mathlib.Core.Bool.{Bool, true, false}
+use mathlib.Core.List.{List}
+use lib.ListN.{length, drop}
+use Rattle.study.specs.Problem.{Problem, centres, labels}
 use Rattle.study.specs.Theorems.{Assignment}
-use Rattle.matching.specs.Promise.{Assigned, Promise}
-use Rattle.matching.specs.Enough.{enough-tides}
-use Rattle.radii.specs.Posed.{posed, Proper}
-use Rattle.radii.specs.Gaps.{Empty, apart-mem}
-use Rattle.radii.specs.Radii.{Lowest, Ahead, NoneTo, Spread, lowest-start, lowest-next, dist-candidate, zero-candidate, candidate-is, candidate-small, stays}
-use Rattle.radius.specs.Front.{Front, front-at, front-below, CentresAt}
-use Rattle.radius.specs.Next.{Next, InPairs, FirstFrom}
+use Rattle.promise.specs.Promise.{Test, Assigned}
+use Rattle.radii.specs.Posed.{posed}
+use Rattle.radii.specs.Radii.{Empty, Lowest, NoneTo}
+use Rattle.radius.specs.Front.{CentresAt}
 use Rattle.radius.specs.Table.{Table}
-use Rattle.radius.specs.Assigning.{numbered, assigning-by, assigns-by, allowed-by, assigns}
-use Rattle.radius.specs.Bounds.{Bounded}
 
 -- places from n on stay
 pub record Kept (n : ℕ) (old new : List ℕ) : Type 0 where
   pub same-length : length new ≡ length old
   pub rest : drop n new ≡ drop n old
-
-pub kept-same : (n : ℕ) (l : List ℕ) → Kept n l l
-kept-same n l = record { same-length = refl; rest = refl }
-
-pub kept-on : {n : ℕ} {a b c : List ℕ} → Kept n a b → Kept n b c → Kept n a c
-kept-on p q = record { same-length = q .same-length ∙ p .same-length; rest = q .rest ∙ p .rest }
 
 -- the same centres at every radius from g up to limit
 pub record Steady (d : List ℕ) (n g limit count : ℕ) (cs : List ℕ) : Type 0 where
@@ -44,256 +26,29 @@ abbrev pub Some : Problem → ℕ → Type 0
 Some P g = (xs : List ℕ) × Assignment P g xs
 
 -- r says whether there is an assignment at g, and then list is one
-pub record Tried (d s : List ℕ) (n : ℕ) (M : Minima) (cs : List ℕ) (count g : ℕ) (old allowed list : List ℕ) (r : Bool) : Type 0 where
+pub record Tried (d : List ℕ) (n : ℕ) (E : Test) (cs : List ℕ) (count g : ℕ) (old allowed list : List ℕ) (r : Bool) : Type 0 where
   pub table : Table d cs g count n old allowed
-  pub found : r ≡ true → Assigned n count M s allowed (labels list)
-  pub none : r ≡ false → Empty (posed d s n M) g
-
--- none from start up to low, and one at high
-pub record Bracketed (d s : List ℕ) (n : ℕ) (M : Minima) (start limit low high : ℕ) : Type 0 where
-  pub up : start ≤ low
-  pub order : low ≤ high
-  pub most : high < limit
-  pub none : NoneTo (posed d s n M) start low
-  pub here : Some (posed d s n M) high
-
-pub bracket-start : {d s : List ℕ} {n : ℕ} {M : Minima} {start limit : ℕ} → start < limit → Some (posed d s n M) (limit - 1) → Bracketed d s n M start limit start (limit - 1)
-bracket-start l B = record { up = omega arith; order = omega arith; most = omega arith; none = λ h up low. absurd (omega arith); here = B }
-
-pub bracket-yes : {d s : List ℕ} {n : ℕ} {M : Minima} {start limit low high : ℕ} (mid : ℕ) → low ≤ mid → mid < high → Bracketed d s n M start limit low high → Some (posed d s n M) mid
-    → Bracketed d s n M start limit low mid
-bracket-yes mid l k B A = record { up = B .up; order = l; most = omega (arith, B .most); none = B .none; here = A }
+  pub found : r ≡ true → Assigned n count E allowed (labels list)
+  pub none : r ≡ false → Empty (posed d n E) g
 
 -- r is the least radius from start up to limit with an assignment
-pub record Bisected (d s : List ℕ) (n : ℕ) (M : Minima) (start limit r : ℕ) : Type 0 where
+pub record Bisected (d : List ℕ) (n : ℕ) (E : Test) (start limit r : ℕ) : Type 0 where
   pub up : start ≤ r
   pub most : r < limit
-  pub none : NoneTo (posed d s n M) start r
-  pub here : Some (posed d s n M) r
-
-pub bracket-end : {d s : List ℕ} {n : ℕ} {M : Minima} {start limit low high : ℕ} → high ≤ low → Bracketed d s n M start limit low high → Bisected d s n M start limit low
-bracket-end {d} {s} {n} {M} l B =
-    record { up = B .up; most = omega (arith, B .most); none = B .none; here = subst (Some (posed d s n M)) (omega (arith, B .order)) (B .here) }
-
-module _ {d s : List ℕ} {n : ℕ} {M : Minima} (Q : Proper d s n M) (count : ℕ) (cs : List ℕ) where
-  abbrev P : Problem
-  P = posed d s n M
-
-  listed : {g : ℕ} → CentresAt d n g count cs → Front cs count (centres P g)
-  unfolding centres posed
-  listed C = C .front
-
-  -- ---- how far the centres stay
-
-  module _ (g : ℕ) (C : CentresAt d n g count cs) where
-    -- the place of a centre in the table
-    record Placed (c : ℕ) : Type 0 where
-      index : ℕ
-      inside : index < count
-      is : getD cs index 0 ≡ c
-      tide : c < n
-
-    placed : (c : ℕ) → c ∈ centres P g → Placed c
-    placed c m =
-        let p = place 0 (centres P g) m in
-        let l : p .0 < count = omega (arith, p .1, listed C .long) in
-        let e : getD cs (p .0) 0 ≡ c = front-at (listed C) (p .0) l ∙ p .2 in
-        record { index = p .0; inside = l; is = e; tide = subst (λ z. z < n) e (front-below C (p .0) l) }
-
-    -- r is at most the distance of any two centres
-    spread : (r : ℕ) → Next (InPairs d cs count count) g 1048576 r → Spread Q g r
-    spread r N c t m k l = by (split (p .index) (q .index)) (split (q .index) (p .index))
-      where
-        p : Placed c
-        p = placed c m
-
-        q : Placed t
-        q = placed t k
-
-        far : g < P .dist c t
-        far = apart-mem P g (Q .lawful .symmetric .both-ways) c t m k l
-
-        by : (p .index < q .index) ⊎ (q .index ≤ p .index) → (q .index < p .index) ⊎ (p .index ≤ q .index) → r ≤ P .dist c t
-        by (inl a) b =
-            let e : P .dist c t ≡ at d (getD cs (p .index) 0) (getD cs (q .index) 0) = Q .dist c t (p .tide) (q .tide) ∙ rw (p .is, q .is) in
-            N .least (P .dist c t) (p .index, p .inside, (q .index, a, q .inside, e)) far
-        by (inr a) (inl b) =
-            let e : P .dist c t ≡ at d (getD cs (q .index) 0) (getD cs (p .index) 0) =
-            Q .lawful .symmetric .both-ways c t ∙ Q .dist t c (q .tide) (p .tide) ∙ rw (p .is, q .is) in
-            N .least (P .dist c t) (q .index, q .inside, (p .index, b, p .inside, e)) far
-        by (inr a) (inr b) =
-            let e : p .index ≡ q .index = omega arith in
-            let f : c ≡ t = sym (p .is) ∙ ap (λ z. getD cs z 0) e ∙ q .is in
-            absurd (omega arith)
-
-    pub steady : (limit : ℕ) → Next (InPairs d cs count count) g 1048576 limit → Steady d n g limit count cs
-    unfolding centres posed
-    steady limit N = record { stay = λ h up low. record { front = subst (Front cs count) (sym (stays Q g h limit up low (spread limit N))) (C .front) } }
-
-    pub pairs-ahead : (limit : ℕ) → Next (InPairs d cs count count) g 1048576 limit → Ahead P limit
-    pairs-ahead limit N =
-        ⊎-elim (λ e. inl e)
-        (λ q. let v = q .0 in
-        let w = v .2 in
-        inr (Memᴰ·cast (w .3) (dist-candidate Q (getD cs (v .0) 0) (getD cs (w .0) 0) (front-below C (v .0) (v .1)) (front-below C (w .0) (w .2)))))
-        (N .is)
-
-  -- more blocks than the tides allow
-  none-many : (g limit : ℕ) → Steady d n g limit count cs → n < count * M .b0 → NoneTo P g limit
-  none-many g limit S many h up low xs B =
-      let May : ℕ → ℕ → Type 0 = λ t m. t ≡ t in
-      omega (arith, enough-tides n count M s May (λ t. labels xs t - 1) (assigning-by Q h count cs (listed (S .stay h up low)) May (λ t m tl ml l. refl) xs B))
-
-  pub many-lowest : 0 < n → (g limit : ℕ) → Lowest P g → CentresAt d n g count cs → Next (InPairs d cs count count) g 1048576 limit → n < count * M .b0 → Lowest P limit
-  many-lowest pos g limit L C N many = lowest-next Q pos g limit L (none-many g limit (steady g C limit N) many) (pairs-ahead g C limit N)
-
-  -- ---- one radius
-
-  pub tried : (g : ℕ) (C : CentresAt d n g count cs) (old allowed list list₀ : List ℕ) (r : Bool) → Table d cs g count n old allowed → Promise n count M s allowed list₀ list r
-      → Tried d s n M cs count g old allowed list r
-  tried g C old allowed list list₀ r A R =
-      record {
-        table = A;
-        found = R .found;
-        none = λ e xs B. R .none e (λ t. labels xs t - 1) (allowed-by Q g count cs (listed C) allowed (A .here) xs B);
-      }
-
-  pub tried-some : {g : ℕ} {old allowed list : List ℕ} {r : Bool} → CentresAt d n g count cs → Tried d s n M cs count g old allowed list r → r ≡ true → Some P g
-  tried-some {g} {allowed = allowed} {list = list} C A e = (numbered n (labels list), assigns Q g count cs (listed C) allowed (A .table .here) (labels list) (A .found e))
-
-  -- ---- while the centres stay, existence is monotone
-
-  module _ (start limit : ℕ) (S : Steady d n start limit count cs) where
-    near : (h : ℕ) → start ≤ h → h < limit → Front cs count (centres P h)
-    near h up low = listed (S .stay h up low)
-
-    abbrev Within : ℕ → ℕ → ℕ → Type 0
-    Within h t m = at d (getD cs m 0) t ≤ h
-
-    -- from one radius to another, where every tide that is near enough for the one is so for the other
-    moved : (g h : ℕ) → start ≤ g → g < limit → start ≤ h → h < limit → ((t m : ℕ) → t < n → m < count → Within g t m → Within h t m) → Some P g → Some P h
-    moved g h a b c e w B = (
-      numbered n (λ t. labels (B .0) t - 1),
-      assigns-by Q h count cs (near h c e) (Within h) (λ t m tl ml l. l) (λ t. labels (B .0) t - 1)
-          (assigning-by Q g count cs (near g a b) (Within h) w (B .0) (B .1)),
-    )
-
-    pub none-below : (mid : ℕ) → start ≤ mid → mid < limit → Empty P mid → NoneTo P start (mid + 1)
-    none-below mid a b none h up low xs B =
-        let r = moved h mid up (omega arith) a b (λ t m tl ml l. omega arith) (xs, B) in
-        none (r .0) (r .1)
-
-    pub bracket-no : {low high : ℕ} (mid : ℕ) → low ≤ mid → mid < high → Bracketed d s n M start limit low high → Empty P mid → Bracketed d s n M start limit (mid + 1) high
-    bracket-no mid l k B none =
-        record {
-          up = omega (arith, B .up);
-          order = omega arith;
-          most = B .most;
-          none = none-below mid (omega (arith, B .up)) (omega (arith, B .most)) none;
-          here = B .here;
-        }
-
-    -- the least radius with an assignment is a candidate: else no tide is farther at the one before
-    module _ (r : ℕ) (L : Bisected d s n M start limit r) where
-      -- tide t is not at r from centre m
-      elsewhere : ℕ → ℕ → Bool
-      elsewhere m t = not (eqb (at d (getD cs m 0) t) r)
-
-      nearer : (x : ℕ) → x ≤ r → T (not (eqb x r)) → x ≤ r - 1
-      nearer x l u = ⊎-elim (λ k. omega arith) (λ k. absurd (T-not (eqb x r) u (eq→eqb x r (omega arith)))) (split x r)
-
-      by : start < r → T (every count (λ m. every n (elsewhere m))) ⊎ T (not (every count (λ m. every n (elsewhere m)))) → r ∈ candidates P
-      unfolding elsewhere
-      by l (inl u) =
-          let w = moved r (r - 1) (L .up) (L .most) (omega arith) (omega (arith, L .most))
-          (λ t m tl ml k. nearer (at d (getD cs m 0) t) k (every-at n (elsewhere m) (every-at count (λ m. every n (elsewhere m)) u m ml) t tl)) (L .here) in
-          absurd (L .none (r - 1) (omega arith) (omega arith) (w .0) (w .1))
-      by l (inr u) =
-          let p = not-every count (λ m. every n (elsewhere m)) u in
-          let q = not-every n (elsewhere (p .0)) (p .2) in
-          let x = at d (getD cs (p .0) 0) (q .0) in
-          Memᴰ·cast (sym (eqb→eq x r (not-not (eqb x r) (q .2))))
-          (dist-candidate Q (getD cs (p .0) 0) (q .0) (front-below (S .stay r (L .up) (L .most)) (p .0) (p .1)) (q .1))
-
-      pub least-candidate : start ∈ candidates P → r ∈ candidates P
-      least-candidate first =
-          ⊎-elim (λ l. by l (test (every count (λ m. every n (elsewhere m))))) (λ l. Memᴰ·cast (omega (arith, L .up)) first) (split start r)
-
--- ---- the radii up to limit
+  pub none : NoneTo (posed d n E) start r
+  pub here : Some (posed d n E) r
 
 -- no candidate below r has an assignment, and r is limit, or list is an assignment in the table of r
-pub record Ascent (d s : List ℕ) (n : ℕ) (M : Minima) (cs : List ℕ) (count start limit r : ℕ) (old allowed list : List ℕ) : Type 0 where
+pub record Ascent (d : List ℕ) (n : ℕ) (E : Test) (cs : List ℕ) (count start limit r : ℕ) (old allowed list : List ℕ) : Type 0 where
   pub up : start ≤ r
   pub most : r ≤ limit
   pub same-length : length allowed ≡ length old
-  pub lowest : Lowest (posed d s n M) r
+  pub lowest : Lowest (posed d n E) r
   pub table : r < limit → Table d cs r count n old allowed
-  pub found : r < limit → Assigned n count M s allowed (labels list)
+  pub found : r < limit → Assigned n count E allowed (labels list)
 
-module _ {d s : List ℕ} {n : ℕ} {M : Minima} (Q : Proper d s n M) (pos : 0 < n) {cs : List ℕ} {count start limit : ℕ} (S : Steady d n start limit count cs)
-    (L : Lowest (posed d s n M) start) where
-  -- none up to limit
-  pub ascent-none : {lent old allowed list : List ℕ} {r : Bool} → start < limit → Ahead (posed d s n M) limit → Tried d s n M cs count (limit - 1) old allowed list r → r ≡ false
-      → length old ≡ length lent → Ascent d s n M cs count start limit limit lent allowed list
-  ascent-none low end A e q =
-      record {
-        up = omega arith;
-        most = omega arith;
-        same-length = A .table .same-length ∙ q;
-        lowest = lowest-next Q pos start limit L
-            (λ h up l. none-below Q count cs start limit S (limit - 1) (omega arith) (omega arith) (A .none e) h up (omega arith)) end;
-        table = λ h. absurd (omega arith);
-        found = λ h. absurd (omega arith);
-      }
-
-  -- the least
-  pub ascent-found : {g : ℕ} {lent old allowed list : List ℕ} {r : Bool} → Bisected d s n M start limit g → Tried d s n M cs count g old allowed list r
-      → length old ≡ length lent → Ascent d s n M cs count start limit g lent allowed list
-  ascent-found {g} {allowed = allowed} {list = list} {r = r} B A q =
-      record {
-        up = B .up;
-        most = omega (arith, B .most);
-        same-length = A .table .same-length ∙ q;
-        lowest = lowest-next Q pos start g L (B .none) (inr (least-candidate Q count cs start limit S g B (L .held)));
-        table = λ _. record { same-length = A .table .same-length ∙ q; here = A .table .here };
-        found = λ _. by r refl;
-      }
-    where
-      by : (b : Bool) → r ≡ b → Assigned n count M s allowed (labels list)
-      by true e = A .found e
-      by false e = absurd (A .none e (B .here .0) (B .here .1))
-
--- ---- the least radius
-
-pub record Least (d s : List ℕ) (n : ℕ) (M : Minima) (g count : ℕ) (cs old allowed list : List ℕ) : Type 0 where
+pub record Least (d : List ℕ) (n : ℕ) (E : Test) (g count : ℕ) (cs old allowed list : List ℕ) : Type 0 where
   pub centres : CentresAt d n g count cs
   pub table : Table d cs g count n old allowed
-  pub found : Assigned n count M s allowed (labels list)
-  pub lowest : Lowest (posed d s n M) g
-
-module _ {d s : List ℕ} {n : ℕ} {M : Minima} (Q : Proper d s n M) (pos : 0 < n) where
-  -- a candidate is a distance, or 0
-  pub lowest-small : (g : ℕ) → Lowest (posed d s n M) g → g < 1048576
-  lowest-small g L = omega (arith, candidate-small Q g (L .held))
-
-  -- the least candidate from the lower bound on
-  pub first-lowest : (low r : ℕ) → Bounded d s n M low → FirstFrom d n low r → Lowest (posed d s n M) r
-  first-lowest low r B F =
-      lowest-start Q pos low r (B .none (posed d s n M) Q)
-      (λ h m k. F .least h (⊎-elim (λ e. inl e) (λ q. inr (q .0, q .2, (q .1, q .3, q .4))) (candidate-is Q h m)) k)
-      (⊎-elim (λ e. inl e) (λ q. inr (⊎-elim (λ e. Memᴰ·cast e (zero-candidate Q)) (λ w. Memᴰ·cast (w .2 .2) (dist-candidate Q (w .0) (w .2 .0) (w .1) (w .2 .1))) q)) (F .is))
-
-pub ascended : {d s : List ℕ} {n : ℕ} {M : Minima} {g limit count r : ℕ} {cs old allowed list : List ℕ} → Ascent d s n M cs count g limit r old allowed list → limit ≤ r
-    → Lowest (posed d s n M) limit
-ascended {d} {s} {n} {M} A l = subst (Lowest (posed d s n M)) (omega (arith, A .most)) (A .lowest)
-
--- the table is long as the one that was lent
-pub least-found : {d s : List ℕ} {n : ℕ} {M : Minima} {g limit count r : ℕ} {cs lent old allowed list : List ℕ} → Steady d n g limit count cs → length old ≡ length lent
-    → Ascent d s n M cs count g limit r old allowed list → r < limit → Least d s n M r count cs lent allowed list
-least-found {r = r} S q A l =
-    record {
-      centres = S .stay r (A .up) l;
-      table = record { same-length = A .same-length ∙ q; here = A .table l .here };
-      found = A .found l;
-      lowest = A .lowest;
-    }
+  pub found : Assigned n count E allowed (labels list)
+  pub lowest : Lowest (posed d n E) g

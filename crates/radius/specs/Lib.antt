@@ -3,5 +3,4 @@ pub mod Next
 pub mod Tally
 pub mod Bounds
 pub mod Table
-pub mod Assigning
 pub mod Ascents

@@ -3,11 +3,11 @@ use crate::counts::counts_meet;
 use crate::counts::wide;
 use study::Minima;
 ghost use mathlib.Core.Path.{_≡_};
-ghost use Prim.Native.Nat.{ℕ, _<_, _≤_};
+ghost use Prim.Native.Nat.{_<_, _≤_};
 ghost use lib.Dec.{leb};
-ghost use lib.ListN.{getD, replicate};
+ghost use lib.ListN.{replicate};
 ghost use Rattle.lists.specs.Lists.{bit};
-ghost use Rattle.study.specs.Study.{meets};
+ghost use Rattle.promise.specs.Promise.{meeting, Able};
 ghost use Rattle.radii.specs.Posed.{Sized, ball};
 ghost use Rattle.radius.specs.Bounds.{Bounded};
 ghost use Rattle.radius.specs.Tally.{Tallied};
@@ -32,7 +32,7 @@ fn count_near(
     g: u32,
     counts: &mut [usize; 9],
 ) -> usize
-    requires { ⌜ Sized (now distances) (now settings) n minima ⌝ }
+    requires { ⌜ Sized (Able minima n (now settings)) (now distances) n ⌝ }
     requires { ⌜ c < n ⌝ }
     requires { ⌜ now counts ≡ replicate 9 0 ⌝ }
     ensures { λ r. ⌜ Tallied (now (settings .entry)) (ball (now (distances .entry)) c g) n r (now (counts .exit)) ⌝ }
@@ -58,9 +58,9 @@ pub fn ball_meets(
     c: usize,
     g: u32,
 ) -> bool
-    requires { ⌜ Sized (now distances) (now settings) n minima ⌝ }
+    requires { ⌜ Sized (Able minima n (now settings)) (now distances) n ⌝ }
     requires { ⌜ c < n ⌝ }
-    ensures { λ r. ⌜ r ≡ meets minima n (λ (t : ℕ). getD (now (settings .entry)) t 0) (ball (now (distances .entry)) c g) ⌝ }
+    ensures { λ r. ⌜ r ≡ meeting minima n (now (settings .entry)) (ball (now (distances .entry)) c g) ⌝ }
 {
     let mut counts: [usize; 9] = [0; 9];
     let found = count_near(distances, settings, n, minima, c, g, &mut counts);
@@ -69,9 +69,9 @@ pub fn ball_meets(
 
 // A radius below which none has an assignment.
 pub fn lower_bound(distances: &[u32], settings: &[u8], n: usize, minima: Minima) -> u32
-    requires { ⌜ Sized (now distances) (now settings) n minima ⌝ }
+    requires { ⌜ Sized (Able minima n (now settings)) (now distances) n ⌝ }
     requires { ⌜ 0 < n ⌝ }
-    ensures { λ r. ⌜ Bounded (now (distances .entry)) (now (settings .entry)) n minima r ⌝ }
+    ensures { λ r. ⌜ Bounded (now (distances .entry)) n (meeting minima n (now (settings .entry))) r ⌝ }
 {
     let mut low: u32 = 0;
     let mut high: u32 = 1048575;

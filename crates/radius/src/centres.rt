@@ -3,7 +3,7 @@ ghost use mathlib.Core.Path.{_≡_};
 ghost use Prim.Native.Nat.{ℕ, _*_, _<_, _≤_};
 ghost use lib.Dec.{ltb};
 ghost use lib.ListN.{length, getD, take};
-ghost use Rattle.lists.specs.Lists.{all};
+ghost use Rattle.lists.specs.Lists.{allOf};
 ghost use Rattle.radii.specs.Posed.{within};
 ghost use Rattle.radius.specs.Front.{CentresAt};
 
@@ -18,7 +18,7 @@ fn far_from(
 ) -> bool
     requires { ⌜ (n ≤ 120) × (n * 120 ≤ length (now distances)) × (length (now centres) ≡ 120) × (count ≤ 120) × (t < n) ⌝ }
     requires { ⌜ ((m : ℕ) → m < count → getD (now centres) m 0 < n) ⌝ }
-    ensures { λ r. ⌜ r ≡ all (λ c. ltb g (within (now (distances .entry)) n c t)) (take count (now (centres .entry))) ⌝ }
+    ensures { λ r. ⌜ r ≡ allOf (λ c. ltb g (within (now (distances .entry)) n c t)) (take count (now (centres .entry))) ⌝ }
 {
     let mut m = 0;
     while m < count {

@@ -16,6 +16,7 @@ use study::Minima;
 ghost use mathlib.Core.Path.{_≡_};
 ghost use Prim.Native.Nat.{_-_, _<_, _≤_};
 ghost use lib.ListN.{length};
+ghost use Rattle.promise.specs.Promise.{meeting, Able};
 ghost use Rattle.radii.specs.Posed.{posed, Proper, Sized};
 ghost use Rattle.radii.specs.Radii.{Lowest, Ahead};
 ghost use Rattle.radius.specs.Front.{CentresAt};
@@ -33,11 +34,11 @@ fn assignable(
     allowed: &mut [u8],
     list: &mut [u8],
 ) -> bool
-    requires { ⌜ Sized (now distances) (now settings) n minima ⌝ }
-    requires { ⌜ Proper (now distances) (now settings) n minima ⌝ }
+    requires { ⌜ Sized (Able minima n (now settings)) (now distances) n ⌝ }
+    requires { ⌜ Proper (now distances) n (meeting minima n (now settings)) ⌝ }
     requires { ⌜ CentresAt (now distances) n g count (now centres) ⌝ }
     requires { ⌜ (14400 ≤ length (now allowed)) × (n ≤ length (now list)) ⌝ }
-    ensures { λ r. ⌜ Tried (now (distances .entry)) (now (settings .entry)) n minima (now (centres .entry)) count g (now (allowed .entry)) (now (allowed .exit)) (now (list .exit)) r ⌝ }
+    ensures { λ r. ⌜ Tried (now (distances .entry)) n (meeting minima n (now (settings .entry))) (now (centres .entry)) count g (now (allowed .entry)) (now (allowed .exit)) (now (list .exit)) r ⌝ }
     ensures { λ _. ⌜ Kept n (now (list .entry)) (now (list .exit)) ⌝ }
 {
     allow(distances, n, centres, count, g, allowed);
@@ -58,12 +59,12 @@ fn bisect(
     allowed: &mut [u8],
     list: &mut [u8],
 ) -> u32
-    requires { ⌜ Sized (now distances) (now settings) n minima ⌝ }
-    requires { ⌜ Proper (now distances) (now settings) n minima ⌝ }
+    requires { ⌜ Sized (Able minima n (now settings)) (now distances) n ⌝ }
+    requires { ⌜ Proper (now distances) n (meeting minima n (now settings)) ⌝ }
     requires { ⌜ Steady (now distances) n start limit count (now centres) ⌝ }
-    requires { ⌜ Some (posed (now distances) (now settings) n minima) (limit - 1) ⌝ }
+    requires { ⌜ Some (posed (now distances) n (meeting minima n (now settings))) (limit - 1) ⌝ }
     requires { ⌜ (start < limit) × (14400 ≤ length (now allowed)) × (n ≤ length (now list)) ⌝ }
-    ensures { λ r. ⌜ Bisected (now (distances .entry)) (now (settings .entry)) n minima start limit r ⌝ }
+    ensures { λ r. ⌜ Bisected (now (distances .entry)) n (meeting minima n (now (settings .entry))) start limit r ⌝ }
     ensures { λ _. ⌜ length (now (allowed .exit)) ≡ length (now (allowed .entry)) ⌝ }
     ensures { λ _. ⌜ Kept n (now (list .entry)) (now (list .exit)) ⌝ }
 {
@@ -103,12 +104,12 @@ fn ascend(
     allowed: &mut [u8],
     list: &mut [u8],
 ) -> u32
-    requires { ⌜ Sized (now distances) (now settings) n minima ⌝ }
-    requires { ⌜ Proper (now distances) (now settings) n minima ⌝ }
+    requires { ⌜ Sized (Able minima n (now settings)) (now distances) n ⌝ }
+    requires { ⌜ Proper (now distances) n (meeting minima n (now settings)) ⌝ }
     requires { ⌜ Steady (now distances) n start limit count (now centres) ⌝ }
-    requires { ⌜ Lowest (posed (now distances) (now settings) n minima) start × Ahead (posed (now distances) (now settings) n minima) limit ⌝ }
+    requires { ⌜ Lowest (posed (now distances) n (meeting minima n (now settings))) start × Ahead (posed (now distances) n (meeting minima n (now settings))) limit ⌝ }
     requires { ⌜ (0 < n) × (start < limit) × (14400 ≤ length (now allowed)) × (n ≤ length (now list)) ⌝ }
-    ensures { λ r. ⌜ Ascent (now (distances .entry)) (now (settings .entry)) n minima (now (centres .entry)) count start limit r (now (allowed .entry)) (now (allowed .exit)) (now (list .exit)) ⌝ }
+    ensures { λ r. ⌜ Ascent (now (distances .entry)) n (meeting minima n (now (settings .entry))) (now (centres .entry)) count start limit r (now (allowed .entry)) (now (allowed .exit)) (now (list .exit)) ⌝ }
     ensures { λ _. ⌜ Kept n (now (list .entry)) (now (list .exit)) ⌝ }
 {
     if !assignable(
@@ -166,10 +167,10 @@ pub fn least_radius(
     allowed: &mut [u8],
     list: &mut [u8],
 ) -> Found
-    requires { ⌜ Sized (now distances) (now settings) n minima ⌝ }
-    requires { ⌜ Proper (now distances) (now settings) n minima ⌝ }
+    requires { ⌜ Sized (Able minima n (now settings)) (now distances) n ⌝ }
+    requires { ⌜ Proper (now distances) n (meeting minima n (now settings)) ⌝ }
     requires { ⌜ (0 < n) × (length (now centres) ≡ 120) × (14400 ≤ length (now allowed)) × (n ≤ length (now list)) ⌝ }
-    ensures { λ r. ⌜ Least (now (distances .entry)) (now (settings .entry)) n minima (r .radius) (r .count) (now (centres .exit)) (now (allowed .entry)) (now (allowed .exit)) (now (list .exit)) ⌝ }
+    ensures { λ r. ⌜ Least (now (distances .entry)) n (meeting minima n (now (settings .entry))) (r .radius) (r .count) (now (centres .exit)) (now (allowed .entry)) (now (allowed .exit)) (now (list .exit)) ⌝ }
     ensures { λ _. ⌜ Kept n (now (list .entry)) (now (list .exit)) ⌝ }
 {
     let b0 = minima.b0 as usize;

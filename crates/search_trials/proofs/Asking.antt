@@ -2,18 +2,19 @@
 use Prim.Native.Nat.{ℕ, _+_, _-_, _<_}
 use mathlib.Core.List.{List, [], _∷_}
 use native.Mathlib.Omega.{arith}
-use Rattle.lists.specs.Lists.{sum}
-use Rattle.matching.specs.Promise.{Asked}
+use Rattle.lists.specs.Lists.{sumBelow}
+use Rattle.promise.specs.Promise.{Asked}
+use Rattle.promise.specs.Promise.{Able}
 use Rattle.search_trials.specs.declared.plain.Question.{Question}
 use Rattle.search_trials.specs.Ranges.{Modest, Posed, Filled}
 
 pub modest : (b0 x y z : ℕ) → b0 < 3 → x < b0 + 1 → y < b0 - x + 1 → z < b0 - x - y + 1
     → Modest (record { b0 = b0; b = x ∷ y ∷ z ∷ 0 ∷ 0 ∷ 0 ∷ 0 ∷ 0 ∷ [] })
-unfolding sum
+unfolding sumBelow
 modest b0 x y z a b c d = record { small = omega arith; fit = omega arith }
 
 pub posed-asked : (q : Question) (settings allowed list : List ℕ) → Posed q → Filled settings allowed list
-    → Asked (q .n) (q .blocks) (q .minima) settings allowed list
+    → Asked (Able (q .minima) (q .n) settings) (q .n) (q .blocks) allowed list
 posed-asked q settings allowed list p f =
     let a = p .few-tides in
     let b = p .few-blocks in
@@ -21,11 +22,14 @@ posed-asked q settings allowed list p f =
     record {
       few-tides = omega arith;
       few-blocks = omega arith;
-      small = omega arith;
-      fit = p .modest .fit;
       allowed-long = omega (arith, f .rows);
-      settings-long = omega (arith, f .six);
       list-long = omega (arith, f .eight);
-      setting-low = λ t l. f .valid t (omega arith) .above;
-      setting-high = λ t l. f .valid t (omega arith) .below;
+      able =
+          record {
+            small = omega arith;
+            fit = p .modest .fit;
+            settings-long = omega (arith, f .six);
+            setting-low = λ t l. f .valid t (omega arith) .above;
+            setting-high = λ t l. f .valid t (omega arith) .below;
+          };
     }

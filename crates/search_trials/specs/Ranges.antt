@@ -3,7 +3,7 @@ use Prim.Native.Nat.{ℕ, _<_, _≤_}
 use mathlib.Core.Path.{_≡_}
 use mathlib.Core.List.{List}
 use lib.ListN.{length, getD}
-use Rattle.lists.specs.Lists.{sum}
+use Rattle.lists.specs.Lists.{sumBelow}
 use Rattle.study.specs.declared.Minima.{Minima}
 use Rattle.search_trials.specs.declared.plain.Question.{Question}
 
@@ -14,7 +14,7 @@ pub record Between (low high x : ℕ) : Type 0 where
 
 pub record Modest (M : Minima) : Type 0 where
   pub small : M .b0 ≤ 2
-  pub fit : sum 8 (λ j. getD (M .b) j 0) ≤ M .b0
+  pub fit : sumBelow 8 (λ j. getD (M .b) j 0) ≤ M .b0
 
 pub record Posed (q : Question) : Type 0 where
   pub few-tides : q .n ≤ 6

@@ -3,7 +3,7 @@ ghost use mathlib.Core.Path.{_≡_};
 ghost use Prim.Native.Nat.{_≤_, _<_};
 ghost use lib.ListN.{length};
 ghost use Rattle.lists.specs.Lists.{overwrite};
-ghost use Rattle.study.specs.CallLaws.{skip};
+ghost use Rattle.study.specs.Calls.{skip};
 ghost use Rattle.storage.specs.Places.{withRow, movedDistance, movedSetting};
 
 pub fn clear_distances(distances: &mut [u32])

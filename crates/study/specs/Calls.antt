@@ -3,9 +3,9 @@
 use Prim.Native.Nat.{ℕ, zero, suc, _+_, _-_}
 use mathlib.Core.Bool.{Bool, true, cond, not, _&&_}
 use mathlib.Core.List.{List, [], _∷_, _++_, map, flatMap}
-use lib.Dec.{leb, eqb}
+use lib.Dec.{leb, eqb, ltb}
 use lib.ListN.{length, getD, replicate}
-use Rattle.lists.specs.Lists.{between, each, range, every, count, filter, isEmpty}
+use Rattle.lists.specs.Lists.{between, each, iota, every, countBelow, filter, isEmpty}
 use Rattle.study.specs.declared.Minima.{Minima}
 use Rattle.study.specs.declared.BlockRecord.{BlockRecord}
 use Rattle.study.specs.declared.Blocked.{Blocked}
@@ -53,8 +53,8 @@ pub record Pair : Type 0 where
 -- the pairs i < j of n tides with which a new tide, at `new i` from each, breaks the three-tide rule, in order of i and then j
 unfoldable pub breaking : (ℕ → ℕ → ℕ) → ℕ → (ℕ → ℕ) → List Pair
 breaking dist n new =
-    flatMap (λ i. map (λ j. record { lower = i; upper = j }) (filter (λ j. not (triangle (dist i j) (new i) (new j))) (range (suc i) (n - suc i))))
-    (range 0 n)
+    flatMap (λ i. map (λ j. record { lower = i; upper = j }) (filter (λ j. not (triangle (dist i j) (new i) (new j))) (iota (suc i) (n - suc i))))
+    (iota 0 n)
 
 -- 7 and the first such pair
 abbrev pub firstPair : List Pair → Numbered
@@ -138,7 +138,7 @@ unfoldable pub blockRecord : Study → ℕ → BlockRecord
 blockRecord S i =
     let P = problem S in
     let D = labels (blocking P) in
-    record { centre = suc (getD (centres P (radius P)) i 0); tides = count (P .size) (block D (suc i)); diameter = diameter P D (suc i) }
+    record { centre = suc (getD (centres P (radius P)) i 0); tides = countBelow (P .size) (block D (suc i)); diameter = diameter P D (suc i) }
 
 -- the code's answer, by document 01's number and values
 abbrev pub blockedOf : Blocked → Reply Figures
@@ -170,3 +170,7 @@ abbrev pub judgedOf : Judged → Reply Judgement
 judgedOf (Judges.Approved w) = value (approval w)
 judgedOf Judges.Declined = value disapproval
 judgedOf (Judges.Refused r) = refusal (numbered r)
+
+-- the old number of tide t once tide i is gone
+abbrev pub skip : ℕ → ℕ → ℕ
+skip i t = cond (ltb t i) t (suc t)

@@ -4,11 +4,6 @@ pub mod Study
 pub mod Refusals
 pub mod Calls
 pub mod Theorems
-pub mod Cases
-pub mod ProblemLaws
-pub mod Approximation
-pub mod Dictionary
-pub mod StudyLaws
-pub mod TriangleLaws
-pub mod CallLaws
-pub mod Proofs
+pub mod Minima
+pub mod Triangle
+pub mod Renumbering

@@ -6,7 +6,7 @@ use mathlib.Core.Bool.{Bool, cond, not, _&&_}
 use mathlib.Core.List.{List, [], _∷_, _++_, flatMap, headD}
 use lib.Dec.{T, leb, ltb, eqb}
 use lib.ListN.{length, getD}
-use Rattle.lists.specs.Lists.{range, every, greatest, tabulate, all, filter, isEmpty, least, tuples}
+use Rattle.lists.specs.Lists.{iota, every, greatest, tabulate, allOf, filter, isEmpty, least, tuples}
 
 -- the tides 0 .. size - 1, their distances, and whether a set of them is sufficient for a block
 pub record Problem : Type 0 where
@@ -19,7 +19,7 @@ unfoldable pub centresAmong : (ℕ → ℕ → ℕ) → ℕ → ℕ → List ℕ
 centresAmong dist g zero = []
 centresAmong dist g (suc t) =
     let cs = centresAmong dist g t in
-    cond (all (λ c. ltb g (dist c t)) cs) (cs ++ (t ∷ [])) cs
+    cond (allOf (λ c. ltb g (dist c t)) cs) (cs ++ (t ∷ [])) cs
 
 -- document 01: centres at g
 unfoldable pub centres : Problem → ℕ → List ℕ
@@ -31,7 +31,7 @@ centreOf cs m = getD cs (m - 1) 0
 
 -- the blocks that tide t may go to, whose centre is at most g away, in the order in which t prefers them
 unfoldable pub choices : Problem → ℕ → List ℕ → ℕ → List ℕ
-choices P g cs t = filter (λ m. leb (P .dist (centreOf cs m) t) g) (range 1 (length cs))
+choices P g cs t = filter (λ m. leb (P .dist (centreOf cs m) t) g) (iota 1 (length cs))
 
 -- the tides of block m
 unfoldable pub block : (ℕ → ℕ) → ℕ → ℕ → Bool
@@ -43,7 +43,7 @@ labels xs t = getD xs t 0
 
 -- each of the blocks 1 .. l is sufficient
 unfoldable pub allSufficient : Problem → ℕ → List ℕ → Bool
-allSufficient P l xs = all (λ m. P .enough (block (labels xs) m)) (range 1 l)
+allSufficient P l xs = allOf (λ m. P .enough (block (labels xs) m)) (iota 1 l)
 
 -- document 01: the fillings at g, in dictionary order
 unfoldable pub assignments : Problem → ℕ → List (List ℕ)
@@ -56,7 +56,7 @@ assignable P g = not (isEmpty (assignments P g))
 
 -- document 01: the candidates, 0 and every distance
 unfoldable pub candidates : Problem → List ℕ
-candidates P = 0 ∷ flatMap (λ t. tabulate t (λ u. P .dist u t)) (range 0 (P .size))
+candidates P = 0 ∷ flatMap (λ t. tabulate t (λ u. P .dist u t)) (iota 0 (P .size))
 
 -- document 01: the reach, the least candidate with a filling
 unfoldable pub radius : Problem → ℕ

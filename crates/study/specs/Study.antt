@@ -6,7 +6,7 @@ use mathlib.Core.Bool.{Bool, true, cond, _&&_}
 use mathlib.Core.List.{List, [], _∷_}
 use lib.Dec.{T, leb, ltb, eqb}
 use lib.ListN.{length, getD}
-use Rattle.lists.specs.Lists.{between, each, every, sum, count}
+use Rattle.lists.specs.Lists.{between, each, every, sumBelow, countBelow}
 use Rattle.study.specs.declared.Minima.{Minima}
 use Rattle.study.specs.Problem.{Problem}
 
@@ -40,7 +40,7 @@ distance S t u = cond (ltb t u) (getD (tide S u .row) t 0) (cond (ltb u t) (getD
 
 -- of n tides with these settings, the set p has at least b0 tides, and at least b of each setting
 unfoldable pub meets : Minima → ℕ → (ℕ → ℕ) → (ℕ → Bool) → Bool
-meets M n setting p = leb (M .b0) (count n p) && every 8 (λ j. leb (getD (M .b) j 0) (count n (λ t. p t && eqb (setting t) (suc j))))
+meets M n setting p = leb (M .b0) (countBelow n p) && every 8 (λ j. leb (getD (M .b) j 0) (countBelow n (λ t. p t && eqb (setting t) (suc j))))
 
 unfoldable pub sufficient : Study → (ℕ → Bool) → Bool
 sufficient S p = meets (S .minima) (size S) (λ t. tide S t .setting) p
@@ -56,7 +56,7 @@ validMinima k M =
     each
     (between 1 120 (M .b0)
     ∷ eqb (length (M .b)) 8
-    ∷ leb (sum 8 (λ j. getD (M .b) j 0)) (M .b0)
+    ∷ leb (sumBelow 8 (λ j. getD (M .b) j 0)) (M .b0)
     ∷ every 8 (λ j. cond (ltb j k) true (eqb (getD (M .b) j 0) 0))
     ∷ [])
 
@@ -77,7 +77,8 @@ pub record Valid (S : Study) : Type 0 where
 
 -- ---- the same tides in another order
 
--- R has the tides of S in another order: tide t of R is tide `to t` of S. Settings and distances go along; k and the minima stay
+-- R has the tides of S in another order: tide t of R is tide `to t` of S. Settings and distances go along; k and the minima stay.
+-- Renumbering.antt has such an R for every order
 pub record Renumbered (S R : Study) : Type 0 where
   pub to : ℕ → ℕ
   pub back : ℕ → ℕ

@@ -7,7 +7,7 @@ use mathlib.Core.Bool.{Bool, true}
 use mathlib.Core.List.{List}
 use lib.Dec.{T, eqb}
 use lib.ListN.{length, getD, take}
-use Rattle.lists.specs.Lists.{_∈_, count, greatest, before}
+use Rattle.lists.specs.Lists.{_among_, countBelow, greatest, before}
 use Rattle.study.specs.declared.Minima.{Minima}
 use Rattle.study.specs.Problem.{Problem, centres, centreOf, choices, block, labels, assignments, assignable, candidates, radius, blocking, diameter, greatestDiameter, Feasible, feasible}
 use Rattle.study.specs.Study.{Study, Contents, size, tide, problem, Valid, Renumbered}
@@ -54,29 +54,29 @@ pub record Precedes (xs ys : List ℕ) : Type 0 where
 -- an assignment at g, and at no tide does an earlier choice begin an assignment that agrees with it before that tide
 pub record FirstAssignment (P : Problem) (g : ℕ) (xs : List ℕ) : Type 0 where
   pub assignment : Assignment P g xs
-  pub foremost : (t c : ℕ) → t < P .size → c ∈ before (labels xs t) (choices P g (centres P g) t)
+  pub foremost : (t c : ℕ) → t < P .size → c among before (labels xs t) (choices P g (centres P g) t)
       → (ys : List ℕ) → Assignment P g ys → take t ys ≡ take t xs → labels ys t ≡ c → ⊥
 
 -- the blocking is the one that document 01 singles out
 pub record Singled (P : Problem) : Type 0 where
   pub assignment : Assignment P (radius P) (blocking P)
-  pub candidate : radius P ∈ candidates P
-  pub lowest : (g : ℕ) → g ∈ candidates P → (xs : List ℕ) → Assignment P g xs → radius P ≤ g
+  pub candidate : radius P among candidates P
+  pub lowest : (g : ℕ) → g among candidates P → (xs : List ℕ) → Assignment P g xs → radius P ≤ g
   pub first : (xs : List ℕ) → Assignment P (radius P) xs → (blocking P ≡ xs) ⊎ Precedes (blocking P) xs
   -- its greatest diameter is that of its blocks
   pub widest : greatestDiameter P (labels (blocking P)) ≡ greatest (length (centres P (radius P))) (λ i. diameter P (labels (blocking P)) (suc i))
 
 -- for every lawful problem
 pub record ForProblem (P : Problem) : Type 0 where
-  pub cover : (g t : ℕ) → t < P .size → (c : ℕ) × (c ∈ centres P g) × (P .dist c t ≤ g)
+  pub cover : (g t : ℕ) → t < P .size → (c : ℕ) × (c among centres P g) × (P .dist c t ≤ g)
   pub apart : (g i j : ℕ) → i < j → j < length (centres P g) → g < P .dist (getD (centres P g) i 0) (getD (centres P g) j 0)
-  pub assignments-are : (g : ℕ) (xs : List ℕ) → (xs ∈ assignments P g) ↔ Assignment P g xs
+  pub assignments-are : (g : ℕ) (xs : List ℕ) → (xs among assignments P g) ↔ Assignment P g xs
   -- against every feasible partition of the same tides in any order
   pub bounded : (Q : Problem) → Symmetric Q → Reordered P Q → (D : ℕ → ℕ) → Feasible Q D
       → (radius P ≤ greatestDiameter Q D) × (greatestDiameter P (labels (blocking P)) ≤ 2 * greatestDiameter Q D)
   -- some partition is feasible ↔ all tides together are sufficient ↔ some candidate has an assignment
   pub feasible-exactly : 0 < P .size → ((D : ℕ → ℕ) × Feasible P D) ↔ T (P .enough (λ t. true))
-  pub assignable-exactly : 0 < P .size → ((g : ℕ) × (g ∈ candidates P) × T (assignable P g)) ↔ T (P .enough (λ t. true))
+  pub assignable-exactly : 0 < P .size → ((g : ℕ) × (g among candidates P) × T (assignable P g)) ↔ T (P .enough (λ t. true))
   pub singled : T (P .enough (λ t. true)) → Singled P
   -- how a search that only tells whether some assignment continues a given front finds the blocking
   pub found : (xs : List ℕ) → FirstAssignment P (radius P) xs → blocking P ≡ xs
@@ -85,7 +85,7 @@ pub record ForProblem (P : Problem) : Type 0 where
 -- at least b0 tides, and at least b of each setting
 pub record Ample (S : Study) : Type 0 where
   pub whole : S .minima .b0 ≤ size S
-  pub each : (j : ℕ) → j < 8 → getD (S .minima .b) j 0 ≤ count (size S) (λ t. eqb (tide S t .setting) (suc j))
+  pub each : (j : ℕ) → j < 8 → getD (S .minima .b) j 0 ≤ countBelow (size S) (λ t. eqb (tide S t .setting) (suc j))
 
 -- for every valid study
 pub record ForStudy (S : Study) : Type 0 where

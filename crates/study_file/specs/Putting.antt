@@ -1,26 +1,14 @@
 -- Fields written after fields over the front of old bytes, and that all fields of contents write their file. Assumes nothing.
-use Prim.Native.Nat.{ℕ, _+_, _-_, _*_, _^_, _≤_, _<_}
-use native.Mathlib.Omega.{arith}
-use native.Mathlib.Numerals.{add-one}
-use mathlib.Core.Path.{_≡_, refl, sym, ap, ap₂, _∙_, subst}
-use mathlib.Core.List.{List, [], _∷_, _++_, map, flatMap, map-append, append-nil, append-assoc}
-use lib.Dec.{lit≤}
-use lib.ListN.{length, getD, take, drop}
-use lib.Seq.{length-take-le, getD-take}
-use Rattle.lists.specs.Lists.{tabulate, at}
-use Rattle.lists.specs.Tables.{length-tabulate, getD-tabulate, tabulate-suc, tabulate-is}
+use Prim.Native.Nat.{ℕ, _*_, _≤_}
+use mathlib.Core.List.{List, [], _∷_}
+use lib.ListN.{length}
+use Rattle.lists.specs.Lists.{at}
 use Rattle.study.specs.declared.Dataset.{Dataset}
-use Rattle.study.specs.Study.{Tide, Contents, noTide}
-use Rattle.file_format.specs.Bits.{Field, field, bitsOf, allBits, pack, packed}
-use Rattle.file_format.specs.File.{tideFields, fields, fileOf, bitLength}
-use Rattle.file_format.specs.BitLaws.{total, length-allBits}
-use Rattle.file_format.specs.RunLaws.{runs-total, values-total}
-use Rattle.file_format.specs.FileLaws.{bitLength-suc}
-use Rattle.validity.specs.Memory.{State, tideOf, contentsOf, studyOf}
-use Rattle.validity.specs.Validity.{IsDataset}
-use Rattle.validity.specs.Layout.{Long}
-use Rattle.study_file.specs.Lengths.{Sum, length-sum, bitLength-up}
-use Rattle.study_file.specs.Writing.{over, Adds, adds-none, adds-then}
+use Rattle.file_format.specs.Bits.{Field, field, allBits}
+use Rattle.file_format.specs.File.{bitLength}
+use Rattle.validity.specs.Memory.{State}
+use Rattle.validity.specs.Validity.{IsDataset, Long}
+use Rattle.study_file.specs.Writing.{Adds}
 
 -- what the writer asks of record, memory and file
 pub record Writable (σ : State) (file : List ℕ) : Type 0 where
@@ -28,177 +16,9 @@ pub record Writable (σ : State) (file : List ℕ) : Type 0 where
   pub long : Long σ
   pub room : bitLength (σ .dataset .k) (σ .dataset .n) ≤ 8 * length file
 
-module _ (σ : State) (file : List ℕ) (W : Writable σ file) where
-  sum : (t : ℕ) → t ≤ 120 → Sum (σ .dataset .k) t
-  sum t l = length-sum (σ .dataset .k) t (W .dataset .k-high) l
-
-  pub head-room : (6 ≤ length file) × (σ .dataset .n ≤ 120)
-  head-room = let s = sum (σ .dataset .n) (W .dataset .few) in (omega (arith, s .first, W .room, W .dataset .k-low), W .dataset .few)
-
-  pub minima-room : 42 + 7 * σ .dataset .k ≤ 8 * length file
-  minima-room = let s = sum (σ .dataset .n) (W .dataset .few) in omega (arith, s .first, W .room)
-
-  pub eight : σ .dataset .k ≤ length (σ .dataset .minima .b)
-  eight = omega (arith, W .dataset .minima .eight, W .dataset .k-high)
-
-  -- in what the file has become
-  module _ (new : List ℕ) (same : length new ≡ length file) where
-    pub tide-room : (t start : ℕ) → t < σ .dataset .n → start ≡ bitLength (σ .dataset .k) t
-        → ((t < 120) × (14400 ≤ length (σ .distances)) × (t < length (σ .settings)) × (1 ≤ getD (σ .settings) t 0))
-        × ((start + (3 + 20 * t) ≤ 8 * length new) × (start < 2 ^ 61))
-    tide-room t start l e =
-        let few = W .dataset .few in
-        let s = sum t (omega arith) in (
-          (omega arith, W .long .distances, omega (arith, W .long .settings), W .dataset .setting-low t l),
-          (omega (arith, bitLength-up (σ .dataset .k) t (σ .dataset .n) l, W .room), omega (arith, s .most)),
-        )
-
 -- the fields fs, written at a position
 abbrev pub Puts : List ℕ → ℕ → List Field → List ℕ → Type 0
 Puts s at fs s′ = Adds s at (allBits fs) s′
 
-flatMap-append : {A B : Type 0} (h : A → List B) (xs ys : List A) → flatMap h (xs ++ ys) ≡ flatMap h xs ++ flatMap h ys
-unfolding flatMap
-flatMap-append h [] ys = refl
-flatMap-append h (x ∷ xs) ys = ap (λ r. h x ++ r) (flatMap-append h xs ys) ∙ sym (append-assoc (h x) (flatMap h xs) (flatMap h ys))
-
-flatMap-one : {A B : Type 0} (h : A → List B) (x : A) → flatMap h (x ∷ []) ≡ h x
-unfolding flatMap
-flatMap-one h x = append-nil (h x)
-
-allBits-append : (fs gs : List Field) → allBits (fs ++ gs) ≡ allBits fs ++ allBits gs
-unfolding allBits
-allBits-append fs gs = flatMap-append (λ (f : Field). bitsOf (f .width) (f .value)) fs gs
-
-pub puts-none : (s : List ℕ) (at : ℕ) → Puts s at [] s
-unfolding allBits flatMap
-puts-none s at = adds-none s at
-
-pub puts-one : (s : List ℕ) (at w v : ℕ) {t : List ℕ} → Adds s at (bitsOf w v) t → Puts s at (field w v ∷ []) t
-unfolding allBits
-puts-one s at w v {t} a = subst (λ bs. Adds s at bs t) (sym (flatMap-one (λ (f : Field). bitsOf (f .width) (f .value)) (field w v))) a
-
-pub puts-then : (s : List ℕ) (at : ℕ) (fs : List Field) (p : ℕ) (gs : List Field) {t u : List ℕ} → Puts s at fs t → p ≡ at + total fs → Puts t p gs u → Puts s at (fs ++ gs) u
-puts-then s at fs p gs {t} {u} a e b =
-    subst (λ bs. Adds s at bs u) (sym (allBits-append fs gs))
-    (adds-then s at (allBits fs) t p (allBits gs) u a (e ∙ ap (λ n. at + n) (sym (length-allBits fs))) b)
-
--- ---- a run of one width: f 0, f 1, ..
-
-pub run-none : (s : List ℕ) (at w : ℕ) (f : ℕ → ℕ) → Puts s at (map (field w) (tabulate 0 f)) s
-unfolding tabulate
-run-none s at w f = puts-none s at
-
-pub run-more : (s : List ℕ) (at w : ℕ) (f : ℕ → ℕ) (i v : ℕ) {t u : List ℕ} → Puts s at (map (field w) (tabulate i f)) t → v ≡ f i
-    → Puts t (at + w * i) (field w v ∷ []) u → Puts s at (map (field w) (tabulate (i + 1) f)) u
-run-more s at w f i v {t} {u} a e b =
-    subst (λ fs. Puts s at fs u) more (puts-then s at (map (field w) (tabulate i f)) (at + w * i) (field w v ∷ []) a place b)
-  where
-    place : at + w * i ≡ at + total (map (field w) (tabulate i f))
-    place = ap (λ x. at + x) (ap (λ x. w * x) (sym (length-tabulate i f)) ∙ sym (values-total w (tabulate i f)))
-
-    more : map (field w) (tabulate i f) ++ (field w v ∷ []) ≡ map (field w) (tabulate (i + 1) f)
-    more =
-        ap (λ x. map (field w) (tabulate i f) ++ (field w x ∷ [])) e
-        ∙ sym (map-append (field w) (tabulate i f) (f i ∷ []))
-        ∙ ap (map (field w)) (sym (tabulate-suc i f) ∙ ap (λ n. tabulate n f) (sym (add-one i)))
-
-pub run-done : (s : List ℕ) (at w : ℕ) (f : ℕ → ℕ) (i n : ℕ) {t : List ℕ} → i ≤ n → n ≤ i → Puts s at (map (field w) (tabulate i f)) t → Puts s at (map (field w) (tabulate n f)) t
-run-done s at w f i n {t} l m a = let e : i ≡ n = omega arith in subst (λ k. Puts s at (map (field w) (tabulate k f)) t) e a
-
--- ---- the tides of a dataset
-
-module _ (σ : State) where
-  -- a setting and a row
-  pub tide-put : (s : List ℕ) (p t v : ℕ) {u w : List ℕ} → v ≡ getD (σ .settings) t 0 → Puts s p (field 3 (v - 1) ∷ []) u
-      → Puts u (p + 3) (map (field 20) (tabulate t (at (σ .distances) t))) w → Puts s p (tideFields (tideOf σ t)) w
-  unfolding tideFields tideOf
-  tide-put s p t v {u} {w} e a b =
-      subst (λ x. Puts s p (field 3 (x - 1) ∷ map (field 20) (tabulate t (at (σ .distances) t))) w) e
-      (puts-then s p (field 3 (v - 1) ∷ []) (p + 3) (map (field 20) (tabulate t (at (σ .distances) t))) a refl b)
-
-  abbrev pub upTo : ℕ → List Tide
-  upTo t = tabulate t (tideOf σ)
-
-  tide-total : (t : ℕ) → total (tideFields (tideOf σ t)) ≡ 3 + 20 * t
-  unfolding tideFields tideOf
-  tide-total t = omega (arith, values-total 20 (tabulate t (at (σ .distances) t)), length-tabulate t (at (σ .distances) t))
-
-  tides-total : (k t : ℕ) → bitLength k t ≡ bitLength k 0 + total (flatMap tideFields (upTo t))
-  tides-total k t =
-      ap (bitLength k) (sym (length-tabulate t (tideOf σ))) ∙ sym (runs-total tideFields noTide (bitLength k) (upTo t) (λ i l.
-      let h : i < t = omega (arith, length-tabulate t (tideOf σ)) in
-      bitLength-suc k i ∙ ap (λ x. bitLength k i + x) (sym (ap (λ y. total (tideFields y)) (getD-tabulate t (tideOf σ) i noTide h) ∙ tide-total i))))
-
-  pub tides-none : (s : List ℕ) (p : ℕ) → Puts s p (flatMap tideFields (tabulate 0 (tideOf σ))) s
-  unfolding tabulate flatMap
-  tides-none s p = puts-none s p
-
-  pub tides-more : (s : List ℕ) (k t : ℕ) {p : ℕ} {u w : List ℕ} → Puts s (bitLength k 0) (flatMap tideFields (tabulate t (tideOf σ))) u
-      → p ≡ bitLength k t → Puts u p (tideFields (tideOf σ t)) w → Puts s (bitLength k 0) (flatMap tideFields (tabulate (t + 1) (tideOf σ))) w
-  tides-more s k t {p} {u} {w} a e b =
-      subst (λ fs. Puts s (bitLength k 0) fs w) more (puts-then s (bitLength k 0) (flatMap tideFields (upTo t)) p (tideFields (tideOf σ t)) a (e ∙ tides-total k t) b)
-    where
-      more : flatMap tideFields (upTo t) ++ tideFields (tideOf σ t) ≡ flatMap tideFields (upTo (t + 1))
-      more =
-          ap (λ fs. flatMap tideFields (upTo t) ++ fs) (sym (flatMap-one tideFields (tideOf σ t)))
-          ∙ sym (flatMap-append tideFields (upTo t) (tideOf σ t ∷ []))
-          ∙ ap (flatMap tideFields) (sym (tabulate-suc t (tideOf σ)) ∙ ap (λ n. tabulate n (tideOf σ)) (sym (add-one t)))
-
-  pub tides-done : (s : List ℕ) (p t n : ℕ) {u : List ℕ} → t ≤ n → n ≤ t → Puts s p (flatMap tideFields (tabulate t (tideOf σ))) u → Puts s p (flatMap tideFields (tabulate n (tideOf σ))) u
-  tides-done s p t n {u} l m a = let e : t ≡ n = omega arith in subst (λ k. Puts s p (flatMap tideFields (upTo k)) u) e a
-
--- ---- the whole file
-
 unfoldable pub headFields : Dataset → List Field
 headFields r = field 8 0x54 ∷ field 7 (r .n) ∷ field 4 (r .k) ∷ field 7 (r .minima .b0) ∷ field 16 (r .withdrawn) ∷ []
-
-pub head-put : (r : Dataset) (s : List ℕ) {a b c d e : List ℕ} → Puts s 0 (field 8 0x54 ∷ []) a → Puts a 8 (field 7 (r .n) ∷ []) b
-    → Puts b 15 (field 4 (r .k) ∷ []) c → Puts c 19 (field 7 (r .minima .b0) ∷ []) d → Puts d 26 (field 16 (r .withdrawn) ∷ []) e
-    → Puts s 0 (headFields r) e
-unfolding headFields
-head-put r s p q u v w =
-    puts-then s 0 (field 8 0x54 ∷ field 7 (r .n) ∷ field 4 (r .k) ∷ field 7 (r .minima .b0) ∷ []) 26 (field 16 (r .withdrawn) ∷ [])
-    (puts-then s 0 (field 8 0x54 ∷ field 7 (r .n) ∷ field 4 (r .k) ∷ []) 19 (field 7 (r .minima .b0) ∷ [])
-    (puts-then s 0 (field 8 0x54 ∷ field 7 (r .n) ∷ []) 15 (field 4 (r .k) ∷ [])
-    (puts-then s 0 (field 8 0x54 ∷ []) 8 (field 7 (r .n) ∷ []) p refl q) refl u) refl v) refl w
-
--- head, minima and tides, one after the other
-pub parts-put : (σ : State) (s : List ℕ) {t u w : List ℕ} → σ .dataset .k ≤ length (σ .dataset .minima .b) → Puts s 0 (headFields (σ .dataset)) t
-    → Puts t 42 (map (field 7) (tabulate (σ .dataset .k) (λ j. getD (σ .dataset .minima .b) j 0))) u
-    → Puts u (bitLength (σ .dataset .k) 0) (flatMap tideFields (tabulate (σ .dataset .n) (tideOf σ))) w → Puts s 0 (fields (contentsOf σ)) w
-unfolding fields contentsOf studyOf headFields bitLength
-parts-put σ s {t} {u} {w} l a b c =
-    subst (λ fs. Puts s 0 fs w) all
-    (puts-then s 0 (headFields r) 42 (small ++ tides) a refl
-    (puts-then t 42 small (bitLength (r .k) 0) tides b place c))
-  where
-    r : Dataset
-    r = σ .dataset
-
-    small : List Field
-    small = map (field 7) (tabulate (σ .dataset .k) (λ j. getD (σ .dataset .minima .b) j 0))
-
-    tides : List Field
-    tides = flatMap tideFields (tabulate (σ .dataset .n) (tideOf σ))
-
-    place : bitLength (r .k) 0 ≡ 42 + total small
-    place = omega (arith, values-total 7 (tabulate (r .k) (λ j. getD (r .minima .b) j 0)), length-tabulate (r .k) (λ j. getD (r .minima .b) j 0))
-
-    held : tabulate (r .k) (λ j. getD (r .minima .b) j 0) ≡ take (r .k) (r .minima .b)
-    held =
-        tabulate-is (r .k) (λ j. getD (r .minima .b) j 0) 0 (take (r .k) (r .minima .b)) (length-take-le (r .k) (r .minima .b) l)
-        (λ j m. sym (getD-take (r .k) (r .minima .b) j 0 m))
-
-    all : headFields r ++ (small ++ tides) ≡ fields (contentsOf σ)
-    all =
-        ap₂ (λ (n : ℕ) (bs : List ℕ). field 8 0x54 ∷ field 7 n ∷ field 4 (r .k) ∷ field 7 (r .minima .b0) ∷ field 16 (r .withdrawn) ∷ (map (field 7) bs ++ tides))
-        (sym (length-tabulate (r .n) (tideOf σ))) held
-
-over-none : (s : List ℕ) → s ≡ over s []
-unfolding over packed pack tabulate
-over-none s = refl
-
-pub file-written : (H : Contents) (s : List ℕ) {t : List ℕ} → Puts s 0 (fields H) t → t ≡ fileOf H ++ drop (length (fileOf H)) s
-unfolding fileOf over
-file-written H s a = a .next s [] (record { is = over-none s; place = refl; bits = λ p. lit≤ tt; room = omega arith }) .is

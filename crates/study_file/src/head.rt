@@ -17,10 +17,10 @@ ghost use lib.ListN.{length};
 ghost use Rattle.study.specs.Refusals.{verdictOf, firstOf};
 ghost use Rattle.file_format.specs.Bits.{bitsAt};
 ghost use Rattle.file_format.specs.File.{minimaAt, decoded, headReasons};
-ghost use Rattle.file_format.specs.ReadLaws.{Head};
+ghost use Rattle.file_format.specs.Head.{Head};
 ghost use Rattle.bit_reader.specs.Fields.{Askable};
 ghost use Rattle.validity.specs.Memory.{recordOf};
-ghost use Rattle.study_file.specs.HeadLaws.{Begun};
+ghost use Rattle.study_file.specs.Loading.{Begun};
 
 // The number in a field inside the file.
 fn number(file: &[u8], at: usize, width: usize) -> u32

@@ -21,7 +21,7 @@ mod writing;
 ghost use mathlib.Core.Path.{_≡_};
 ghost use lib.ListN.{length};
 ghost use Rattle.validity.specs.Memory.{stateOf};
-ghost use Rattle.dataset.specs.Ways.{Passed};
+ghost use Rattle.dataset.specs.Told.{Passed};
 ghost use Rattle.study.specs.Refusals.{verdictOf};
 ghost use Rattle.study_file.specs.Answers.{readAnswer, readLeaves, writtenOf, writeReply, writeLeaves};
 

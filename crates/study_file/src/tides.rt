@@ -16,7 +16,7 @@ ghost use Rattle.file_format.specs.Bits.{bitsAt};
 ghost use Rattle.lists.specs.Lists.{at};
 ghost use Rattle.storage.specs.Places.{withRow};
 ghost use Rattle.study_file.specs.Loading.{Loaded, Reading, pairVerdict};
-ghost use Rattle.study_file.specs.RowLaws.{rowAt, RowRead};
+ghost use Rattle.study_file.specs.Rows.{rowAt, RowRead};
 
 // The distances of tide t to the earlier tides, from a position on: into its row and its column.
 fn take_row(file: &[u8], start: usize, near: &mut [u32], t: usize) -> Answer

@@ -1,138 +1,47 @@
--- The quick test of the three-tide rule at one more tide: where it adds up to 0, no pair breaks the rule. Assumes nothing.
-use Prim.Native.Nat.{ℕ, _+_, _-_, _*_, _/_, _%_, _≤_, _<_}
-use native.Mathlib.Omega.{arith}
-use mathlib.Core.Path.{_≡_, ap, _∙_, subst}
-use mathlib.Core.Logic.{⊎-elim}
+-- The quick test of the three-tide rule at one more tide, in the words of its contracts: 0 or true only where the rule holds, and, of
+-- distances of 20 bits, wherever it does. Statements only; their laws are in DoubtLaws.
+use Prim.Native.Nat.{ℕ, _*_, _≤_, _<_}
+use mathlib.Core.Path.{_≡_}
 use mathlib.Core.List.{List}
-use lib.ListN.{length, take, drop, getD, length-take, length-drop}
-use lib.Seq.{getD-take, getD-drop}
+use lib.ListN.{length, getD}
 use Rattle.lists.specs.Lists.{at}
-use Rattle.lists.specs.Tests.{split}
-use Rattle.study.specs.Calls.{breaking}
-use Rattle.study.specs.TriangleLaws.{Triangle, unbroken-of}
-use Rattle.three_tide.specs.Pairs.{foundOf, nothing-found}
-use Rattle.three_tide.specs.declared.Found.the-variants as Search
+use Rattle.study.specs.Triangle.{Triangle}
 
 -- ---- one triple
 
--- y + z - x, as it wraps in 32 bits, is less than 2 ^ 31
-record Within (x y z : ℕ) : Type 0 where
-  rest : ℕ
-  turns : ℕ
-  small : rest < 2147483648
-  is : rest + x + 4294967296 ≡ y + z + 4294967296 * turns
+-- three distances of 20 bits
+pub record Small (x y z : ℕ) : Type 0 where
+  pub first : x ≤ 1048575
+  pub second : y ≤ 1048575
+  pub third : z ≤ 1048575
 
-turned : {x y z : ℕ} → Within x y z → Within x z y
-turned W = record { rest = W .rest; turns = W .turns; small = W .small; is = omega (arith, W .is) }
-
--- where that holds of all three, none of them is wrapped
-module _ {x y z : ℕ} (hx : x < 4294967296) (hy : y < 4294967296) (hz : z < 4294967296) where
-  unwrapped : Within x y z → Within y x z → Within z x y → x ≤ y + z
-  unwrapped A B C =
-      ⊎-elim (λ l. omega (arith, A .is))
-      (λ l. let j : B .turns < 1 = omega (arith, A .is, B .is, A .small, B .small) in
-      let k : C .turns < 1 = omega (arith, A .is, C .is, A .small, C .small) in
-      absurd (omega (arith, B .is, C .is)))
-      (split (A .turns) 2)
-
--- the three differences of `doubt`
-module _ (x y z apart : ℕ) (hx : x < 4294967296) (hy : y < 4294967296) (hz : z < 4294967296) (hs : apart < 4294967296) where
-  within-a : (both a : ℕ) → a < 2147483648 → both ≡ (x + z) % 4294967296 → (a + y) % 4294967296 ≡ both → Within y x z
-  within-a both a h e f =
-      record { rest = a; turns = (a + y) / 4294967296 + 1 - (x + z) / 4294967296; small = h; is = omega arith }
-
-  within-b : (b : ℕ) → b < 2147483648 → (apart + z) % 4294967296 ≡ x → b ≡ (y + apart) % 4294967296 → Within z x y
-  within-b b h e f =
-      record { rest = b; turns = (apart + z) / 4294967296 + 1 - (y + apart) / 4294967296; small = h; is = omega arith }
-
-  within-c : (c : ℕ) → c < 2147483648 → (apart + z) % 4294967296 ≡ x → (c + apart) % 4294967296 ≡ y → Within x y z
-  within-c c h e f =
-      record { rest = c; turns = (c + apart) / 4294967296 + 1 - (apart + z) / 4294967296; small = h; is = omega arith }
-
-  -- none has its top bit
-  pub no-doubt : (both : ℕ) {a b c : ℕ} → (apart + z) % 4294967296 ≡ x → both ≡ (x + z) % 4294967296 → (a + y) % 4294967296 ≡ both
-      → b ≡ (y + apart) % 4294967296 → (c + apart) % 4294967296 ≡ y → a < 2147483648 → b < 2147483648 → c < 2147483648 → Triangle x y z
-  no-doubt both {a} {b} {c} e f p q r ha hb hc =
-      let A = within-a both a ha f p in
-      let B = within-b b hb e q in
-      let C = within-c c hc e r in
-      record {
-        first = unwrapped hx hy hz C A B;
-        second = unwrapped hy hx hz A C (turned B);
-        third = unwrapped hz hx hy B (turned C) (turned A);
-      }
+-- the doubts about three distances
+pub record Doubt (x y z total : ℕ) : Type 0 where
+  -- one for each of them, at most
+  pub few : total ≤ 3
+  -- no breach of the rule is overlooked
+  pub rule : total ≡ 0 → Triangle x y z
+  -- and, of distances of 20 bits, nothing else is doubted
+  pub clear : Small x y z → Triangle x y z → total ≡ 0
 
 -- ---- a tide at y from one tide, and at a row's distances from others, which are at a line's from that one
 
 -- the doubts about the first j of them
 pub record Doubts (line : List ℕ) (y : ℕ) (row : List ℕ) (j total : ℕ) : Type 0 where
+  -- three for each of them, at most
   pub few : total ≤ 3 * j
+  -- no breach of the rule is overlooked
   pub rule : total ≡ 0 → (i : ℕ) → i < j → Triangle (getD line i 0) y (getD row i 0)
+  -- and, of distances of 20 bits, nothing else is doubted
+  pub clear : ((i : ℕ) → i < j → Small (getD line i 0) y (getD row i 0)) → ((i : ℕ) → i < j → Triangle (getD line i 0) y (getD row i 0)) → total ≡ 0
 
-module _ {line row : List ℕ} {y : ℕ} where
-  pub doubts-none : Doubts line y row 0 0
-  doubts-none = record { few = omega arith; rule = λ e i l. absurd (omega arith) }
+-- ---- a tide at a row's distances from all others, which are at d's from each other
 
-  pub doubts-more : {j total v : ℕ} → Doubts line y row j total → (v ≤ 3) × (v ≡ 0 → Triangle (getD line j 0) y (getD row j 0))
-      → Doubts line y row (j + 1) (total + v)
-  doubts-more {j} {total} {v} D h =
-      record {
-        few = omega (arith, D .few, h .0);
-        rule = λ e i l.
-            ⊎-elim (λ k. D .rule (omega arith) i k)
-            (λ k. let q : j ≡ i = omega arith in subst (λ z. Triangle (getD line z 0) y (getD row z 0)) q (h .1 (omega arith))) (split i j);
-      }
+-- with each pair whose lower tide is before i it keeps the rule
+pub record Undoubted (d row : List ℕ) (i : ℕ) : Type 0 where
+  pub rule : (u v : ℕ) → u < i → u < v → v < length row → Triangle (at d u v) (getD row u 0) (getD row v 0)
 
-  pub doubts-done : {j n total : ℕ} → j ≤ n → n ≤ j → Doubts line y row j total → Doubts line y row n total
-  doubts-done {j} {n} {total} a b D = let e : j ≡ n = omega arith in subst (λ z. Doubts line y row z total) e D
-
--- ---- a row, tide by tide
-
-module _ (d row : List ℕ) where
-  abbrev n : ℕ
-  n = length row
-
-  -- the pairs whose lower tide is before i
-  pub record Undoubted (i : ℕ) : Type 0 where
-    pub rule : (u v : ℕ) → u < i → u < v → v < n → Triangle (at d u v) (getD row u 0) (getD row v 0)
-
-  pub undoubted-none : Undoubted 0
-  undoubted-none = record { rule = λ u v a b c. absurd (omega arith) }
-
-  -- the parts that the code tests, from tide i + 1 on
-  abbrev line : ℕ → List ℕ
-  line i = take (i * 120 + n - (i * 120 + i + 1)) (drop (i * 120 + i + 1) d)
-
-  abbrev rest : ℕ → List ℕ
-  rest i = take (n - (i + 1)) (drop (i + 1) row)
-
-  pub undoubted-more : {i total : ℕ} → Undoubted i → i < n → Doubts (line i) (getD row i 0) (rest i) (length (rest i)) total → total ≤ 0 → Undoubted (i + 1)
-  undoubted-more {i} {total} U l D h =
-      record {
-        rule = λ u v a b c.
-            ⊎-elim (λ k. U .rule u v k b c)
-            (λ k. let q : i ≡ u = omega arith in
-            subst (λ z. Triangle (at d z v) (getD row z 0) (getD row v 0)) q (with v (omega arith) c)) (split u i);
-      }
-    where
-      long : length (rest i) ≡ n - (i + 1)
-      long = simp (length-take, length-drop) (omega arith)
-
-      with : (v : ℕ) → i < v → v < n → Triangle (at d i v) (getD row i 0) (getD row v 0)
-      with v a b =
-          let j : ℕ = v - (i + 1) in
-          let p : i * 120 + i + 1 + j ≡ i * 120 + v = omega arith in
-          let q : i + 1 + j ≡ v = omega arith in
-          let g : getD (line i) j 0 ≡ at d i v =
-          getD-take (i * 120 + n - (i * 120 + i + 1)) (drop (i * 120 + i + 1) d) j 0 (omega arith) ∙ getD-drop (i * 120 + i + 1) d j 0
-          ∙ ap (λ (k : ℕ). getD d k 0) p in
-          let w : getD (rest i) j 0 ≡ getD row v 0 =
-          getD-take (n - (i + 1)) (drop (i + 1) row) j 0 (omega arith) ∙ getD-drop (i + 1) row j 0 ∙ ap (λ (k : ℕ). getD row k 0) q in
-          rw (← g, ← w) (D .rule (omega arith) j (omega (arith, long)))
-
-  pub undoubted-all : {i : ℕ} → n ≤ i → Undoubted i → Undoubted n
-  undoubted-all {i} l U = record { rule = λ u v a b c. U .rule u v (omega arith) b c }
-
-  pub undoubted-found : Undoubted n → Search.Nothing ≡ foundOf (breaking (at d) n (λ i. getD row i 0))
-  undoubted-found U =
-      nothing-found (breaking (at d) n (λ i. getD row i 0)) (unbroken-of (at d) n (λ i. getD row i 0) (λ u v a b. U .rule u v (omega arith) a b))
+-- all these distances have 20 bits
+pub record SmallRow (d row : List ℕ) : Type 0 where
+  pub own : (u : ℕ) → u < length row → getD row u 0 ≤ 1048575
+  pub others : (u v : ℕ) → u < v → v < length row → at d u v ≤ 1048575

@@ -6,10 +6,9 @@ ghost use mathlib.Core.Bool.{true, not};
 ghost use Prim.Native.Nat.{_≤_, _<_};
 ghost use lib.ListN.{length, getD};
 ghost use Rattle.study.specs.Calls.{triangle, breaking};
-ghost use Rattle.study.specs.TriangleLaws.{Triangle};
 ghost use Rattle.lists.specs.Lists.{at};
 ghost use Rattle.three_tide.specs.Pairs.{foundOf};
-ghost use Rattle.three_tide.specs.Doubts.{Doubts, Undoubted};
+ghost use Rattle.three_tide.specs.Doubts.{Doubt, Doubts, Undoubted, SmallRow};
 
 // A pair of tides numbered from 1, the lower number first.
 pub enum Found {
@@ -38,16 +37,16 @@ fn broken(x: u32, y: u32, z: u32) -> bool
 
 // The top bit.
 fn top(x: u32) -> u32
-    ensures { λ r. ⌜ (r ≤ 1) × (r ≡ 0 → x < 2147483648) ⌝ }
+    ensures { λ r. ⌜ (r ≤ 1) × (r ≡ 0 → x < 2147483648) × (x < 2147483648 → r ≡ 0) ⌝ }
 {
     x / 2147483648
 }
 
 // 0 only where none of three distances exceeds the sum of the other two; of distances of 20 bits, wherever that is so.
-// What a sum exceeds a distance by, a, b or c, wraps where it is less, and then has its top bit set. There is no branch,
-// so that the machine tests several triples at once.
+// What a sum exceeds a distance by, a, b or c, wraps where it is less, and then one of the three has its top bit set. There is no
+// branch, so that the machine tests several triples at once.
 fn doubt(x: u32, y: u32, z: u32) -> u32
-    ensures { λ r. ⌜ (r ≤ 3) × (r ≡ 0 → Triangle x y z) ⌝ }
+    ensures { λ r. ⌜ Doubt x y z r ⌝ }
 {
     let apart = wrapping_sub_u32(x, z);
     let a = wrapping_sub_u32(wrapping_add_u32(x, z), y);
@@ -56,7 +55,8 @@ fn doubt(x: u32, y: u32, z: u32) -> u32
     top(a) + top(b) + top(c)
 }
 
-// The doubts about a tide at distance y from one tide and at the row's from others, which are at the line's from that one.
+// The doubts about a tide at distance y from one tide and at the row's from others, which are at the line's from that one: 0 only
+// where it keeps the rule with each of them; where every distance has 20 bits, wherever it does.
 fn doubts(line: &[u32], y: u32, row: &[u32]) -> u32
     requires { ⌜ length (now row) ≤ length (now line) ⌝ }
     requires { ⌜ length (now row) ≤ 120 ⌝ }
@@ -72,11 +72,14 @@ fn doubts(line: &[u32], y: u32, row: &[u32]) -> u32
     total
 }
 
-// True only where a tide at the row's distances keeps the rule; where every distance has 20 bits, wherever it does.
+// True only where a tide at the row's distances keeps the rule with every pair; where every distance has 20 bits, wherever it does:
+// such a row is spared the search.
 fn undoubted(distances: &[u32], row: &[u32]) -> bool
     requires { ⌜ 14400 ≤ length (now distances) ⌝ }
     requires { ⌜ length (now row) ≤ 120 ⌝ }
-    ensures { λ r. ⌜ (r ≡ true → Undoubted (now (distances .entry)) (now (row .entry)) (length (now (row .entry)))) ⌝ }
+    ensures rule { λ r. ⌜ (r ≡ true → Undoubted (now (distances .entry)) (now (row .entry)) (length (now (row .entry)))) ⌝ }
+    ensures clear { λ r. ⌜ (SmallRow (now (distances .entry)) (now (row .entry))
+        → Undoubted (now (distances .entry)) (now (row .entry)) (length (now (row .entry))) → r ≡ true) ⌝ }
 {
     let n = row.len();
     let mut i: usize = 0;

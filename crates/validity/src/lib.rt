@@ -8,7 +8,7 @@ ghost use mathlib.Core.Bool.{true, cond};
 ghost use Prim.Native.Nat.{_≤_, _<_};
 ghost use lib.Dec.{leb, ltb, eqb};
 ghost use lib.ListN.{length, getD};
-ghost use Rattle.lists.specs.Lists.{every, sum};
+ghost use Rattle.lists.specs.Lists.{every, sumBelow};
 ghost use Rattle.study.specs.Study.{validMinima};
 ghost use Rattle.validity.specs.Memory.{stateOf, validSetting, validPlace, validRow, isDataset};
 
@@ -161,7 +161,7 @@ fn zeros_above(b: [u8; 8], k: u8) -> bool
 
 // The b's together, with room for all of them.
 fn together(b: [u8; 8]) -> usize
-    ensures { λ r. ⌜ r ≡ sum 8 (λ j. getD b j 0) ⌝ }
+    ensures { λ r. ⌜ r ≡ sumBelow 8 (λ j. getD b j 0) ⌝ }
 {
     let mut total: usize = 0;
     let mut j: usize = 0;

@@ -1,6 +1,6 @@
 -- `bit_reader::field_at` meets its contract: the four bytes from that of the position on hold the field. Assumes nothing.
 use lib.Pow.{pow-pos}
-use Rattle.bit_reader.specs.FieldLaws.{one-moved, field-end, field-value}
+use Rattle.bit_reader.proofs.FieldLaws.{one-moved, field-end, field-value}
 use borrow.Author.Needs.{needs}
 use Rattle.bit_reader.proofs.field_at.Statement.{statement}
 use Rattle.bit_reader.proofs.field_at.Tie as tie

@@ -2,7 +2,7 @@
 use borrow.Author.Needs.{needs}
 use native.Mathlib.Omega.{arith}
 use mathlib.Core.Logic.{inl, inr}
-use Rattle.c_api.specs.BlockLaws.{block-narrow, blocks-small, columns-fit, block-scant, block-refused, block-done}
+use Rattle.c_api.proofs.BlockLaws.{block-narrow, blocks-small, columns-fit, block-scant, block-refused, block-done}
 use Rattle.c_api.proofs.tides_block.Statement.{statement}
 use Rattle.c_api.proofs.tides_block.Tie as tie
 

@@ -3,8 +3,8 @@ use borrow.Author.Needs.{needs}
 use native.Mathlib.Omega.{arith}
 use mathlib.Core.Path.{sym, subst}
 use mathlib.Core.Logic.{inl, inr}
-use Rattle.c_api.specs.CodeLaws.{Narrow}
-use Rattle.c_api.specs.OutputLaws.{centres-narrow, count-fits, centres-scant, centres-refused, centres-done}
+use Rattle.c_api.specs.Records.{Narrow}
+use Rattle.c_api.proofs.OutputLaws.{centres-narrow, count-fits, centres-scant, centres-refused, centres-done}
 use Rattle.c_api.proofs.tides_centres.Statement.{statement}
 use Rattle.c_api.proofs.tides_centres.Tie as tie
 

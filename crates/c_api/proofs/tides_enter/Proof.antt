@@ -1,7 +1,7 @@
 -- A record that is too short, or what the call leaves. Assumes nothing.
 use borrow.Author.Needs.{needs}
 use Rattle.c_api.specs.Api.{enterVerdict, enterLeft}
-use Rattle.c_api.specs.CallLaws.{lacks-yes, storable, enter-sound, left-scant, enter-left}
+use Rattle.c_api.proofs.CallLaws.{lacks-yes, storable, enter-sound, left-scant, enter-left}
 use Rattle.dataset.specs.Answers.{enterLeaves}
 use Rattle.c_api.proofs.tides_enter.Statement.{statement}
 use Rattle.c_api.proofs.tides_enter.Tie as tie

@@ -2,7 +2,7 @@
 use borrow.Author.Needs.{needs}
 use mathlib.Core.Path.{refl}
 use mathlib.Core.Logic.{inl, inr}
-use Rattle.c_api.specs.JudgeLaws.{judge-narrow, judge-scant, judge-refused, judge-done}
+use Rattle.c_api.proofs.JudgeLaws.{judge-narrow, judge-scant, judge-refused, judge-done}
 use Rattle.c_api.proofs.tides_judge.Statement.{statement}
 use Rattle.c_api.proofs.tides_judge.Tie as tie
 

@@ -2,7 +2,7 @@
 use borrow.Author.Needs.{needs}
 use mathlib.Core.Logic.{inl, inr}
 use Rattle.c_api.specs.Api.{minimaVerdict, minimaLeft}
-use Rattle.c_api.specs.CallLaws.{lacks-one, storable, minima-sound, left-scant, minima-left}
+use Rattle.c_api.proofs.CallLaws.{lacks-one, storable, minima-sound, left-scant, minima-left}
 use Rattle.dataset.specs.Answers.{minimaLeaves}
 use Rattle.c_api.proofs.tides_minima.Statement.{statement}
 use Rattle.c_api.proofs.tides_minima.Tie as tie

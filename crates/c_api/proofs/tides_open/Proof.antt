@@ -1,7 +1,7 @@
 -- A record that is too short, or what the call leaves. Assumes nothing.
 use borrow.Author.Needs.{needs}
 use Rattle.c_api.specs.Api.{openVerdict, openLeft}
-use Rattle.c_api.specs.CallLaws.{lacks-yes, storable, open-sound, left-scant, open-left}
+use Rattle.c_api.proofs.CallLaws.{lacks-yes, storable, open-sound, left-scant, open-left}
 use Rattle.dataset.specs.Answers.{openLeaves}
 use Rattle.c_api.proofs.tides_open.Statement.{statement}
 use Rattle.c_api.proofs.tides_open.Tie as tie

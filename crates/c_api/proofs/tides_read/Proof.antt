@@ -1,7 +1,7 @@
 -- A record that is too short, or what the call leaves. Assumes nothing.
 use borrow.Author.Needs.{needs}
 use Rattle.c_api.specs.Api.{readVerdict, readLeft}
-use Rattle.c_api.specs.CallLaws.{lacks-yes, storable, read-sound, left-scant, read-left}
+use Rattle.c_api.proofs.CallLaws.{lacks-yes, storable, read-sound, left-scant, read-left}
 use Rattle.study_file.specs.Answers.{readLeaves}
 use Rattle.c_api.proofs.tides_read.Statement.{statement}
 use Rattle.c_api.proofs.tides_read.Tie as tie

@@ -1,7 +1,7 @@
 -- A record that is too short, or what the call leaves. Assumes nothing.
 use borrow.Author.Needs.{needs}
 use Rattle.c_api.specs.Api.{withdrawVerdict, withdrawLeft}
-use Rattle.c_api.specs.CallLaws.{lacks-yes, storable, withdraw-sound, left-scant, withdraw-left}
+use Rattle.c_api.proofs.CallLaws.{lacks-yes, storable, withdraw-sound, left-scant, withdraw-left}
 use Rattle.dataset.specs.Answers.{withdrawLeaves}
 use Rattle.c_api.proofs.tides_withdraw.Statement.{statement}
 use Rattle.c_api.proofs.tides_withdraw.Tie as tie

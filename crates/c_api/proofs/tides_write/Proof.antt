@@ -2,7 +2,7 @@
 use borrow.Author.Needs.{needs}
 use native.Mathlib.Omega.{arith}
 use mathlib.Core.Logic.{inl, inr}
-use Rattle.c_api.specs.OutputLaws.{why-narrow, size-fits, write-scant, write-refused, write-done}
+use Rattle.c_api.proofs.OutputLaws.{why-narrow, size-fits, write-scant, write-refused, write-done}
 use Rattle.c_api.proofs.tides_write.Statement.{statement}
 use Rattle.c_api.proofs.tides_write.Tie as tie
 

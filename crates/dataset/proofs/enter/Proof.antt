@@ -1,6 +1,6 @@
 -- `enter` meets its contract: a refused call leaves everything, an accepted one what `add_tide` ensures. Assumes nothing.
 use borrow.Author.Needs.{needs}
-use Rattle.dataset.specs.Ways.{held-refused, passed, enter-stays, enter-told}
+use Rattle.dataset.proofs.Ways.{held-refused, passed, enter-stays, enter-told}
 use Rattle.dataset.specs.Answers.{enterAnswer}
 use Rattle.dataset.proofs.enter.Statement.{statement}
 use Rattle.dataset.proofs.enter.Tie as tie

@@ -1,8 +1,8 @@
 -- `enter_answer` meets its contract: one law of Ways for each way out. Assumes nothing.
 use native.Mathlib.Omega.{arith}
 use borrow.Author.Needs.{needs}
-use Rattle.dataset.specs.Ways.{enter-22, enter-4, enter-5, enter-6, enter-7, enter-done}
-use Rattle.lists.specs.Scans.{between-in, between-low, between-high, test-passes, test-fails}
+use Rattle.dataset.proofs.Ways.{enter-22, enter-4, enter-5, enter-6, enter-7, enter-done}
+use Rattle.lists.proofs.Scans.{between-in, between-low, between-high, test-passes, test-fails}
 use Rattle.dataset.proofs.enter_answer.Statement.{statement}
 use Rattle.dataset.proofs.enter_answer.Tie as tie
 

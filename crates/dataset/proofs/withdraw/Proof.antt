@@ -1,6 +1,6 @@
 -- `withdraw` meets its contract: a refused call leaves everything, an accepted one what `remove_tide` ensures. Assumes nothing.
 use borrow.Author.Needs.{needs}
-use Rattle.dataset.specs.Ways.{held-refused, passed, withdraw-stays, withdraw-told}
+use Rattle.dataset.proofs.Ways.{held-refused, passed, withdraw-stays, withdraw-told}
 use Rattle.dataset.specs.Answers.{withdrawAnswer}
 use Rattle.dataset.proofs.withdraw.Statement.{statement}
 use Rattle.dataset.proofs.withdraw.Tie as tie

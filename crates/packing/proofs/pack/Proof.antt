@@ -1,6 +1,6 @@
 -- `pack` meets its contract: too long, or what the text comes to. Assumes nothing.
 use lib.ListN.{length}
-use Rattle.packing.specs.Writing.{pack-long, pack-long-leaves, pack-told, pack-left}
+use Rattle.packing.proofs.Writing.{pack-long, pack-long-leaves, pack-told, pack-left}
 use borrow.Author.Needs.{needs}
 use Rattle.packing.proofs.pack.Statement.{statement}
 use Rattle.packing.proofs.pack.Tie as tie

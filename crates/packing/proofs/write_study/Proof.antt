@@ -1,6 +1,6 @@
 -- `write_study` meets its contract: what stopped the text, or what Write replies. Assumes nothing.
 use mathlib.Core.Path.{sym, ap}
-use Rattle.packing.specs.Writing.{packedBy, write-told, write-left}
+use Rattle.packing.proofs.Writing.{packedBy, write-told, write-left}
 use borrow.Author.Needs.{needs}
 use Rattle.packing.proofs.write_study.Statement.{statement}
 use Rattle.packing.proofs.write_study.Tie as tie

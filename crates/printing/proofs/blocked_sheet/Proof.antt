@@ -3,7 +3,7 @@ use mathlib.Core.Path.{_∙_}
 use Prim.Native.Nat.{ℕ}
 use lib.ListN.{length-replicate}
 use Rattle.validity.specs.Memory.{stateOf}
-use Rattle.printing.specs.Laws.{blocked-text}
+use Rattle.printing.proofs.Laws.{blocked-text}
 use borrow.Author.Needs.{needs}
 use Rattle.printing.proofs.blocked_sheet.Statement.{statement}
 use Rattle.printing.proofs.blocked_sheet.Tie as tie

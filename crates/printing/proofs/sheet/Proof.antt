@@ -1,6 +1,6 @@
 -- `sheet` meets its contract: a refused Read, and Block on what an accepted one leaves. Assumes nothing.
 use mathlib.Core.Path.{_∙_}
-use Rattle.printing.specs.Laws.{long-enough, sheet-refused, sheet-blocked}
+use Rattle.printing.proofs.Laws.{long-enough, sheet-refused, sheet-blocked}
 use borrow.Author.Needs.{needs}
 use Rattle.printing.proofs.sheet.Statement.{statement}
 use Rattle.printing.proofs.sheet.Tie as tie

@@ -1,7 +1,7 @@
 -- The radii up to limit: none, or the least, tried once more for its table and list. Assumes nothing.
 use native.Mathlib.Omega.{arith}
 use mathlib.Core.Path.{refl, _∙_}
-use Rattle.radius.specs.Ascents.{kept-on, tried-some, ascent-none, ascent-found}
+use Rattle.radius.proofs.AscentLaws.{kept-on, tried-some, ascent-none, ascent-found}
 use borrow.Author.Tests.{not-true, not-false}
 use borrow.Author.Needs.{needs}
 use Rattle.radius.proofs.ascend.Statement.{statement}

@@ -1,7 +1,7 @@
 -- One radius: its table, and the search in it. Assumes nothing.
 use native.Mathlib.Omega.{arith}
-use Rattle.radius.specs.Ascents.{tried}
-use Rattle.radius.specs.Front.{front-few, front-below}
+use Rattle.radius.proofs.AscentLaws.{tried}
+use Rattle.radius.proofs.FrontLaws.{front-few, front-below}
 use borrow.Author.Needs.{needs}
 use Rattle.radius.proofs.assignable.Statement.{statement}
 use Rattle.radius.proofs.assignable.Tie as tie
@@ -19,13 +19,9 @@ search-requires c κs =
     record {
       few-tides = z .few;
       few-blocks = front-few (z .few) (pre .1 .1 .0);
-      small = z .b0-high;
-      fit = z .fit;
       allowed-long = omega (arith, pre .1 .1 .1 .0, c .before .before .before .before .allow .ensures .same-length);
-      settings-long = z .settings-long;
       list-long = pre .1 .1 .1 .1;
-      setting-low = z .setting-low;
-      setting-high = z .setting-high;
+      able = z .able;
     }
 
 same-length : tie.Need-same-length

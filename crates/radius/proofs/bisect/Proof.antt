@@ -1,6 +1,8 @@
 -- The least radius while the centres stay. Assumes nothing.
 use native.Mathlib.Omega.{arith}
-use Rattle.radius.specs.Ascents.{Kept, kept-same, kept-on, Bracketed, bracket-start, bracket-yes, bracket-no, bracket-end, tried-some}
+use Rattle.radius.specs.Ascents.{Kept}
+use Rattle.radius.proofs.AscentLaws.{kept-same, kept-on, Bracketed, bracket-start, bracket-yes, bracket-no, bracket-end, tried-some}
+use Rattle.promise.specs.Promise.{meeting}
 use lib.ListN.{length}
 use mathlib.Core.Path.{_≡_, refl, _∙_}
 use Prim.Native.Nat.{_-_}
@@ -8,7 +10,7 @@ use Rattle.radius.proofs.bisect.Statement.{statement}
 use Rattle.radius.proofs.bisect.Tie as tie
 
 abbrev Inv-loop : tie.InvT-loop
-Inv-loop distances settings n minima centres count start limit allowed₀ list₀ low₀ high₀ allowed list low high = Bracketed distances settings n minima start limit low high × (length allowed ≡ length allowed₀) × Kept n list₀ list
+Inv-loop distances settings n minima centres count start limit allowed₀ list₀ low₀ high₀ allowed list low high = Bracketed distances n (meeting minima n settings) start limit low high × (length allowed ≡ length allowed₀) × Kept n list₀ list
 
 abbrev μ-loop : tie.MeasureT-loop
 μ-loop distances settings n minima centres count start limit allowed₀ list₀ low₀ high₀ allowed list low high = high - low

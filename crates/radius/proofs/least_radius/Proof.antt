@@ -1,11 +1,14 @@
 -- Radii upwards, until one has an assignment. Assumes nothing.
 use native.Mathlib.Omega.{arith}
 use native.Mathlib.Nat.{mul-le-mul-right}
-use Rattle.radius.specs.Ascents.{Kept, kept-same, kept-on, steady, pairs-ahead, many-lowest, lowest-small, first-lowest, ascended, least-found}
-use Rattle.radius.specs.Front.{front-few, front-below}
-use Rattle.radius.specs.Next.{next-up}
+use Rattle.radius.specs.Ascents.{Kept}
+use Rattle.radius.proofs.AscentLaws.{kept-same, kept-on, steady, pairs-ahead, many-lowest, lowest-small, first-lowest, ascended, least-found}
+use Rattle.radius.proofs.FrontLaws.{front-few, front-below}
+use Rattle.radius.proofs.NextLaws.{next-up}
 use Rattle.radii.specs.Radii.{Lowest}
 use Rattle.radii.specs.Posed.{posed}
+use Rattle.promise.specs.Promise.{meeting}
+use Rattle.promise.proofs.MeetingLaws.{meeting-least}
 use lib.ListN.{length}
 use mathlib.Core.Path.{_≡_, refl, _∙_}
 use Prim.Native.Nat.{_<_, _-_}
@@ -14,7 +17,7 @@ use Rattle.radius.proofs.least_radius.Statement.{statement}
 use Rattle.radius.proofs.least_radius.Tie as tie
 
 abbrev Inv-loop : tie.InvT-loop
-Inv-loop distances settings n minima centres₀ allowed₀ list₀ b0 low g₀ centres allowed list g = Lowest (posed distances settings n minima) g × (g < 1048576) × (length centres ≡ 120) × (length allowed ≡ length allowed₀) × Kept n list₀ list
+Inv-loop distances settings n minima centres₀ allowed₀ list₀ b0 low g₀ centres allowed list g = Lowest (posed distances n (meeting minima n settings)) g × (g < 1048576) × (length centres ≡ 120) × (length allowed ≡ length allowed₀) × Kept n list₀ list
 
 abbrev μ-loop : tie.MeasureT-loop
 μ-loop distances settings n minima centres₀ allowed₀ list₀ b0 low g₀ centres allowed list g = 1048576 - g
@@ -45,7 +48,7 @@ mul-if1 : tie.Need-mul-if1 Inv-loop μ-loop
 mul-if1 c =
     let z = c .before .before .before .before .before .before .before .before .before .before .before .before .pre .0 in
     let l = mul-le-mul-right (c .before .before .before .before .before .before .before .before .before .before .before .before .args .minima .b0) (front-few (z .few) (c .before .before .find-centres .ensures)) in
-    let h = z .b0-high in
+    let h = z .able .small in
     omega arith
 
 ascend-requires : tie.Need-ascend-requires Inv-loop μ-loop
@@ -104,7 +107,7 @@ loop-again-2 c =
     let pre = c .before .before .before .before .before .before .before .before .before .before .before .before .before .pre in
     let i = c .before .before .before .before .before .loop .inv in
     let centres = c .before .before .before .find-centres .ensures in
-    let l = many-lowest (pre .1 .0) _ _ (pre .1 .1 .0) _ _ (i .0) centres (c .before .next-in-pairs .ensures) (c .if1 .left) in
+    let l = many-lowest (pre .1 .0) _ _ (pre .1 .1 .0) _ _ (meeting-least _ _ _) (i .0) centres (c .before .next-in-pairs .ensures) (c .if1 .left) in
     (l, lowest-small (pre .1 .0) (pre .1 .1 .0) _ l, centres .front .size, i .3, i .4)
 
 pub least-radius-spec : {M : Type 1} → statement M

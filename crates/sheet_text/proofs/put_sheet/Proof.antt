@@ -1,7 +1,7 @@
 -- `put_sheet` meets its contract: the refusal, or heading, lines and closing line. Assumes nothing.
 use native.Mathlib.Omega.{arith}
 use Rattle.sheet_text.specs.Text.{heading}
-use Rattle.sheet_text.specs.Lines.{refused-short, sheet-refused, sheet-done}
+use Rattle.sheet_text.proofs.LineLaws.{refused-short, sheet-refused, sheet-done}
 use borrow.Author.Needs.{needs}
 use Rattle.sheet_text.proofs.put_sheet.Statement.{statement}
 use Rattle.sheet_text.proofs.put_sheet.Tie as tie

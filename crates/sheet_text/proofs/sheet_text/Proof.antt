@@ -1,5 +1,5 @@
 -- `sheet_text` meets its contract: what is put from the first byte on. Assumes nothing.
-use Rattle.sheet_text.specs.Putting.{puts-front}
+use Rattle.sheet_text.proofs.PuttingLaws.{puts-front}
 use borrow.Author.Needs.{needs}
 use Rattle.sheet_text.proofs.sheet_text.Statement.{statement}
 use Rattle.sheet_text.proofs.sheet_text.Tie as tie

@@ -3,7 +3,7 @@ use Prim.Native.Nat.{_≤_, _-_}
 use native.Mathlib.Omega.{arith}
 use mathlib.Core.Path.{_≡_, refl}
 use lib.ListN.{length, length-set}
-use Rattle.lists.specs.Tables.{overwrite-none, overwrite-step, overwrite-done}
+use Rattle.lists.proofs.Tables.{overwrite-none, overwrite-step, overwrite-done}
 use Rattle.lists.specs.Lists.{overwrite}
 use Rattle.storage.proofs.clear_distances.Statement.{statement}
 use Rattle.storage.proofs.clear_distances.Tie as tie

@@ -1,6 +1,6 @@
 -- `moved_distance` meets its contract: one law of Places for each way out. Assumes nothing.
 use borrow.Author.Needs.{needs}
-use Rattle.storage.specs.Places.{moved-no-row, moved-no-column, moved-place}
+use Rattle.storage.proofs.PlaceLaws.{moved-no-row, moved-no-column, moved-place}
 use Rattle.storage.proofs.moved_distance.Statement.{statement}
 use Rattle.storage.proofs.moved_distance.Tie as tie
 

@@ -1,6 +1,6 @@
 -- `moved_setting` meets its contract: one law of Places for each way out. Assumes nothing.
 use borrow.Author.Needs.{needs}
-use Rattle.storage.specs.Places.{moved-none, moved-one}
+use Rattle.storage.proofs.PlaceLaws.{moved-none, moved-one}
 use Rattle.storage.proofs.moved_setting.Statement.{statement}
 use Rattle.storage.proofs.moved_setting.Tie as tie
 

@@ -3,7 +3,8 @@ use Prim.Native.Nat.{_≤_, _-_}
 use native.Mathlib.Omega.{arith}
 use mathlib.Core.Path.{_≡_, refl}
 use lib.ListN.{length, length-set}
-use Rattle.storage.specs.Places.{withRow, row-none, row-more, row-done}
+use Rattle.storage.specs.Places.{withRow}
+use Rattle.storage.proofs.PlaceLaws.{row-none, row-more, row-done}
 use Rattle.storage.proofs.put_row.Statement.{statement}
 use Rattle.storage.proofs.put_row.Tie as tie
 

@@ -3,9 +3,10 @@ use Prim.Native.Nat.{_≤_, _-_}
 use native.Mathlib.Omega.{arith}
 use mathlib.Core.Path.{_≡_, refl, _∙_}
 use lib.ListN.{length, length-set}
-use Rattle.lists.specs.Tables.{overwrite-none, overwrite-step, overwrite-done}
+use Rattle.lists.proofs.Tables.{overwrite-none, overwrite-step, overwrite-done}
 use Rattle.lists.specs.Lists.{overwrite}
-use Rattle.storage.specs.Places.{movedSetting, moved-setting}
+use Rattle.storage.specs.Places.{movedSetting}
+use Rattle.storage.proofs.PlaceLaws.{moved-setting}
 use Rattle.storage.proofs.remove_setting.Statement.{statement}
 use Rattle.storage.proofs.remove_setting.Tie as tie
 

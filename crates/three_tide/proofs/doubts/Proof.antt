@@ -2,7 +2,8 @@
 use Prim.Native.Nat.{_≤_, _-_}
 use native.Mathlib.Omega.{arith}
 use lib.ListN.{length}
-use Rattle.three_tide.specs.Doubts.{Doubts, doubts-none, doubts-more, doubts-done}
+use Rattle.three_tide.specs.Doubts.{Doubts}
+use Rattle.three_tide.proofs.DoubtLaws.{doubts-none, doubts-more, doubts-done}
 use Rattle.three_tide.proofs.doubts.Statement.{statement}
 use Rattle.three_tide.proofs.doubts.Tie as tie
 
@@ -19,7 +20,7 @@ doubt-requires : tie.Need-doubt-requires Inv-loop μ-loop
 doubt-requires c κs = tt
 
 add-total : tie.Need-add-total Inv-loop μ-loop
-add-total c = omega (arith, c .before .before .before .before .loop .inv .1 .few, c .doubt .ensures .0)
+add-total c = omega (arith, c .before .before .before .before .loop .inv .1 .few, c .doubt .ensures .few)
 
 loop-again : tie.Need-loop-again Inv-loop μ-loop
 loop-again c = (omega arith, doubts-more (c .before .before .before .before .loop .inv .1) (c .doubt .ensures))

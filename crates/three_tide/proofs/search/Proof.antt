@@ -4,7 +4,8 @@ use native.Mathlib.Omega.{arith}
 use mathlib.Core.Path.{_≡_, refl, sym, ap, _∙_}
 use lib.ListN.{length, getD}
 use Rattle.study.specs.Calls.{breaking}
-use Rattle.three_tide.specs.Pairs.{foundOf, pairsFrom, pairsAt, search-starts, search-enters, search-passes, search-finds, search-leaves, search-ends}
+use Rattle.three_tide.specs.Pairs.{foundOf}
+use Rattle.three_tide.proofs.PairLaws.{pairsFrom, pairsAt, search-starts, search-enters, search-passes, search-finds, search-leaves, search-ends}
 use Rattle.three_tide.specs.declared.Found.the-variants.{Nothing}
 use Rattle.lists.specs.Lists.{at}
 use Rattle.three_tide.proofs.search.Statement.{statement}

@@ -1,9 +1,11 @@
--- `undoubted` meets its contract: about the pairs whose lower tide is passed there is no doubt. Assumes nothing.
+-- `undoubted` meets its contract: about the pairs whose lower tide is passed there is no doubt, and where there is one the
+-- rule is broken or a distance is long. Assumes nothing.
 use Prim.Native.Nat.{ℕ, _≤_, _-_}
 use native.Mathlib.Omega.{arith}
-use mathlib.Core.Path.{_≡_}
+use mathlib.Core.Path.{_≡_, refl}
 use lib.ListN.{length, length-take, length-drop}
-use Rattle.three_tide.specs.Doubts.{Undoubted, undoubted-none, undoubted-more, undoubted-all}
+use Rattle.three_tide.specs.Doubts.{Undoubted}
+use Rattle.three_tide.proofs.DoubtLaws.{undoubted-none, undoubted-more, undoubted-all, undoubted-clear}
 use Rattle.three_tide.proofs.undoubted.Statement.{statement}
 use Rattle.three_tide.proofs.undoubted.Tie as tie
 
@@ -20,13 +22,18 @@ doubts-requires : tie.Need-doubts-requires Inv-loop μ-loop
 doubts-requires c κs = simp (length-take, length-drop) (omega arith)
 
 returns : tie.Need-returns Inv-loop μ-loop
-returns c = λ e. absurd (let z : _≡_ {A = ℕ} 0 1 = cc in omega arith)
+returns c = (
+  λ e. absurd (let z : _≡_ {A = ℕ} 0 1 = cc in omega arith),
+  λ S U. absurd (omega (arith, undoubted-clear _ _ S U (omega arith) (c .before .doubts .ensures))),
+)
 
 loop-again : tie.Need-loop-again Inv-loop μ-loop
-loop-again c = (omega arith, undoubted-more _ _ (c .before .before .before .before .before .before .loop .inv .1) (omega arith) (c .before .doubts .ensures) (c .if1 .left))
+loop-again c =
+    let turn = c .before .before .before .before .before .before .loop in
+    (omega arith, undoubted-more _ _ (turn .inv .1) (omega arith) (c .before .doubts .ensures) (c .if1 .left))
 
 returns-2 : tie.Need-returns-2 Inv-loop μ-loop
-returns-2 c = λ _. undoubted-all _ _ (omega arith) (c .before .loop .inv .1)
+returns-2 c = (λ _. undoubted-all _ _ (omega arith) (c .before .loop .inv .1), λ _ _. refl)
 
 pub undoubted-spec : {M : Type 1} → statement M
 undoubted-spec =

@@ -3,8 +3,8 @@ use Prim.Native.Nat.{_≤_}
 use mathlib.Core.Path.{_∙_}
 use borrow.Author.Tests.{lt-leb}
 use borrow.Author.Needs.{needs}
-use Rattle.lists.specs.Scans.{between-in, between-low, between-high, test-passes, test-fails}
-use Rattle.validity.specs.Validity.{no-dataset, rows-decide}
+use Rattle.lists.proofs.Scans.{between-in, between-low, between-high, test-passes, test-fails}
+use Rattle.validity.proofs.ValidityLaws.{no-dataset, rows-decide}
 use Rattle.validity.proofs.is_dataset.Statement.{statement}
 use Rattle.validity.proofs.is_dataset.Tie as tie
 

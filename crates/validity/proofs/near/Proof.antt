@@ -6,7 +6,7 @@ use mathlib.Core.Path.{_≡_, sym}
 use lib.Dec.{leb}
 use lib.ListN.{length, getD}
 use Rattle.lists.specs.Lists.{every}
-use Rattle.lists.specs.Scans.{every-none, every-more, every-fails, every-done, test-passes, test-fails}
+use Rattle.lists.proofs.Scans.{every-none, every-more, every-fails, every-done, test-passes, test-fails}
 use Rattle.validity.proofs.near.Statement.{statement}
 use Rattle.validity.proofs.near.Tie as tie
 

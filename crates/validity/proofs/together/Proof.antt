@@ -3,14 +3,14 @@ use Prim.Native.Nat.{_≤_, _-_, _*_}
 use native.Mathlib.Omega.{arith}
 use mathlib.Core.Path.{_≡_, sym}
 use lib.ListN.{getD}
-use Rattle.lists.specs.Lists.{sum}
-use Rattle.lists.specs.Counts.{sum-zero}
-use Rattle.lists.specs.Scans.{sum-more, sum-done}
+use Rattle.lists.specs.Lists.{sumBelow}
+use Rattle.lists.proofs.Counts.{sum-zero}
+use Rattle.lists.proofs.Scans.{sum-more, sum-done}
 use Rattle.validity.proofs.together.Statement.{statement}
 use Rattle.validity.proofs.together.Tie as tie
 
 abbrev Inv-loop : tie.InvT-loop
-Inv-loop b total₀ j₀ total j = (j ≤ 8) × (total ≡ sum j (λ j. getD b j 0)) × (total ≤ 255 * j)
+Inv-loop b total₀ j₀ total j = (j ≤ 8) × (total ≡ sumBelow j (λ j. getD b j 0)) × (total ≤ 255 * j)
 
 abbrev μ-loop : tie.MeasureT-loop
 μ-loop b total₀ j₀ total j = 8 - j

@@ -2,8 +2,8 @@
 use mathlib.Core.Path.{_≡_, _∙_}
 use lib.ListN.{length}
 use borrow.Author.Needs.{needs}
-use Rattle.lists.specs.Scans.{within-leb, beyond-leb, between-in, between-low, between-high}
-use Rattle.validity.specs.Validity.{no-minima, zeros-decide}
+use Rattle.lists.proofs.Scans.{within-leb, beyond-leb, between-in, between-low, between-high}
+use Rattle.validity.proofs.ValidityLaws.{no-minima, zeros-decide}
 use Rattle.validity.proofs.valid_minima.Statement.{statement}
 use Rattle.validity.proofs.valid_minima.Tie as tie
 

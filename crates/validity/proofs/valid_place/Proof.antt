@@ -1,7 +1,7 @@
 -- `valid_place` meets its contract: the test `validPlace` step by step. Assumes nothing.
 use borrow.Author.Tests.{lt-ltb, le-ltb, le-leb, lt-leb, eq-eqb, ne-eqb}
 use borrow.Author.Needs.{needs}
-use Rattle.lists.specs.Scans.{and-true}
+use Rattle.lists.proofs.Scans.{and-true}
 use Rattle.validity.specs.Memory.{validPlace}
 use Rattle.validity.proofs.valid_place.Statement.{statement}
 use Rattle.validity.proofs.valid_place.Tie as tie

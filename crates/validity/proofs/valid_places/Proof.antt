@@ -4,7 +4,7 @@ use native.Mathlib.Omega.{arith}
 use mathlib.Core.Bool.{true}
 use mathlib.Core.Path.{_≡_, sym}
 use Rattle.lists.specs.Lists.{every}
-use Rattle.lists.specs.Scans.{every-none, every-more, every-fails, every-done, test-passes, test-fails}
+use Rattle.lists.proofs.Scans.{every-none, every-more, every-fails, every-done, test-passes, test-fails}
 use Rattle.validity.specs.Memory.{validPlace}
 use Rattle.validity.proofs.valid_places.Statement.{statement}
 use Rattle.validity.proofs.valid_places.Tie as tie

@@ -1,7 +1,7 @@
 -- `valid_row` meets its contract: the search finds nothing exactly where the row of memory obeys the rule. Assumes nothing.
 use native.Mathlib.Omega.{arith}
 use borrow.Author.Needs.{needs}
-use Rattle.validity.specs.Validity.{row-holds, row-breaks}
+use Rattle.validity.proofs.ValidityLaws.{row-holds, row-breaks}
 use Rattle.validity.proofs.valid_row.Statement.{statement}
 use Rattle.validity.proofs.valid_row.Tie as tie
 

@@ -6,7 +6,7 @@ use mathlib.Core.Path.{_≡_, sym}
 use lib.Dec.{ltb, eqb}
 use lib.ListN.{getD}
 use Rattle.lists.specs.Lists.{every}
-use Rattle.lists.specs.Scans.{every-none, every-more, every-fails, every-done, test-passes, test-fails}
+use Rattle.lists.proofs.Scans.{every-none, every-more, every-fails, every-done, test-passes, test-fails}
 use Rattle.validity.proofs.zeros_above.Statement.{statement}
 use Rattle.validity.proofs.zeros_above.Tie as tie
 

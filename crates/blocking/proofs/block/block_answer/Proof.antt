@@ -1,10 +1,10 @@
 -- One law for each way out. Assumes nothing.
 use borrow.Author.Needs.{needs}
-use Rattle.dataset.specs.Ways.{held-refused, passed}
+use Rattle.dataset.proofs.Ways.{held-refused, passed}
 use borrow.Author.Tests.{not-true, not-false}
 use Rattle.blocking.specs.Answers.{blockAnswer}
-use Rattle.blocking.specs.Linked.{sized}
-use Rattle.blocking.specs.BlockLaws.{block-24, block-25, block-1-list, block-1-records, block-done}
+use Rattle.blocking.proofs.Linked.{sized}
+use Rattle.blocking.proofs.BlockLaws.{block-24, block-25, block-1-list, block-1-records, block-done}
 use Rattle.blocking.proofs.block.block_answer.Statement.{statement}
 use Rattle.blocking.proofs.block.block_answer.Tie as tie
 

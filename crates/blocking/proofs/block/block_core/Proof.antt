@@ -1,6 +1,6 @@
 -- A refusal, or what is computed. Assumes nothing.
 use borrow.Author.Needs.{needs}
-use Rattle.blocking.specs.BlockLaws.{block-told, block-refusal, no-rows, block-list-stays}
+use Rattle.blocking.proofs.BlockLaws.{block-told, block-refusal, no-rows, block-list-stays}
 use mathlib.Core.Path.{refl}
 use Rattle.blocking.proofs.block.block_core.Statement.{statement}
 use Rattle.blocking.proofs.block.block_core.Tie as tie

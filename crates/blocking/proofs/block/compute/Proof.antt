@@ -1,7 +1,7 @@
 -- From the rows of the core. Assumes nothing.
 use borrow.Author.Needs.{needs}
 use native.Mathlib.Omega.{arith}
-use Rattle.blocking.specs.BlockLaws.{told-sized, told-proper, block-value, block-rows, block-list}
+use Rattle.blocking.proofs.BlockLaws.{told-sized, told-proper, block-value, block-rows, block-list}
 use Rattle.blocking.proofs.block.compute.Statement.{statement}
 use Rattle.blocking.proofs.block.compute.Tie as tie
 

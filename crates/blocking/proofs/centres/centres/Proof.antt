@@ -1,5 +1,5 @@
 -- The front of the list that `centres_into` leaves. Assumes nothing.
-use Rattle.blocking.specs.CentresLaws.{centres-part}
+use Rattle.blocking.proofs.CentresLaws.{centres-part}
 use borrow.Author.Needs.{needs}
 use Rattle.blocking.proofs.centres.centres.Statement.{statement}
 use Rattle.blocking.proofs.centres.centres.Tie as tie

@@ -1,5 +1,5 @@
 -- A refused call leaves the list, an accepted one what `fill_front` ensures. Assumes nothing.
-use Rattle.blocking.specs.CentresLaws.{centres-refused, centres-told}
+use Rattle.blocking.proofs.CentresLaws.{centres-refused, centres-told}
 use borrow.Author.Needs.{needs}
 use Rattle.blocking.proofs.centres.centres_into.Statement.{statement}
 use Rattle.blocking.proofs.centres.centres_into.Tie as tie

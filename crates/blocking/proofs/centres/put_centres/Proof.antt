@@ -1,6 +1,6 @@
 -- The centres found, as tide numbers. Assumes nothing.
 use native.Mathlib.Omega.{arith}
-use Rattle.lists.specs.Tables.{length-overwrite, overwrite-none, overwrite-step, overwrite-done}
+use Rattle.lists.proofs.Tables.{length-overwrite, overwrite-none, overwrite-step, overwrite-done}
 use Rattle.lists.specs.Lists.{overwrite}
 use lib.ListN.{length, getD}
 use mathlib.Core.Path.{_≡_, refl, ap, _∙_}

@@ -5,7 +5,7 @@ use mathlib.Core.Path.{_≡_, sym}
 use mathlib.Core.Bool.{true}
 use lib.ListN.{getD}
 use Rattle.lists.specs.Lists.{every}
-use Rattle.lists.specs.Scans.{every-none, every-more, every-fails, every-done, test-passes, test-fails}
+use Rattle.lists.proofs.Scans.{every-none, every-more, every-fails, every-done, test-passes, test-fails}
 use Rattle.study.specs.Problem.{block, labels}
 use Rattle.study.specs.Study.{meets}
 use Rattle.blocking.proofs.judge.blocks_meet.Statement.{statement}

@@ -2,7 +2,7 @@
 use borrow.Author.Needs.{needs}
 use native.Mathlib.Omega.{arith}
 use borrow.Author.Tests.{not-true, not-false}
-use Rattle.blocking.specs.JudgeLaws.{judge-told, judge-refused, listed, judge-number, judge-few, judge-yes}
+use Rattle.blocking.proofs.JudgeLaws.{judge-told, judge-refused, listed, judge-number, judge-few, judge-yes}
 use Rattle.blocking.proofs.judge.judge.Statement.{statement}
 use Rattle.blocking.proofs.judge.judge.Tie as tie
 

@@ -5,7 +5,7 @@ use Prim.Native.Nat.{_≤_, _-_}
 use mathlib.Core.Path.{_≡_, sym}
 use mathlib.Core.Bool.{true}
 use Rattle.lists.specs.Lists.{between, every}
-use Rattle.lists.specs.Scans.{every-none, every-more, every-fails, every-done, test-passes, test-fails}
+use Rattle.lists.proofs.Scans.{every-none, every-more, every-fails, every-done, test-passes, test-fails}
 use Rattle.study.specs.Problem.{labels}
 use Rattle.blocking.proofs.judge.numbers_valid.Statement.{statement}
 use Rattle.blocking.proofs.judge.numbers_valid.Tie as tie

@@ -2,7 +2,7 @@
 use native.Mathlib.Omega.{arith}
 use lib.Dec.{leb}
 use borrow.Author.Tests.{le-leb}
-use Rattle.lists.specs.Scans.{and-true}
+use Rattle.lists.proofs.Scans.{and-true}
 use Rattle.blocking.proofs.judge.valid_number.Statement.{statement}
 use Rattle.blocking.proofs.judge.valid_number.Tie as tie
 

@@ -38,7 +38,7 @@ use denote.Triple.Entry.{onEntry}
 use denote.Triple.Walked.{Stays, stay-none, stay-none-slice, gave-slice, walkOf, goes-none, goes-none-slice, goes-gave-slice, Walks, ends-at, walked, AllGo}
 use denote.Exit.{yes}
 use denote.Signature.{plain}
-use Rattle.lists.specs.Lists.{range}
+use Rattle.lists.specs.Lists.{iota}
 use Rattle.study.specs.declared.BlockRecord.{BlockRecord}
 use Rattle.study.specs.declared.Blocked.{Blocked}
 use Rattle.study.specs.declared.Dataset.{Dataset}
@@ -233,7 +233,7 @@ module _ {M : Type 1} (𝓤 : URA M) (H : Heap 𝓤) (A : Atoms 𝓤) (W : Given
         let isR = is-made r (zs .1 .1 .1 .1 .0) u (whole-val (zs .1 .1 .1 .1 .0)) is isW in
         assigns ! (of-opd ! (reads ! 0 refl)) (from ! (stop !)) (init ! 10 refl (typed-array (zs .1 .1 .1 .1 .0) (whole-val (zs .1 .1 .1 .1 .0)) isW)) $
         assigns ! (agg ! (and-then ! (reads ! 20 refl) (and-then ! (reads ! 10 refl) (no-more !)))) (from ! (stop !)) (init ! 33 refl (typed-made (record { answer = r; records = zs .1 .1 .1 .1 .0 }) (made u (whole-val (zs .1 .1 .1 .1 .0))) isR)) $
-        returns ! (look ! 33 refl) $ move ! (range 1 21) $ frees-all ! 9 (full _ ∷ full _ ∷ full _ ∷ full _ ∷ full _ ∷ full _ ∷ full _ ∷ full _ ∷ full _ ∷ full _ ∷ full _ ∷ full _ ∷ full _ ∷ []) tt refl $
+        returns ! (look ! 33 refl) $ move ! (iota 1 21) $ frees-all ! 9 (full _ ∷ full _ ∷ full _ ∷ full _ ∷ full _ ∷ full _ ∷ full _ ∷ full _ ∷ full _ ∷ full _ ∷ full _ ∷ full _ ∷ full _ ∷ []) tt refl $
         keep ! (2 ∷ 3 ∷ 4 ∷ 6 ∷ 7 ∷ 8 ∷ []) $ by ! (exits r (zs .1 .1 .1 .0) (zs .1 .1 .1 .1 .0) u (whole-val (zs .1 .1 .1 .1 .0)) answered listed recorded long gd isR)))))))))))))))))))))))
 
 module _ {M : Type 1} (𝓤 : URA M) (H : Heap 𝓤) (A : Atoms 𝓤) (W : Given 𝓤 H A) where

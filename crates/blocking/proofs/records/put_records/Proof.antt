@@ -48,7 +48,7 @@ use Rattle.blocking.specs.declared.block.BlockRows.{BlockRows}
 use Rattle.blocking.proofs.Arguments.{R}
 use Rattle.blocking.proofs.Walks.{full, bare, locals, promise, reads, tests, returns-from, frees-all, table, known, walk-proves}
 use Rattle.lists.specs.Lists.{overwrite}
-use Rattle.lists.specs.Tables.{length-overwrite, overwrite-none, overwrite-step}
+use Rattle.lists.proofs.Tables.{length-overwrite, overwrite-none, overwrite-step}
 use Rattle.study.proofs.BlockRecord as T
 use Rattle.study.proofs.BlockRecord.Laws as T′
 use Rattle.blocking.proofs.block.BlockRows as B

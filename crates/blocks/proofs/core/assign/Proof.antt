@@ -1,7 +1,7 @@
 -- The search, the first assignment, its numbering. Assumes nothing.
 use native.Mathlib.Omega.{arith}
-use Rattle.blocks.specs.Core.{assigned-core}
-use Rattle.radius.specs.Front.{front-few}
+use Rattle.blocks.proofs.CoreLaws.{assigned-core}
+use Rattle.radius.proofs.FrontLaws.{front-few}
 use Prim.Native.Nat.{ℕ}
 use lib.ListN.{length-replicate}
 use borrow.Author.Needs.{needs}
@@ -16,7 +16,7 @@ least-radius-requires c κs =
 first-assignment-requires : tie.Need-first-assignment-requires
 first-assignment-requires c κs =
     let pre = c .before .before .before .before .before .before .before .before .before .before .before .before .pre in
-    (record { few-tides = pre .0 .few; few-blocks = front-few (pre .0 .few) (c .before .before .before .before .before .least-radius .ensures .0 .centres); small = pre .0 .b0-high; fit = pre .0 .fit; allowed-long = let f = pre .0 .few in omega (arith, c .before .before .before .before .before .least-radius .ensures .0 .table .same-length, length-replicate {A = ℕ} 14400 0); settings-long = pre .0 .settings-long; list-long = omega (arith, c .before .before .before .before .before .least-radius .ensures .1 .same-length, pre .1 .1 .2); setting-low = pre .0 .setting-low; setting-high = pre .0 .setting-high }, c .before .before .before .before .before .least-radius .ensures .0 .found)
+    (record { few-tides = pre .0 .few; few-blocks = front-few (pre .0 .few) (c .before .before .before .before .before .least-radius .ensures .0 .centres); allowed-long = let f = pre .0 .few in omega (arith, c .before .before .before .before .before .least-radius .ensures .0 .table .same-length, length-replicate {A = ℕ} 14400 0); list-long = omega (arith, c .before .before .before .before .before .least-radius .ensures .1 .same-length, pre .1 .1 .2); able = pre .0 .able }, c .before .before .before .before .before .least-radius .ensures .0 .found)
 
 number-requires : tie.Need-number-requires
 number-requires c κs =

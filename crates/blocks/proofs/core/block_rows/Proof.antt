@@ -1,7 +1,7 @@
 -- The whole core. Assumes nothing.
 use native.Mathlib.Omega.{arith}
-use Rattle.blocks.specs.Core.{core-blocks}
-use Rattle.blocks.specs.Measured.{measured-none}
+use Rattle.blocks.proofs.CoreLaws.{core-blocks}
+use Rattle.blocks.proofs.MeasuredLaws.{measured-none}
 use mathlib.Core.Path.{refl}
 use borrow.Author.Needs.{needs}
 use Rattle.blocks.proofs.core.block_rows.Statement.{statement}

@@ -1,6 +1,6 @@
 -- Blocks numbered from 1. Assumes nothing.
 use native.Mathlib.Omega.{arith}
-use Rattle.blocks.specs.Core.{NumberedTo, numbered-none, numbered-length, numbered-here, numbered-more, numbered-done}
+use Rattle.blocks.proofs.CoreLaws.{NumberedTo, numbered-none, numbered-length, numbered-here, numbered-more, numbered-done}
 use Prim.Native.Nat.{_≤_, _-_}
 use Rattle.blocks.proofs.core.number.Statement.{statement}
 use Rattle.blocks.proofs.core.number.Tie as tie

@@ -1,7 +1,7 @@
 -- A copy of the first places. Assumes nothing.
 use native.Mathlib.Omega.{arith}
 use Rattle.study.specs.Problem.{labels}
-use Rattle.lists.specs.Tables.{length-overwrite, overwrite-none, overwrite-step, overwrite-done}
+use Rattle.lists.proofs.Tables.{length-overwrite, overwrite-none, overwrite-step, overwrite-done}
 use Rattle.lists.specs.Lists.{overwrite}
 use lib.ListN.{length}
 use mathlib.Core.Path.{_≡_, refl, ap, _∙_}

@@ -1,6 +1,7 @@
 -- Blocks taken away from a tide. Assumes nothing.
 use native.Mathlib.Omega.{arith}
-use Rattle.blocks.specs.Narrowed.{Narrowed, Outside, cut-none, cut-more, cut-end}
+use Rattle.blocks.specs.Narrowed.{Narrowed}
+use Rattle.blocks.proofs.NarrowedLaws.{Outside, cut-none, cut-more, cut-end}
 use Prim.Native.Nat.{_≤_, _-_}
 use Rattle.blocks.proofs.first.cut.Statement.{statement}
 use Rattle.blocks.proofs.first.cut.Tie as tie

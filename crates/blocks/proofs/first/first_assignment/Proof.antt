@@ -1,13 +1,16 @@
 -- Tide after tide. Assumes nothing.
 use native.Mathlib.Omega.{arith}
-use Rattle.blocks.specs.First.{Fixed, fixed-start, fixed-more, fixed-end, asked-on}
-use Rattle.radius.specs.Ascents.{Kept, kept-same, kept-on}
+use Rattle.blocks.proofs.FirstLaws.{Fixed, fixed-start, fixed-more, fixed-end}
+use Rattle.promise.proofs.PromiseLaws.{asked-on}
+use Rattle.promise.specs.Promise.{meeting}
+use Rattle.radius.specs.Ascents.{Kept}
+use Rattle.radius.proofs.AscentLaws.{kept-same, kept-on}
 use Prim.Native.Nat.{_≤_, _-_}
 use Rattle.blocks.proofs.first.first_assignment.Statement.{statement}
 use Rattle.blocks.proofs.first.first_assignment.Tie as tie
 
 abbrev Inv-loop : tie.InvT-loop
-Inv-loop n blocks minima settings allowed₀ list₀ t₀ allowed list t = (t ≤ n) × Kept n list₀ list × Fixed n blocks minima settings t allowed₀ allowed list
+Inv-loop n blocks minima settings allowed₀ list₀ t₀ allowed list t = (t ≤ n) × Kept n list₀ list × Fixed n blocks (meeting minima n settings) t allowed₀ allowed list
 
 abbrev μ-loop : tie.MeasureT-loop
 μ-loop n blocks minima settings allowed₀ list₀ t₀ allowed list t = n - t

@@ -1,6 +1,6 @@
 -- `lower` meets its contract: no search where nothing is left to the tide. Assumes nothing.
 use borrow.Author.Needs.{needs}
-use Rattle.blocks.specs.First.{tried-nowhere}
+use Rattle.blocks.proofs.FirstLaws.{tried-nowhere}
 use Rattle.blocks.proofs.first.lower.Statement.{statement}
 use Rattle.blocks.proofs.first.lower.Tie as tie
 

@@ -1,7 +1,9 @@
 -- A tide's least block, from above. Assumes nothing.
 use borrow.Author.Needs.{needs}
 use native.Mathlib.Omega.{arith}
-use Rattle.blocks.specs.First.{Settling, settling-start, settling-lt, settling-pin, settling-less, settling-more, settling-end, settling-kept, asked-on}
+use Rattle.blocks.proofs.FirstLaws.{Settling, settling-start, settling-lt, settling-pin, settling-less, settling-more, settling-end, settling-kept}
+use Rattle.promise.proofs.PromiseLaws.{asked-on}
+use Rattle.promise.specs.Promise.{meeting}
 use Rattle.study.specs.Problem.{labels}
 use lib.ListN.{length-set}
 use mathlib.Core.Path.{_∙_}
@@ -9,7 +11,7 @@ use Rattle.blocks.proofs.first.settle.Statement.{statement}
 use Rattle.blocks.proofs.first.settle.Tie as tie
 
 abbrev Inv-loop : tie.InvT-loop
-Inv-loop n blocks minima settings allowed₀ list₀ t v₀ allowed list v = Settling n blocks minima settings t v allowed₀ allowed list₀ list
+Inv-loop n blocks minima settings allowed₀ list₀ t v₀ allowed list v = Settling n blocks (meeting minima n settings) t v allowed₀ allowed list₀ list
 
 abbrev μ-loop : tie.MeasureT-loop
 μ-loop n blocks minima settings allowed₀ list₀ t v₀ allowed list v = v

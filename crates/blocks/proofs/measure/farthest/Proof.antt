@@ -1,8 +1,9 @@
 -- The earlier tides of a block, one after the other. Assumes nothing.
 use borrow.Author.Needs.{needs}
 use native.Mathlib.Omega.{arith}
-use Rattle.blocks.specs.Measured.{farthestOf, greatest-none, greatest-more}
-use Rattle.radii.specs.Posed.{within-is}
+use Rattle.blocks.specs.Measured.{farthestOf}
+use Rattle.blocks.proofs.MeasuredLaws.{greatest-none, greatest-more}
+use Rattle.radii.proofs.PosedLaws.{within-is}
 use Rattle.study.specs.Problem.{labels}
 use mathlib.Core.Path.{_≡_, ap, _∙_}
 use Prim.Native.Nat.{_≤_, _-_}

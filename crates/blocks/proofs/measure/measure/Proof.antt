@@ -1,7 +1,8 @@
 -- Tide after tide. Assumes nothing.
 use borrow.Author.Needs.{needs}
 use native.Mathlib.Omega.{arith}
-use Rattle.blocks.specs.Measured.{Measured, measured-done, measured-small, measured-more}
+use Rattle.blocks.specs.Measured.{Measured}
+use Rattle.blocks.proofs.MeasuredLaws.{measured-done, measured-small, measured-more}
 use Rattle.study.specs.Problem.{labels}
 use mathlib.Core.Path.{_≡_}
 use Prim.Native.Nat.{_≤_, _-_}

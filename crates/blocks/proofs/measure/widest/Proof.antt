@@ -4,7 +4,8 @@ use native.Mathlib.Omega.{arith}
 use Prim.Native.Nat.{_≤_, _-_}
 use mathlib.Core.Path.{_≡_, ap, _∙_}
 use Rattle.study.specs.Problem.{labels}
-use Rattle.blocks.specs.Measured.{widestOf, greatest-none, greatest-more}
+use Rattle.blocks.specs.Measured.{widestOf}
+use Rattle.blocks.proofs.MeasuredLaws.{greatest-none, greatest-more}
 use Rattle.blocks.proofs.measure.widest.Statement.{statement}
 use Rattle.blocks.proofs.measure.widest.Tie as tie
 

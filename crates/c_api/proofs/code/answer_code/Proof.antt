@@ -1,7 +1,7 @@
 -- An accepted call is 0, a refused one its refusal's number. Assumes nothing.
 use borrow.Author.Needs.{needs}
 use Rattle.study.specs.Refusals.{verdictOf}
-use Rattle.c_api.specs.CodeLaws.{Narrow}
+use Rattle.c_api.specs.Records.{Narrow}
 use Rattle.c_api.specs.Api.{code}
 use mathlib.Core.Path.{sym, ap, _∙_, subst}
 use Rattle.c_api.proofs.code.answer_code.Statement.{statement}

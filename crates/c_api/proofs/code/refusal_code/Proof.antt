@@ -1,7 +1,7 @@
 -- A refusal's number, and that of the pair fits. Assumes nothing.
 use borrow.Author.Needs.{needs}
 use native.Mathlib.Omega.{arith}
-use Rattle.c_api.specs.CodeLaws.{coded, pair-fits}
+use Rattle.c_api.proofs.CodeLaws.{coded, pair-fits}
 use Rattle.c_api.proofs.code.refusal_code.Statement.{statement}
 use Rattle.c_api.proofs.code.refusal_code.Tie as tie
 

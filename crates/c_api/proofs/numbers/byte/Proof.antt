@@ -1,6 +1,6 @@
 -- The number itself, or 255. Assumes nothing.
 use borrow.Author.Needs.{needs}
-use Rattle.c_api.specs.RecordLaws.{cut-high, cut-low}
+use Rattle.c_api.proofs.RecordLaws.{cut-high, cut-low}
 use Rattle.c_api.proofs.numbers.byte.Statement.{statement}
 use Rattle.c_api.proofs.numbers.byte.Tie as tie
 

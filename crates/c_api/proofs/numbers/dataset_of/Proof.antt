@@ -1,7 +1,7 @@
 -- The numbers in their places; a number of 16 bits fits n. Assumes nothing.
 use borrow.Author.Needs.{needs}
 use native.Mathlib.Omega.{arith}
-use Rattle.c_api.specs.RecordLaws.{cut-read}
+use Rattle.c_api.proofs.RecordLaws.{cut-read}
 use Rattle.c_api.proofs.numbers.dataset_of.Statement.{statement}
 use Rattle.c_api.proofs.numbers.dataset_of.Tie as tie
 

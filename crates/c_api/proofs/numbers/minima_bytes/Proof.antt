@@ -5,8 +5,9 @@ use Prim.Native.Nat.{ℕ, _+_, _-_, _≤_}
 use mathlib.Core.Path.{_≡_}
 use lib.ListN.{getD, replicate}
 use Rattle.lists.specs.Lists.{overwrite}
-use Rattle.lists.specs.Tables.{overwrite-none, overwrite-step, overwrite-done}
-use Rattle.c_api.specs.RecordLaws.{cut, bytes-read}
+use Rattle.lists.proofs.Tables.{overwrite-none, overwrite-step, overwrite-done}
+use Rattle.c_api.specs.Records.{cut}
+use Rattle.c_api.proofs.RecordLaws.{bytes-read}
 use Rattle.c_api.proofs.numbers.minima_bytes.Statement.{statement}
 use Rattle.c_api.proofs.numbers.minima_bytes.Tie as tie
 

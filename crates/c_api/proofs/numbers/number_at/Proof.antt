@@ -4,7 +4,7 @@ use native.Mathlib.Omega.{arith}
 use mathlib.Core.Path.{_≡_, refl, _∙_}
 use lib.ListN.{length}
 use Rattle.c_api.specs.Api.{numbersOf}
-use Rattle.c_api.specs.RecordLaws.{number-is, number-b, number-last}
+use Rattle.c_api.proofs.RecordLaws.{number-is, number-b, number-last}
 use Rattle.c_api.proofs.numbers.number_at.Statement.{statement}
 use Rattle.c_api.proofs.numbers.number_at.Tie as tie
 

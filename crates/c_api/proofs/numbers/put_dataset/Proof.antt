@@ -5,9 +5,9 @@ use Prim.Native.Nat.{ℕ, _-_, _≤_}
 use mathlib.Core.Path.{_≡_, refl, _∙_}
 use lib.ListN.{length, getD, length-set}
 use Rattle.lists.specs.Lists.{overwrite}
-use Rattle.lists.specs.Tables.{overwrite-none, overwrite-step, overwrite-done}
+use Rattle.lists.proofs.Tables.{overwrite-none, overwrite-step, overwrite-done}
 use Rattle.c_api.specs.Api.{numbersOf}
-use Rattle.c_api.specs.RecordLaws.{written}
+use Rattle.c_api.proofs.RecordLaws.{written}
 use Rattle.c_api.proofs.numbers.put_dataset.Statement.{statement}
 use Rattle.c_api.proofs.numbers.put_dataset.Tie as tie
 

@@ -2,7 +2,7 @@
 use borrow.Author.Needs.{needs}
 use mathlib.Core.Path.{ap}
 use Rattle.study.specs.Refusals.{verdictOf}
-use Rattle.c_api.specs.CallLaws.{settle-done}
+use Rattle.c_api.proofs.CallLaws.{settle-done}
 use Rattle.c_api.proofs.numbers.settle.Statement.{statement}
 use Rattle.c_api.proofs.numbers.settle.Tie as tie
 

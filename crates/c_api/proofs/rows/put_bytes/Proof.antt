@@ -4,7 +4,7 @@ use Prim.Native.Nat.{ℕ, _-_, _≤_}
 use mathlib.Core.Path.{_≡_, refl}
 use lib.ListN.{length, getD, length-set}
 use Rattle.lists.specs.Lists.{overwrite}
-use Rattle.lists.specs.Tables.{overwrite-none, overwrite-step, overwrite-done}
+use Rattle.lists.proofs.Tables.{overwrite-none, overwrite-step, overwrite-done}
 use Rattle.c_api.proofs.rows.put_bytes.Statement.{statement}
 use Rattle.c_api.proofs.rows.put_bytes.Tie as tie
 

@@ -4,7 +4,7 @@ use mathlib.Core.Logic.{inl, inr, ⊎-elim}
 use native.Mathlib.Omega.{arith}
 use borrow.Author.Tests.{eqb-true, eqb-false}
 use borrow.Author.Needs.{needs}
-use Rattle.matching.proofs.Pairs.{allows-yes, allows-no}
+use Rattle.promise.proofs.Pairs.{allows-yes, allows-no}
 use Rattle.matching.proofs.augment.edge.Statement.{statement}
 use Rattle.matching.proofs.augment.edge.Tie as tie
 

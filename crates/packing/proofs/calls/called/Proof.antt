@@ -1,6 +1,6 @@
 -- `called` meets its contract: an accepted call goes on, a refused one stops. Assumes nothing.
 use mathlib.Core.Path.{_∙_}
-use Rattle.packing.specs.Reached.{after-done, after-refused}
+use Rattle.packing.proofs.ReachedLaws.{after-done, after-refused}
 use borrow.Author.Needs.{needs}
 use Rattle.packing.proofs.calls.called.Statement.{statement}
 use Rattle.packing.proofs.calls.called.Tie as tie

@@ -1,7 +1,7 @@
 -- `next_tide` meets its contract: a tide, the end, or no number. Assumes nothing.
-use Rattle.packing.specs.WordLaws.{next-within}
+use Rattle.packing.proofs.WordLaws.{next-within}
 use mathlib.Core.Path.{refl, sym, _∙_}
-use Rattle.packing.specs.Turns.{turn-goes, turn-ends, turn-stops}
+use Rattle.packing.proofs.Turns.{turn-goes, turn-ends, turn-stops}
 use borrow.Author.Needs.{needs}
 use Rattle.packing.proofs.calls.next_tide.Statement.{statement}
 use Rattle.packing.proofs.calls.next_tide.Tie as tie

@@ -1,5 +1,5 @@
 -- `read_head` meets its contract: Open, then Minima. Assumes nothing.
-use Rattle.packing.specs.Turns.{head-stops, head-goes}
+use Rattle.packing.proofs.Turns.{head-stops, head-goes}
 use borrow.Author.Needs.{needs}
 use Rattle.packing.proofs.calls.read_head.Statement.{statement}
 use Rattle.packing.proofs.calls.read_head.Tie as tie

@@ -4,7 +4,7 @@ use mathlib.Core.Path.{sym}
 use lib.Seq.{length-take-le}
 use lib.ListN.{replicate}
 use Prim.Native.Nat.{_+_}
-use Rattle.packing.specs.Calls.{minima-stops, minima-goes}
+use Rattle.packing.proofs.CallLaws.{minima-stops, minima-goes}
 use borrow.Author.Needs.{needs}
 use Rattle.packing.proofs.calls.read_minima.Statement.{statement}
 use Rattle.packing.proofs.calls.read_minima.Tie as tie

@@ -1,8 +1,8 @@
 -- `read_open` meets its contract: no number stops; with k, what Open answers. Assumes nothing.
-use Rattle.validity.specs.Layout.{short-no}
+use Rattle.validity.proofs.LayoutLaws.{short-no}
 use Rattle.validity.specs.Memory.{stateOf}
 use lib.ListN.{replicate}
-use Rattle.packing.specs.Calls.{open-stops, open-goes}
+use Rattle.packing.proofs.CallLaws.{open-stops, open-goes}
 use borrow.Author.Needs.{needs}
 use Rattle.packing.proofs.calls.read_open.Statement.{statement}
 use Rattle.packing.proofs.calls.read_open.Tie as tie

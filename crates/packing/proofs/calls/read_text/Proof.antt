@@ -1,6 +1,6 @@
 -- `read_text` meets its contract: the head, then the tides. Assumes nothing.
 use native.Mathlib.Omega.{arith}
-use Rattle.packing.specs.Turns.{text-begins, text-stops}
+use Rattle.packing.proofs.Turns.{text-begins, text-stops}
 use borrow.Author.Needs.{needs}
 use Rattle.packing.proofs.calls.read_text.Statement.{statement}
 use Rattle.packing.proofs.calls.read_text.Tie as tie

@@ -3,7 +3,7 @@ use native.Mathlib.Omega.{arith}
 use mathlib.Core.Path.{sym}
 use lib.Seq.{length-take-le, take-at}
 use lib.ListN.{drop}
-use Rattle.packing.specs.Calls.{tide-stops, tide-goes}
+use Rattle.packing.proofs.CallLaws.{tide-stops, tide-goes}
 use borrow.Author.Needs.{needs}
 use Rattle.packing.proofs.calls.read_tide.Statement.{statement}
 use Rattle.packing.proofs.calls.read_tide.Tie as tie

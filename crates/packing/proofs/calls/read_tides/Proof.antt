@@ -4,7 +4,7 @@ use native.Mathlib.Omega.{arith}
 use mathlib.Core.Path.{_≡_, refl}
 use lib.ListN.{length}
 use Prim.Native.Nat.{_-_, _≤_}
-use Rattle.packing.specs.Turns.{Midway, midway-size, midway-more, midway-ends}
+use Rattle.packing.proofs.Turns.{Midway, midway-size, midway-more, midway-ends}
 use Rattle.packing.proofs.calls.read_tides.Statement.{statement}
 use Rattle.packing.proofs.calls.read_tides.Tie as tie
 

@@ -1,5 +1,5 @@
 -- `number` meets its contract: each word is a number or stops. Assumes nothing.
-use Rattle.packing.specs.Steps.{number-is}
+use Rattle.packing.proofs.StepLaws.{number-is}
 use mathlib.Core.Path.{refl}
 use borrow.Author.Needs.{needs}
 use Rattle.packing.proofs.numbers.number.Statement.{statement}

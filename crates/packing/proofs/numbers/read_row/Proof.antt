@@ -1,7 +1,7 @@
 -- `read_row` meets its contract: the loop's invariant: the first i numbers stand in the row. Assumes nothing.
 use borrow.Author.Needs.{needs}
 use native.Mathlib.Omega.{arith}
-use Rattle.packing.specs.Steps.{ReadTo, row-none, row-more, row-stops, row-read}
+use Rattle.packing.proofs.StepLaws.{ReadTo, row-none, row-more, row-stops, row-read}
 use lib.ListN.{length, length-set}
 use Prim.Native.Nat.{_-_, _≤_}
 use mathlib.Core.Path.{_≡_, refl}

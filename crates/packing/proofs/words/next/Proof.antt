@@ -1,5 +1,5 @@
 -- `next` meets its contract: start, end and number of the word. Assumes nothing.
-use Rattle.packing.specs.WordLaws.{start-inside, next-end, next-number, next-bad, next-large}
+use Rattle.packing.proofs.WordLaws.{start-inside, next-end, next-number, next-bad, next-large}
 use borrow.Author.Needs.{needs}
 use Rattle.packing.proofs.words.next.Statement.{statement}
 use Rattle.packing.proofs.words.next.Tie as tie

@@ -1,18 +1,19 @@
 -- `numeral_of` meets its contract: the loop's invariant: the digits to come, after the value so far, give the word's number up to the cap. Assumes nothing.
 use borrow.Author.Needs.{needs}
 use native.Mathlib.Omega.{arith}
-use Rattle.lists.specs.Scans.{test-passes, test-fails}
-use Rattle.lists.specs.Lists.{all}
+use Rattle.lists.proofs.Scans.{test-passes, test-fails}
+use Rattle.lists.specs.Lists.{allOf}
 use lib.ListN.{length, drop, getD}
 use mathlib.Core.Path.{_≡_, refl}
 use Prim.Native.Nat.{_-_, _≤_}
 use Rattle.packing.specs.Words.{digit, withDigit, valueFrom}
-use Rattle.packing.specs.WordLaws.{capped, capped-most, digit-low, digits-more, value-more, numeral-bad, numeral-number, numeral-large}
+use Rattle.packing.specs.Words.{capped}
+use Rattle.packing.proofs.WordLaws.{capped-most, digit-low, digits-more, value-more, numeral-bad, numeral-number, numeral-large}
 use Rattle.packing.proofs.words.numeral_of.Statement.{statement}
 use Rattle.packing.proofs.words.numeral_of.Tie as tie
 
 abbrev Inv-loop : tie.InvT-loop
-Inv-loop word value₀ i₀ value i = (i ≤ length word) × (value ≤ 4294967296) × (all digit (drop i word) ≡ all digit word) × (capped (valueFrom value (drop i word)) ≡ capped (valueFrom 0 word))
+Inv-loop word value₀ i₀ value i = (i ≤ length word) × (value ≤ 4294967296) × (allOf digit (drop i word) ≡ allOf digit word) × (capped (valueFrom value (drop i word)) ≡ capped (valueFrom 0 word))
 
 abbrev μ-loop : tie.MeasureT-loop
 μ-loop word value₀ i₀ value i = length word - i

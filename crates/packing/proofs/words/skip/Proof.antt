@@ -5,7 +5,7 @@ use lib.ListN.{length, drop, getD}
 use mathlib.Core.Path.{_≡_, refl, sym, _∙_}
 use Prim.Native.Nat.{_+_, _-_, _≤_}
 use Rattle.packing.specs.Words.{startOf}
-use Rattle.packing.specs.WordLaws.{newline-small, start-goes, start-here, start-end}
+use Rattle.packing.proofs.WordLaws.{newline-small, start-goes, start-here, start-end}
 use Rattle.packing.proofs.words.skip.Statement.{statement}
 use Rattle.packing.proofs.words.skip.Tie as tie
 

@@ -5,7 +5,7 @@ use lib.ListN.{length, drop, getD}
 use mathlib.Core.Path.{_≡_}
 use Prim.Native.Nat.{_+_, _-_, _≤_}
 use Rattle.packing.specs.Words.{newlines}
-use Rattle.packing.specs.WordLaws.{newline-small, lines-more, lines-all}
+use Rattle.packing.proofs.WordLaws.{newline-small, lines-more, lines-all}
 use Rattle.packing.proofs.words.whole_lines.Statement.{statement}
 use Rattle.packing.proofs.words.whole_lines.Tie as tie
 

@@ -1,7 +1,7 @@
 -- `with_digit` meets its contract: one more digit, or the cap. Assumes nothing.
 use mathlib.Core.Path.{sym}
 use Rattle.packing.specs.Words.{withDigit}
-use Rattle.packing.specs.WordLaws.{capped-small, capped-large}
+use Rattle.packing.proofs.WordLaws.{capped-small, capped-large}
 use borrow.Author.Needs.{needs}
 use Rattle.packing.proofs.words.with_digit.Statement.{statement}
 use Rattle.packing.proofs.words.with_digit.Tie as tie

@@ -5,7 +5,7 @@ use lib.ListN.{length, drop}
 use mathlib.Core.Path.{_≡_, refl, sym, _∙_}
 use Prim.Native.Nat.{_+_, _-_, _≤_}
 use Rattle.packing.specs.Words.{wordOf}
-use Rattle.packing.specs.WordLaws.{word-more, word-ends, word-none}
+use Rattle.packing.proofs.WordLaws.{word-more, word-ends, word-none}
 use Rattle.packing.proofs.words.word_end.Statement.{statement}
 use Rattle.packing.proofs.words.word_end.Tie as tie
 

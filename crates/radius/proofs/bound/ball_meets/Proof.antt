@@ -1,7 +1,8 @@
 -- By its counts. Assumes nothing.
 use borrow.Author.Needs.{needs}
 use mathlib.Core.Path.{_∙_}
-use Rattle.radius.specs.Tally.{tallied-long, met-meets}
+use Rattle.promise.specs.Promise.{meeting}
+use Rattle.radius.proofs.TallyLaws.{tallied-long, met-meets}
 use Rattle.radius.proofs.bound.ball_meets.Statement.{statement}
 use Rattle.radius.proofs.bound.ball_meets.Tie as tie
 
@@ -9,6 +10,7 @@ counts-meet-requires : tie.Need-counts-meet-requires
 counts-meet-requires c κs = tallied-long (c .before .count-near .ensures)
 
 returns : tie.Need-returns
+unfolding meeting
 returns c = c .counts-meet .ensures ∙ met-meets (c .before .before .before .before .before .before .args .minima) (c .before .before .count-near .ensures)
 
 pub ball-meets-spec : {M : Type 1} → statement M

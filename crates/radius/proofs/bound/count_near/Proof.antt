@@ -4,7 +4,8 @@ use native.Mathlib.Omega.{arith}
 use Prim.Native.Nat.{_≤_, _<_, _-_}
 use mathlib.Core.Path.{_≡_}
 use Rattle.radii.specs.Posed.{ball}
-use Rattle.radius.specs.Tally.{Tallied, tallied-none, tallied-more, tallied-done, tallied-long, tallied-few, tallied-small}
+use Rattle.radius.specs.Tally.{Tallied}
+use Rattle.radius.proofs.TallyLaws.{tallied-none, tallied-more, tallied-done, tallied-long, tallied-few, tallied-small}
 use Rattle.radius.proofs.bound.count_near.Statement.{statement}
 use Rattle.radius.proofs.bound.count_near.Tie as tie
 
@@ -30,12 +31,12 @@ shared-slice-read-near : tie.Need-shared-slice-read-near Inv-loop μ-loop
 shared-slice-read-near c = let z = c .before .before .before .before .before .pre .0 in let f = z .few in let l = z .distances-long in omega arith
 
 shared-slice-read-wide : tie.Need-shared-slice-read-wide Inv-loop μ-loop
-shared-slice-read-wide c = let l = c .before .before .before .before .before .before .before .pre .0 .settings-long in omega arith
+shared-slice-read-wide c = let l = c .before .before .before .before .before .before .before .pre .0 .able .settings-long in omega arith
 
 mul-counts : tie.Need-mul-counts Inv-loop μ-loop
 mul-counts c =
     let turn = c .before .before .before .before .before .loop in
-    let h = c .before .before .before .before .before .before .before .before .pre .0 .setting-high (turn .t) (c .before .before .before .before .loop-test .taken) in
+    let h = c .before .before .before .before .before .before .before .before .pre .0 .able .setting-high (turn .t) (c .before .before .before .before .loop-test .taken) in
     let q = tallied-long (turn .inv .1) in
     let e = c .wide .ensures in
     omega arith
@@ -43,7 +44,7 @@ mul-counts c =
 element-copy-out-counts : tie.Need-element-copy-out-counts Inv-loop μ-loop
 element-copy-out-counts c =
     let turn = c .before .before .before .before .before .loop in
-    let h = c .before .before .before .before .before .before .before .before .pre .0 .setting-high (turn .t) (c .before .before .before .before .loop-test .taken) in
+    let h = c .before .before .before .before .before .before .before .before .pre .0 .able .setting-high (turn .t) (c .before .before .before .before .loop-test .taken) in
     let q = tallied-long (turn .inv .1) in
     let e = c .wide .ensures in
     omega arith
@@ -53,7 +54,7 @@ add-counts c =
     let turn = c .before .before .before .before .before .before .loop in
     let z = c .before .before .before .before .before .before .before .before .before .pre .0 in
     let f = z .few in
-    let h = z .setting-high (turn .t) (c .before .before .before .before .before .loop-test .taken) in
+    let h = z .able .setting-high (turn .t) (c .before .before .before .before .before .loop-test .taken) in
     let e = c .before .wide .ensures in
     let k : c .before .wide .result < 9 = omega arith in
     let q = tallied-small (turn .inv .1) (c .before .wide .result) k in
@@ -63,7 +64,7 @@ add-counts c =
 mul-counts-2 : tie.Need-mul-counts-2 Inv-loop μ-loop
 mul-counts-2 c =
     let turn = c .before .before .before .before .before .before .loop in
-    let h = c .before .before .before .before .before .before .before .before .before .pre .0 .setting-high (turn .t) (c .before .before .before .before .before .loop-test .taken) in
+    let h = c .before .before .before .before .before .before .before .before .before .pre .0 .able .setting-high (turn .t) (c .before .before .before .before .before .loop-test .taken) in
     let q = tallied-long (turn .inv .1) in
     let e = c .before .wide .ensures in
     omega arith
@@ -71,7 +72,7 @@ mul-counts-2 c =
 element-write-counts : tie.Need-element-write-counts Inv-loop μ-loop
 element-write-counts c =
     let turn = c .before .before .before .before .before .before .loop in
-    let h = c .before .before .before .before .before .before .before .before .before .pre .0 .setting-high (turn .t) (c .before .before .before .before .before .loop-test .taken) in
+    let h = c .before .before .before .before .before .before .before .before .before .pre .0 .able .setting-high (turn .t) (c .before .before .before .before .before .loop-test .taken) in
     let q = tallied-long (turn .inv .1) in
     let e = c .before .wide .ensures in
     omega arith
@@ -89,7 +90,7 @@ add-t c = let f = c .before .before .before .before .before .before .before .bef
 loop-again : tie.Need-loop-again Inv-loop μ-loop
 loop-again c =
     let turn = c .before .before .before .before .before .before .loop in
-    let h = c .before .before .before .before .before .before .before .before .before .pre .0 .setting-high (turn .t) (c .before .before .before .before .before .loop-test .taken) in
+    let h = c .before .before .before .before .before .before .before .before .before .pre .0 .able .setting-high (turn .t) (c .before .before .before .before .before .loop-test .taken) in
     let e = c .before .wide .ensures in
     (omega arith, tallied-more (c .before .before .before .near .result) (c .before .wide .result) (turn .inv .1) (c .before .before .before .near .ensures .0) e (omega arith))
 

@@ -1,9 +1,10 @@
 -- A scan of the centres. Assumes nothing.
 use native.Mathlib.Omega.{arith}
-use Rattle.radius.specs.Front.{all-more, all-fails}
-use Rattle.radii.specs.Posed.{within, within-is}
-use Rattle.lists.specs.Tests.{T-true}
-use Rattle.lists.specs.Lists.{all}
+use Rattle.radius.proofs.FrontLaws.{all-more, all-fails}
+use Rattle.radii.specs.Posed.{within}
+use Rattle.radii.proofs.PosedLaws.{within-is}
+use Rattle.lists.proofs.Tests.{T-true}
+use Rattle.lists.specs.Lists.{allOf}
 use lib.ListN.{take, getD}
 use lib.Arith.{le→nltb}
 use lib.Dec.{T, ltb, lt→ltb}
@@ -13,7 +14,7 @@ use Rattle.radius.proofs.centres.far_from.Statement.{statement}
 use Rattle.radius.proofs.centres.far_from.Tie as tie
 
 abbrev Inv-loop : tie.InvT-loop
-Inv-loop distances n centres count g t m₀ m = (m ≤ count) × T (all (λ c. ltb g (within distances n c t)) (take m centres))
+Inv-loop distances n centres count g t m₀ m = (m ≤ count) × T (allOf (λ c. ltb g (within distances n c t)) (take m centres))
 
 abbrev μ-loop : tie.MeasureT-loop
 μ-loop distances n centres count g t m₀ m = count - m
@@ -55,7 +56,7 @@ returns-2 : tie.Need-returns-2 Inv-loop μ-loop
 returns-2 c =
     let args = c .before .before .args in
     let e : c .before .loop .m ≡ args .count = omega arith in
-    sym (T-true _ (subst (λ z. T (all (λ x. ltb (args .g) (within (args .distances .now) (args .n) x (args .t))) (take z (args .centres .now)))) e (c .before .loop .inv .1)))
+    sym (T-true _ (subst (λ z. T (allOf (λ x. ltb (args .g) (within (args .distances .now) (args .n) x (args .t))) (take z (args .centres .now)))) e (c .before .loop .inv .1)))
 
 pub far-from-spec : {M : Type 1} → statement M
 far-from-spec =

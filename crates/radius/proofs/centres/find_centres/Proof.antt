@@ -1,6 +1,7 @@
 -- The centres among the first tides, one tide after the other. Assumes nothing.
 use native.Mathlib.Omega.{arith}
-use Rattle.radius.specs.Front.{Front, centres-few, centres-below, centres-start, centres-hit, centres-miss}
+use Rattle.radius.specs.Front.{Front}
+use Rattle.radius.proofs.FrontLaws.{centres-few, centres-below, centres-start, centres-hit, centres-miss}
 use Rattle.radii.specs.Posed.{within}
 use Rattle.study.specs.Problem.{centresAmong}
 use mathlib.Core.Path.{_≡_, sym, _∙_, subst}

@@ -7,7 +7,7 @@ use mathlib.Core.Bool.{true}
 use lib.ListN.{getD}
 use borrow.Author.Tests.{le-leb, lt-leb}
 use Rattle.lists.specs.Lists.{every}
-use Rattle.lists.specs.Scans.{every-none, every-more, every-fails, every-done}
+use Rattle.lists.proofs.Scans.{every-none, every-more, every-fails, every-done}
 use Rattle.radius.specs.Tally.{enough, met}
 use Rattle.radius.proofs.counts.counts_meet.Statement.{statement}
 use Rattle.radius.proofs.counts.counts_meet.Tie as tie

@@ -1,6 +1,7 @@
 -- The least candidate from a bound on. Assumes nothing.
 use native.Mathlib.Omega.{arith}
-use Rattle.radius.specs.Next.{FirstFrom, first-zero, first-next}
+use Rattle.radius.specs.Next.{FirstFrom}
+use Rattle.radius.proofs.NextLaws.{first-zero, first-next}
 use mathlib.Core.Path.{sym, subst}
 use borrow.Author.Needs.{needs}
 use Rattle.radius.proofs.next.first_from.Statement.{statement}

@@ -1,6 +1,7 @@
 -- The next radius of pairs of a table. Assumes nothing.
 use native.Mathlib.Omega.{arith}
-use Rattle.radius.specs.Next.{Next, InPairs, next-none, pairs-step}
+use Rattle.radius.specs.Next.{Next, InPairs}
+use Rattle.radius.proofs.NextLaws.{next-none, pairs-step}
 use mathlib.Core.Path.{_≡_, subst}
 use Prim.Native.Nat.{_≤_, _-_}
 use Rattle.radius.proofs.next.next_in_pairs.Statement.{statement}

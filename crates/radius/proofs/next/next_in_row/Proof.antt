@@ -1,7 +1,8 @@
 -- The next radius of one tide's row. Assumes nothing.
 use borrow.Author.Needs.{needs}
 use native.Mathlib.Omega.{arith}
-use Rattle.radius.specs.Next.{Next, InRow, next-none, row-step}
+use Rattle.radius.specs.Next.{Next, InRow}
+use Rattle.radius.proofs.NextLaws.{next-none, row-step}
 use mathlib.Core.Path.{_≡_, subst}
 use Prim.Native.Nat.{_≤_, _-_}
 use Rattle.radius.proofs.next.next_in_row.Statement.{statement}

@@ -1,7 +1,8 @@
 -- The next radius of one tide of a table to the later ones. Assumes nothing.
 use borrow.Author.Needs.{needs}
 use native.Mathlib.Omega.{arith}
-use Rattle.radius.specs.Next.{Next, InLater, next-none, later-step}
+use Rattle.radius.specs.Next.{Next, InLater}
+use Rattle.radius.proofs.NextLaws.{next-none, later-step}
 use mathlib.Core.Path.{_≡_, subst}
 use Prim.Native.Nat.{_≤_, _<_, _-_}
 use Rattle.radius.proofs.next.next_later.Statement.{statement}

@@ -1,6 +1,7 @@
 -- The next radius of all rows. Assumes nothing.
 use native.Mathlib.Omega.{arith}
-use Rattle.radius.specs.Next.{Next, InRows, next-none, rows-step}
+use Rattle.radius.specs.Next.{Next, InRows}
+use Rattle.radius.proofs.NextLaws.{next-none, rows-step}
 use mathlib.Core.Path.{_≡_, subst}
 use Prim.Native.Nat.{_≤_, _-_}
 use Rattle.radius.proofs.next.next_of_all.Statement.{statement}

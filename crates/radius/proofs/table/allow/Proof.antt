@@ -1,6 +1,7 @@
 -- The table, row after row. Assumes nothing.
 use native.Mathlib.Omega.{arith}
-use Rattle.radius.specs.Table.{Table, table-none, table-more, table-done}
+use Rattle.radius.specs.Table.{Table}
+use Rattle.radius.proofs.TableLaws.{table-none, table-more, table-done}
 use mathlib.Core.Path.{_≡_}
 use Prim.Native.Nat.{_≤_, _-_}
 use Rattle.radius.proofs.table.allow.Statement.{statement}

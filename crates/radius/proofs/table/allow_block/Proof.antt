@@ -1,7 +1,8 @@
 -- A row of the table. Assumes nothing.
 use borrow.Author.Needs.{needs}
 use native.Mathlib.Omega.{arith}
-use Rattle.radius.specs.Table.{RowTo, row-none, row-more, row-done}
+use Rattle.radius.specs.Table.{RowTo}
+use Rattle.radius.proofs.TableLaws.{row-none, row-more, row-done}
 use mathlib.Core.Path.{_≡_}
 use Prim.Native.Nat.{_≤_, _-_}
 use Rattle.radius.proofs.table.allow_block.Statement.{statement}

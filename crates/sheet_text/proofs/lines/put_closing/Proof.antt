@@ -1,6 +1,6 @@
 -- `put_closing` meets its contract: three fields with their words, of at most 51 bytes. Assumes nothing.
 use native.Mathlib.Omega.{arith}
-use Rattle.sheet_text.specs.Lines.{closing-put, closing-length, closing-short}
+use Rattle.sheet_text.proofs.LineLaws.{closing-put, closing-length, closing-short}
 use borrow.Author.Needs.{needs}
 use Rattle.sheet_text.proofs.lines.put_closing.Statement.{statement}
 use Rattle.sheet_text.proofs.lines.put_closing.Tie as tie

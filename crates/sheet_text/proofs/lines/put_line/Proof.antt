@@ -6,7 +6,7 @@ use mir.Val.{Fits}
 use lib.ListN.{length}
 use Rattle.study.specs.declared.BlockRecord.{BlockRecord}
 use Rattle.sheet_text.specs.Text.{line}
-use Rattle.sheet_text.specs.Lines.{field-short, line-put, line-length, line-short}
+use Rattle.sheet_text.proofs.LineLaws.{field-short, line-put, line-length, line-short}
 use borrow.Author.Needs.{needs}
 use Rattle.sheet_text.proofs.lines.put_line.Statement.{statement}
 use Rattle.sheet_text.proofs.lines.put_line.Tie as tie

@@ -6,8 +6,9 @@ use mathlib.Core.Path.{_≡_, refl, ap}
 use borrow.Author.Needs.{needs}
 use lib.ListN.{length, take}
 use Rattle.sheet_text.specs.Text.{lines}
-use Rattle.sheet_text.specs.Lines.{lines-none, lines-more, lines-all}
-use Rattle.sheet_text.specs.Putting.{Puts, puts-as}
+use Rattle.sheet_text.proofs.LineLaws.{lines-none, lines-more, lines-all}
+use Rattle.sheet_text.specs.Putting.{Puts}
+use Rattle.sheet_text.proofs.PuttingLaws.{puts-as}
 use Rattle.sheet_text.proofs.lines.put_lines.Statement.{statement}
 use Rattle.sheet_text.proofs.lines.put_lines.Tie as tie
 

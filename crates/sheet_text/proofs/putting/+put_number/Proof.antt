@@ -2,8 +2,8 @@
 -- Assumes nothing.
 use native.Mathlib.Omega.{arith}
 use mathlib.Core.Path.{refl, sym, _∙_}
-use Rattle.sheet_text.specs.Numbers.{decimal-one, decimal-more, one-length, more-length}
-use Rattle.sheet_text.specs.Putting.{puts-then, puts-as}
+use Rattle.sheet_text.proofs.NumberLaws.{decimal-one, decimal-more, one-length, more-length}
+use Rattle.sheet_text.proofs.PuttingLaws.{puts-then, puts-as}
 use Prim.Native.Nat.{ℕ, _<_}
 use borrow.Fn.Kinds.{In}
 use borrow.Fn.PlainCycle.{Measures, is, falls, and}

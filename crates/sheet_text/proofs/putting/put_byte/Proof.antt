@@ -1,5 +1,5 @@
 -- `put_byte` meets its contract: one byte is a text of length 1. Assumes nothing.
-use Rattle.sheet_text.specs.Putting.{puts-byte}
+use Rattle.sheet_text.proofs.PuttingLaws.{puts-byte}
 use borrow.Author.Needs.{needs}
 use Rattle.sheet_text.proofs.putting.put_byte.Statement.{statement}
 use Rattle.sheet_text.proofs.putting.put_byte.Tie as tie

@@ -2,7 +2,8 @@
 use Prim.Native.Nat.{_+_, _-_, _≤_}
 use native.Mathlib.Omega.{arith}
 use lib.ListN.{length, take}
-use Rattle.sheet_text.specs.Putting.{Puts, copied-none, copied-more, copied-done}
+use Rattle.sheet_text.specs.Putting.{Puts}
+use Rattle.sheet_text.proofs.PuttingLaws.{copied-none, copied-more, copied-done}
 use Rattle.sheet_text.proofs.putting.put_bytes.Statement.{statement}
 use Rattle.sheet_text.proofs.putting.put_bytes.Tie as tie
 

@@ -1,7 +1,8 @@
 -- `put_field` meets its contract: a number and a byte after it. Assumes nothing.
 use native.Mathlib.Omega.{arith}
-use Rattle.sheet_text.specs.Lines.{field, field-length}
-use Rattle.sheet_text.specs.Putting.{puts-then}
+use Rattle.sheet_text.specs.Lines.{field}
+use Rattle.sheet_text.proofs.LineLaws.{field-length}
+use Rattle.sheet_text.proofs.PuttingLaws.{puts-then}
 use borrow.Author.Needs.{needs}
 use Rattle.sheet_text.proofs.putting.put_field.Statement.{statement}
 use Rattle.sheet_text.proofs.putting.put_field.Tie as tie

@@ -1,7 +1,8 @@
 -- `put_named` meets its contract: words and a field after them. Assumes nothing.
 use native.Mathlib.Omega.{arith}
-use Rattle.sheet_text.specs.Lines.{named, named-length}
-use Rattle.sheet_text.specs.Putting.{puts-then}
+use Rattle.sheet_text.specs.Lines.{named}
+use Rattle.sheet_text.proofs.LineLaws.{named-length}
+use Rattle.sheet_text.proofs.PuttingLaws.{puts-then}
 use borrow.Author.Needs.{needs}
 use Rattle.sheet_text.proofs.putting.put_named.Statement.{statement}
 use Rattle.sheet_text.proofs.putting.put_named.Tie as tie

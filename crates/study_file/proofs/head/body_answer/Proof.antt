@@ -1,5 +1,5 @@
 -- `body_answer` meets its contract: one law for each way out. Assumes nothing.
-use Rattle.study_file.specs.HeadLaws.{head-length, minima-inside, fill-inside, head-minima, head-fill, head-done}
+use Rattle.study_file.proofs.HeadLaws.{head-length, minima-inside, fill-inside, head-minima, head-fill, head-done}
 use borrow.Author.Tests.{not-true, not-false}
 use borrow.Author.Needs.{needs}
 use Rattle.study_file.proofs.head.body_answer.Statement.{statement}

@@ -1,5 +1,5 @@
 -- `filled` meets its contract: no bits, or the number in them. Assumes nothing.
-use Rattle.study_file.specs.HeadLaws.{fill-none}
+use Rattle.study_file.proofs.HeadLaws.{fill-none}
 use lib.Dec.{eqb}
 use mathlib.Core.Path.{ap}
 use borrow.Author.Needs.{needs}

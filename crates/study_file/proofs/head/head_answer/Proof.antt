@@ -1,8 +1,8 @@
 -- `head_answer` meets its contract: one law for each way out. Assumes nothing.
 use native.Mathlib.Omega.{arith}
-use Rattle.study_file.specs.HeadLaws.{head-short, head-mark, head-count, head-kinds, begun}
-use Rattle.lists.specs.Scans.{between-low, between-high}
-use Rattle.bit_reader.specs.FieldLaws.{got-start, no-end-start}
+use Rattle.study_file.proofs.HeadLaws.{head-short, head-mark, head-count, head-kinds, begun}
+use Rattle.lists.proofs.Scans.{between-low, between-high}
+use Rattle.bit_reader.proofs.FieldLaws.{got-start, no-end-start}
 use borrow.Author.Needs.{needs}
 use Rattle.study_file.proofs.head.head_answer.Statement.{statement}
 use Rattle.study_file.proofs.head.head_answer.Tie as tie

@@ -1,7 +1,7 @@
 -- `minima_of` meets its contract: the loop's invariant: the first j minima stand in place of zeros. Assumes nothing.
 use native.Mathlib.Omega.{arith}
-use Rattle.study_file.specs.HeadLaws.{minima-read}
-use Rattle.lists.specs.Tables.{overwrite-step, overwrite-none}
+use Rattle.study_file.proofs.HeadLaws.{minima-read}
+use Rattle.lists.proofs.Tables.{overwrite-step, overwrite-none}
 use Rattle.file_format.specs.Bits.{bitsAt}
 use Rattle.lists.specs.Lists.{overwrite}
 use lib.ListN.{replicate}

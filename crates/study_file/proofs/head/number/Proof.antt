@@ -1,5 +1,5 @@
 -- `number` meets its contract: inside the file there is no end. Assumes nothing.
-use Rattle.bit_reader.specs.FieldLaws.{got, no-end}
+use Rattle.bit_reader.proofs.FieldLaws.{got, no-end}
 use borrow.Author.Needs.{needs}
 use Rattle.study_file.proofs.head.number.Statement.{statement}
 use Rattle.study_file.proofs.head.number.Tie as tie

@@ -1,5 +1,5 @@
 -- `record_of` meets its contract: each field of the record is the number in its bits. Assumes nothing.
-use Rattle.study_file.specs.HeadLaws.{record-read, record-minima}
+use Rattle.study_file.proofs.HeadLaws.{record-read, record-minima}
 use borrow.Author.Needs.{needs}
 use Rattle.study_file.proofs.head.record_of.Statement.{statement}
 use Rattle.study_file.proofs.head.record_of.Tie as tie

@@ -1,6 +1,6 @@
 -- `bit_length` meets its contract: no difference goes below zero and no product wraps, by what 120 tides take at most. Assumes nothing.
 use native.Mathlib.Omega.{arith}
-use Rattle.study_file.specs.Lengths.{length-sum}
+use Rattle.study_file.proofs.Lengths.{length-sum}
 use borrow.Author.Needs.{needs}
 use Rattle.study_file.proofs.length.bit_length.Statement.{statement}
 use Rattle.study_file.proofs.length.bit_length.Tie as tie

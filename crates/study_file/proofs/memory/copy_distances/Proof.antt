@@ -1,6 +1,6 @@
 -- `copy_distances` meets its contract: the loop's invariant: the first p places are copied. Assumes nothing.
 use native.Mathlib.Omega.{arith}
-use Rattle.lists.specs.Tables.{overwrite-step, overwrite-done, overwrite-none}
+use Rattle.lists.proofs.Tables.{overwrite-step, overwrite-done, overwrite-none}
 use Rattle.lists.specs.Lists.{overwrite}
 use Prim.Native.Nat.{ℕ, _≤_, _-_}
 use mathlib.Core.Path.{_≡_, refl}

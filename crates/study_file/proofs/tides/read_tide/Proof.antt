@@ -1,7 +1,7 @@
 -- `read_tide` meets its contract: one law for each way out. Assumes nothing.
 use native.Mathlib.Omega.{arith}
-use Rattle.study_file.specs.RowLaws.{inside, tide-five, tide-stops, tide-goes}
-use Rattle.bit_reader.specs.FieldLaws.{got, no-end}
+use Rattle.study_file.proofs.RowLaws.{inside, tide-five, tide-stops, tide-goes}
+use Rattle.bit_reader.proofs.FieldLaws.{got, no-end}
 use borrow.Author.Needs.{needs}
 use Rattle.study_file.proofs.tides.read_tide.Statement.{statement}
 use Rattle.study_file.proofs.tides.read_tide.Tie as tie

@@ -1,7 +1,7 @@
 -- `read_tides` meets its contract: the loop's invariant: the first t tides are loaded, and memory keeps its length. Assumes nothing.
 use borrow.Author.Needs.{needs}
 use native.Mathlib.Omega.{arith}
-use Rattle.study_file.specs.RowLaws.{reached-stops, reached-all}
+use Rattle.study_file.proofs.RowLaws.{reached-stops, reached-all}
 use Rattle.study_file.specs.Loading.{Loaded}
 use lib.ListN.{length}
 use Prim.Native.Nat.{_-_, _≤_}

@@ -1,6 +1,6 @@
 -- `row_answer` meets its contract: what the search finds is the answer. Assumes nothing.
 use native.Mathlib.Omega.{arith}
-use Rattle.study_file.specs.RowLaws.{row-breaks, row-holds}
+use Rattle.study_file.proofs.RowLaws.{row-breaks, row-holds}
 use borrow.Author.Needs.{needs}
 use Rattle.study_file.proofs.tides.row_answer.Statement.{statement}
 use Rattle.study_file.proofs.tides.row_answer.Tie as tie

@@ -1,9 +1,11 @@
 -- `take_row` meets its contract: the loop's invariant: the first i distances stand in row and column. Assumes nothing.
 use borrow.Author.Needs.{needs}
 use native.Mathlib.Omega.{arith}
-use Rattle.study_file.specs.RowLaws.{rowAt, row-taken}
-use Rattle.storage.specs.Places.{withRow, row-none, row-done}
-use Rattle.bit_reader.specs.FieldLaws.{got, no-end}
+use Rattle.study_file.specs.Rows.{rowAt}
+use Rattle.study_file.proofs.RowLaws.{row-taken}
+use Rattle.storage.specs.Places.{withRow}
+use Rattle.storage.proofs.PlaceLaws.{row-none, row-done}
+use Rattle.bit_reader.proofs.FieldLaws.{got, no-end}
 use lib.ListN.{length, length-set}
 use Prim.Native.Nat.{_+_, _-_, _*_, _≤_}
 use mathlib.Core.Path.{_≡_, refl}

@@ -1,6 +1,6 @@
 -- `put_fields` meets its contract: head, minima and tides, one after the other. Assumes nothing.
 use native.Mathlib.Omega.{arith}
-use Rattle.study_file.specs.Putting.{head-room, minima-room, eight, parts-put}
+use Rattle.study_file.proofs.PuttingLaws.{head-room, minima-room, eight, parts-put}
 use Rattle.validity.specs.Memory.{stateOf}
 use borrow.Author.Needs.{needs}
 use Rattle.study_file.proofs.writing.put_fields.Statement.{statement}

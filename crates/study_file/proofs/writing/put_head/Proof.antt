@@ -1,5 +1,5 @@
 -- `put_head` meets its contract: five fields, one after the other. Assumes nothing.
-use Rattle.study_file.specs.Putting.{head-put}
+use Rattle.study_file.proofs.PuttingLaws.{head-put}
 use borrow.Author.Needs.{needs}
 use Rattle.study_file.proofs.writing.put_head.Statement.{statement}
 use Rattle.study_file.proofs.writing.put_head.Tie as tie

@@ -1,6 +1,7 @@
 -- `put_minima` meets its contract: the loop's invariant: the first j minima are written. Assumes nothing.
 use native.Mathlib.Omega.{arith}
-use Rattle.study_file.specs.Putting.{Puts, run-none, run-more, run-done}
+use Rattle.study_file.specs.Putting.{Puts}
+use Rattle.study_file.proofs.PuttingLaws.{run-none, run-more, run-done}
 use Rattle.file_format.specs.Bits.{field}
 use Rattle.lists.specs.Lists.{tabulate}
 use lib.ListN.{getD}

@@ -1,6 +1,6 @@
 -- `put_part` meets its contract: the byte as the law of one step has it. Assumes nothing.
 use native.Mathlib.Omega.{arith}
-use Rattle.study_file.specs.Writing.{part-moved, part-small, part-put}
+use Rattle.study_file.proofs.WritingLaws.{part-moved, part-small, part-put}
 use borrow.Author.Needs.{needs}
 use Rattle.study_file.proofs.writing.put_part.Statement.{statement}
 use Rattle.study_file.proofs.writing.put_part.Tie as tie

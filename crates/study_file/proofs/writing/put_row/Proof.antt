@@ -1,7 +1,8 @@
 -- `put_row` meets its contract: the loop's invariant: the first i distances are written. Assumes nothing.
 use native.Mathlib.Omega.{arith}
 use Rattle.lists.specs.Lists.{at, tabulate}
-use Rattle.study_file.specs.Putting.{Puts, run-none, run-more, run-done}
+use Rattle.study_file.specs.Putting.{Puts}
+use Rattle.study_file.proofs.PuttingLaws.{run-none, run-more, run-done}
 use Rattle.file_format.specs.Bits.{field}
 use mathlib.Core.Path.{refl}
 use Prim.Native.Nat.{_-_, _≤_}

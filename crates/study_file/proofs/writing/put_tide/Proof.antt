@@ -1,5 +1,5 @@
 -- `put_tide` meets its contract: a setting and a row. Assumes nothing.
-use Rattle.study_file.specs.Putting.{tide-put}
+use Rattle.study_file.proofs.PuttingLaws.{tide-put}
 use Rattle.validity.specs.Memory.{stateOf}
 use borrow.Author.Needs.{needs}
 use Rattle.study_file.proofs.writing.put_tide.Statement.{statement}

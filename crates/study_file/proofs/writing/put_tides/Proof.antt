@@ -1,6 +1,7 @@
 -- `put_tides` meets its contract: the loop's invariant: the first t tides are written. Assumes nothing.
 use native.Mathlib.Omega.{arith}
-use Rattle.study_file.specs.Putting.{Puts, tide-room, tides-none, tides-more, tides-done}
+use Rattle.study_file.specs.Putting.{Puts}
+use Rattle.study_file.proofs.PuttingLaws.{tide-room, tides-none, tides-more, tides-done}
 use Rattle.validity.specs.Memory.{stateOf, tideOf}
 use Rattle.file_format.specs.File.{tideFields, bitLength}
 use Rattle.lists.specs.Lists.{tabulate}

@@ -1,0 +1,121 @@
+-- The ways out of Judge: of what the code has found out, what the call answers. Assumes nothing.
+use Prim.Native.Nat.{ℕ, _≤_, _<_}
+use native.Mathlib.Omega.{arith}
+use mathlib.Core.Path.{_≡_, sym, ap, ap₂, _∙_}
+use mathlib.Core.Bool.{Bool, true, false, cond, _&&_}
+use mathlib.Core.List.{List}
+use lib.Dec.{eqb, eqb→eq}
+use lib.ListN.{length, getD}
+use borrow.Author.Tests.{eq-eqb, ne-eqb}
+use Rattle.lists.specs.Lists.{between, every}
+use Rattle.lists.proofs.Tests.{not-not}
+use Rattle.study.specs.declared.Minima.{Minima}
+use Rattle.study.specs.declared.Refusal.{Refusal}
+use Rattle.study.specs.declared.Answer.{Answer}
+use Rattle.study.specs.declared.Answer.the-variants.{Done, Refused}
+use Rattle.study.specs.Problem.{Problem, block, labels, greatestDiameter, feasible}
+use Rattle.study.specs.Study.{Study, size, meets, problem}
+use Rattle.study.specs.Refusals.{number, numbered, Verdict, accepted, refused, verdictOf, value, refusal, replied, firstOf}
+use Rattle.study.specs.Calls.{judgeReasons, approved, approval, disapproval, judgement}
+use Rattle.study.proofs.CallLaws.{none-holds}
+use Rattle.promise.specs.Promise.{meeting}
+use Rattle.radii.specs.Posed.{posed}
+use Rattle.validity.specs.Memory.{State, studyOf, contentsOf}
+use Rattle.validity.proofs.ValidityLaws.{study-size}
+use Rattle.dataset.proofs.Ways.{held-own, accepted-held, passed-by}
+use Rattle.dataset.specs.Told.{Passed}
+use Rattle.blocking.specs.Answers.{judgeAnswer, judgeReply}
+use Rattle.blocking.proofs.Linked.{linked, sized}
+use Rattle.blocks.specs.Measured.{widestOf}
+use Rattle.blocks.proofs.MeasuredLaws.{widest-diameter}
+use Rattle.blocking.specs.Told.{Listed}
+
+module _ (s : State) (list : List ℕ) where
+  abbrev n : ℕ
+  n = s .dataset .n
+
+  abbrev S : Study
+  S = studyOf s
+
+  module _ (P : Passed s) where
+    judge-own : (v : Verdict) → firstOf (judgeReasons S list) ≡ v → v ≡ judgeAnswer s list
+    unfolding judgeAnswer contentsOf
+    judge-own v q = sym q ∙ held-own s (λ H. judgeReasons (H .study) list) (P .not-short) (P .tested)
+
+    pub judge-24 : n < 1 → refused (number 24) ≡ judgeAnswer s list
+    unfolding judgeReasons firstOf
+    judge-24 l = judge-own (refused (number 24)) (rw (eq-eqb (size S) 0 (omega (arith, study-size s))))
+
+    module _ (l : 1 ≤ n) where
+      past-24 : eqb (size S) 0 ≡ false
+      past-24 = ne-eqb (size S) 0 (λ e. omega (arith, study-size s))
+
+      pub judge-12 : (length list ≡ n → ⊥) → refused (number 12) ≡ judgeAnswer s list
+      unfolding judgeReasons firstOf
+      judge-12 h = judge-own (refused (number 12)) (rw (past-24, ne-eqb (length list) (size S) (λ e. h (e ∙ study-size s))))
+
+      pub judge-done : length list ≡ n → accepted ≡ judgeAnswer s list
+      unfolding judgeReasons firstOf
+      judge-done h = judge-own accepted (rw (past-24, eq-eqb (length list) (size S) (h ∙ sym (study-size s))))
+
+  -- what an accepted call tells
+  pub record JudgeTold : Type 0 where
+    pub passed : Passed s
+    pub long : length list ≡ n
+    pub answer : accepted ≡ judgeAnswer s list
+
+  pub judge-told : {a : Answer} → a ≡ Done → verdictOf a ≡ judgeAnswer s list → JudgeTold
+  unfolding judgeAnswer contentsOf judgeReasons
+  judge-told e f =
+      let q : accepted ≡ judgeAnswer s list = sym (ap verdictOf e) ∙ f in
+      let h = accepted-held s (λ H. judgeReasons (H .study) list) (sym q) in
+      let w = none-holds (judgeReasons S list) (h .reasons) in
+      record {
+        passed = passed-by s (h .not-short) (h .tested);
+        long = eqb→eq (length list) (size S) (not-not (eqb (length list) (size S)) (w .1 .0)) ∙ study-size s;
+        answer = q;
+      }
+
+  pub judge-refused : {a : Answer} {x : Refusal} → a ≡ Refused x → verdictOf a ≡ judgeAnswer s list → refusal (numbered x) ≡ judgeReply s list
+  unfolding judgeReply
+  judge-refused {a} {x} e f = ap (λ v. replied v (judgement S list)) (sym (ap verdictOf e) ∙ f)
+
+  module _ (A : JudgeTold) where
+    abbrev M : Minima
+    M = s .dataset .minima
+
+    pub listed : Listed (s .settings) n list
+    listed =
+        let z = sized s (A .passed .dataset) (A .passed .long) in
+        record { few = z .few; settings-long = z .able .settings-long; setting-high = z .able .setting-high; list-long = omega (arith, A .long) }
+
+    -- the two tests that the code makes
+    abbrev numbers : Bool
+    numbers = every n (λ t. between 1 255 (labels list t))
+
+    abbrev sufficient : Bool
+    sufficient = every n (λ u. meets M n (λ t. getD (s .settings) t 0) (block (labels list) (labels list u)))
+
+    approved-is : approved S list ≡ numbers && sufficient
+    unfolding approved feasible posed meeting
+    approved-is =
+        ap₂ (λ (k : ℕ) (P : Problem). every k (λ t. between 1 255 (labels list t)) && feasible P (labels list)) (study-size s) (linked s (A .passed .dataset))
+
+    judged : (b : Bool) → numbers && sufficient ≡ b → value (cond b (approval (greatestDiameter (problem S) (labels list))) disapproval) ≡ judgeReply s list
+    unfolding judgeReply judgement
+    judged b e =
+        ap (λ z. value (cond z (approval (greatestDiameter (problem S) (labels list))) disapproval)) (sym e ∙ sym approved-is)
+        ∙ ap (λ v. replied v (judgement S list)) (A .answer)
+
+    pub judge-number : {r : Bool} → r ≡ numbers → r ≡ false → value disapproval ≡ judgeReply s list
+    judge-number e f = judged false (rw (sym e ∙ f))
+
+    pub judge-few : {q r : Bool} → q ≡ numbers → q ≡ true → r ≡ sufficient → r ≡ false → value disapproval ≡ judgeReply s list
+    judge-few d c e f = judged false (rw (sym d ∙ c, sym e ∙ f))
+
+    pub judge-yes : {q r : Bool} {w : ℕ} → q ≡ numbers → q ≡ true → r ≡ sufficient → r ≡ true → w ≡ widestOf (s .distances) n (labels list) n
+        → value (approval w) ≡ judgeReply s list
+    judge-yes d c e f h =
+        ap (λ z. value (approval z)) (h ∙ widest-diameter (s .distances) n (meeting M n (s .settings)) (labels list)
+        ∙ ap (λ (P : Problem). greatestDiameter P (labels list)) (sym (linked s (A .passed .dataset))))
+        ∙ judged true (rw (sym d ∙ c, sym e ∙ f))

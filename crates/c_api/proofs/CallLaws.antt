@@ -1,0 +1,250 @@
+-- From what a Rattle call answers and leaves to what the call for C does. Assumes nothing.
+use Prim.Native.Nat.{ℕ, _≤_, _<_}
+use native.Mathlib.Omega.{arith}
+use mathlib.Core.Path.{_≡_, refl, sym, ap, _∙_, subst}
+use mathlib.Core.Logic.{_⊎_, inl, inr}
+use mathlib.Core.Bool.{Bool, true, false, cond, _||_}
+use mathlib.Core.List.{List, flatMap}
+use lib.ListN.{length}
+use borrow.Author.Tests.{lt-ltb, le-ltb}
+use Rattle.lists.specs.Lists.{iota}
+use Rattle.lists.proofs.Tests.{true-T}
+use Rattle.study.specs.declared.Minima.{Minima}
+use Rattle.study.specs.declared.Dataset.{Dataset}
+use Rattle.study.specs.declared.Answer.{Answer}
+use Rattle.study.specs.declared.Answer.the-variants.{Done}
+use Rattle.study.specs.Study.{Study, Contents, size}
+use Rattle.study.specs.Refusals.{number, Verdict, accepted, refused, verdictOf, settled, Reason, firstOf}
+use Rattle.study.specs.Calls.{openReasons, opening, minimaReasons, settingMinima, enterReasons, entering, withdrawReasons, withdrawing}
+use Rattle.study.specs.Theorems.{ValidContents}
+use Rattle.study.proofs.StudyLaws.{validMinima-T}
+use Rattle.study.proofs.Proofs.{for-calls}
+use Rattle.file_format.specs.File.{decoded, headReasons, tideReasons, readReasons}
+use Rattle.file_format.proofs.Proofs.{files}
+use Rattle.file_format.proofs.BitLaws.{bitsAt-small}
+use Rattle.file_format.proofs.DecodedLaws.{decoded-size}
+use Rattle.validity.specs.Memory.{State, stateOf, short, isDataset, contentsOf, recordOf, stored}
+use Rattle.dataset.specs.Answers.{freshAnswer, heldAnswer, openAnswer, openLeaves, minimaAnswer, minimaLeaves, enterAnswer, enterLeaves, withdrawAnswer, withdrawLeaves}
+use Rattle.validity.proofs.Proofs.{for-datasets}
+use Rattle.dataset.proofs.Ways.{accepted-held}
+use Rattle.study_file.specs.Answers.{readAnswer, readLeaves}
+use Rattle.c_api.specs.Api.{Lent, lent, minimaAt, numbersOf, stateIn, code, roomFirst, lacks, over, left, openVerdict, openLeft, minimaVerdict, minimaLeft, enterVerdict, enterLeft, withdrawVerdict, withdrawLeft, readVerdict, readLeft}
+use Rattle.c_api.specs.Records.{cut, datasetBy, Narrow, Storable}
+use Rattle.c_api.proofs.RecordLaws.{withRecord, held-same, contents-same, read-back}
+use Rattle.c_api.proofs.CodeLaws.{AllNarrow, small, first-narrow, append-narrow, runs-narrow, pair-narrow, fresh-narrow, held-narrow}
+
+-- ---- a list of fixed size
+
+pub lacks-yes : (n : ℕ) (l : List ℕ) → length l < n → lacks n l ≡ true
+unfolding lacks
+lacks-yes n l h = lt-ltb (length l) n h
+
+pub lacks-no : (n : ℕ) (l : List ℕ) → n ≤ length l → lacks n l ≡ false
+unfolding lacks
+lacks-no n l h = le-ltb (length l) n h
+
+-- two such lists
+pub lacks-one : {n m : ℕ} (l k : List ℕ) → (length l < n) ⊎ (length k < m) → lacks n l || lacks m k ≡ true
+lacks-one {n} {m} l k (inl h) = rw (lacks-yes n l h)
+lacks-one {n} {m} l k (inr h) = rw (lacks-yes m k h) (either (lacks n l))
+  where
+    either : (a : Bool) → a || true ≡ true
+    either true = refl
+    either false = refl
+
+pub lacks-neither : {n m : ℕ} (l k : List ℕ) → n ≤ length l → m ≤ length k → lacks n l || lacks m k ≡ false
+lacks-neither {n} {m} l k a b = rw (lacks-no n l a, lacks-no m k b)
+
+-- ---- a record that is written
+
+pub settle-done : {a : Answer} {new : List ℕ} (xs old : List ℕ) → a ≡ Done → new ≡ over xs old → (0 ≡ code (verdictOf a)) × (new ≡ settled (verdictOf a) (over xs old) old)
+settle-done xs old e q = (sym (ap (λ x. code (verdictOf x)) e), q ∙ sym (ap (λ x. settled (verdictOf x) (over xs old) old) e))
+
+-- ---- a call that answers v, and leaves H where it is accepted
+
+pub record Sound (v : Verdict) (H : Contents) : Type 0 where
+  pub narrow : Narrow v
+  pub valid : v ≡ accepted → ValidContents H
+
+module _ (s : State) where
+  fresh-sound : (own : Verdict) (H : Contents) → Narrow own → (own ≡ accepted → ValidContents H) → Sound (freshAnswer s own) H
+  unfolding freshAnswer
+  fresh-sound own H n valid = record { narrow = fresh-narrow s own n; valid = by (short s) }
+    where
+      by : (b : Bool) → cond b (refused (number 1)) own ≡ accepted → ValidContents H
+      by true e = absurd (let z : _≡_ {A = ℕ} 0 1 = cc in omega arith)
+      by false e = valid e
+
+  held-sound : (own : Contents → List Reason) (f : Contents → Contents) → ((H : Contents) → ValidContents H → AllNarrow (own H))
+      → ((H : Contents) → ValidContents H → firstOf (own H) ≡ accepted → ValidContents (f H)) → Sound (heldAnswer s own) (f (contentsOf s))
+  held-sound own f narrow keeps =
+      record {
+        narrow = held-narrow s own (λ e. narrow (contentsOf s) (valid e));
+        valid = λ e. let A = accepted-held s own e in keeps (contentsOf s) (valid (A .tested)) (A .reasons);
+      }
+    where
+      valid : isDataset s ≡ true → ValidContents (contentsOf s)
+      valid e = for-datasets .valid s (true-T (isDataset s) e)
+
+  pub open-sound : (k : ℕ) → Sound (openAnswer s k) (opening k)
+  unfolding openAnswer openReasons
+  open-sound k = fresh-sound (firstOf (openReasons k)) (opening k) (first-narrow (openReasons k) (small tt, tt)) (for-calls .on-open k)
+
+  pub minima-sound : (M : Minima) → Sound (minimaAnswer s M) (settingMinima M (contentsOf s))
+  unfolding minimaAnswer minimaReasons
+  minima-sound M = held-sound (λ H. minimaReasons (H .study) M) (settingMinima M) (λ H ok. (small tt, tt)) (for-calls .on-minima M)
+
+  pub enter-sound : (setting : ℕ) (row : List ℕ) → Sound (enterAnswer s setting row) (entering setting row (contentsOf s))
+  unfolding enterAnswer enterReasons
+  enter-sound setting row = held-sound (λ H. enterReasons (H .study) setting row) (entering setting row) narrow (for-calls .on-enter setting row)
+    where
+      narrow : (H : Contents) → ValidContents H → AllNarrow (enterReasons (H .study) setting row)
+      narrow H ok = (
+        small tt,
+        (small tt, (small tt, (small tt, (pair-narrow _ _ _ (omega (arith, ok .study .few)), tt)))),
+      )
+
+  pub withdraw-sound : (t : ℕ) → Sound (withdrawAnswer s t) (withdrawing t (contentsOf s))
+  unfolding withdrawAnswer withdrawReasons
+  withdraw-sound t = held-sound (λ H. withdrawReasons H t) (withdrawing t) (λ H ok. (small tt, (small tt, tt))) (for-calls .on-withdraw t)
+
+  pub read-sound : (file : List ℕ) → Sound (readAnswer s file) (decoded file)
+  unfolding readAnswer readReasons headReasons tideReasons
+  read-sound file = fresh-sound (firstOf (readReasons file)) (decoded file) (first-narrow (readReasons file) narrow) (files .valid file)
+    where
+      S : Study
+      S = decoded file .study
+
+      narrow : AllNarrow (readReasons file)
+      narrow =
+          append-narrow (headReasons file) (flatMap (tideReasons S) (iota 0 (size S)))
+          (small tt, (small tt, (small tt, (small tt, (small tt, (small tt, (small tt, tt)))))))
+          (runs-narrow (tideReasons S) 0 (size S) (λ t l. (small tt, (pair-narrow _ _ _ (omega (arith, decoded-size file, bitsAt-small file 8 7)), tt))))
+
+pub storable : {numbers : List ℕ} {v w : Verdict} {H : Contents} {r : Dataset} {d g : List ℕ} (s : State) → Sound v H → 12 ≤ length numbers → w ≡ v
+    → stateOf r d g ≡ settled v (stored H s) s → Storable numbers w r
+unfolding stored recordOf
+storable {numbers} {v} {w} {H} {r} {d} {g} s S room e f = record { room = room; narrow = subst Narrow (sym e) (S .narrow); few = λ q. few (sym e ∙ q) }
+  where
+    few : v ≡ accepted → r .n < 65536
+    few q =
+        let k : r .n ≡ size (H .study) = ap (λ (x : State). x .dataset .n) (f ∙ ap (λ u. settled u (stored H s) s) q) in
+        omega (arith, S .valid q .study .few)
+
+-- ---- on the record itself, and on the record as the code holds it
+
+pub record Same (v′ v : Verdict) (H′ H : Contents) : Type 0 where
+  pub verdict : v′ ≡ v
+  pub contents : v ≡ accepted → H′ ≡ H
+
+module _ (l : Lent) {r : Dataset} (e : r ≡ datasetBy cut (l .numbers)) where
+  pub same-held : (own : Contents → List Reason) (f : Contents → Contents)
+      → Same (heldAnswer (withRecord l r) own) (heldAnswer (stateIn l) own) (f (contentsOf (withRecord l r))) (f (contentsOf (stateIn l)))
+  same-held own f =
+      subst (λ x. Same (heldAnswer (withRecord l x) own) (heldAnswer (stateIn l) own) (f (contentsOf (withRecord l x))) (f (contentsOf (stateIn l)))) (sym e)
+      (record { verdict = held-same l own; contents = λ q. ap f (contents-same l own q) })
+
+  pub same-fresh : (own : Verdict) (H : Contents) → Same (freshAnswer (withRecord l r) own) (freshAnswer (stateIn l) own) H H
+  unfolding freshAnswer short stateIn
+  same-fresh own H = record { verdict = refl; contents = λ q. refl }
+
+-- ---- what stands afterwards
+
+-- a list of fixed size is too short
+pub left-scant : (l : Lent) {scant : Bool} (v : Verdict) (s : State) → scant ≡ true → (1 ≡ code (roomFirst scant v)) × (l ≡ left l (roomFirst scant v) s)
+unfolding roomFirst left
+left-scant l v s e = (rw e, rw e)
+
+-- a call got the record in l as o and made r of it; its verdict w gave the code c and the numbers m
+pub record Settled (l : Lent) (o r : Dataset) (w : Verdict) (c : ℕ) (m : List ℕ) : Type 0 where
+  pub room : 12 ≤ length (l .numbers)
+  pub held : o ≡ datasetBy cut (l .numbers)
+  pub answer : c ≡ code w
+  pub written : m ≡ settled w (over (numbersOf r) (l .numbers)) (l .numbers)
+
+module _ {l : Lent} {o r : Dataset} {w : Verdict} {c : ℕ} {m : List ℕ} (D : Settled l o r w c m) where
+  abbrev whole : lacks 12 (l .numbers) ≡ false
+  whole = lacks-no 12 (l .numbers) (D .room)
+
+  module _ {d g : List ℕ} where
+    left-own : {scant : Bool} {v v′ : Verdict} {H H′ : Contents} → scant ≡ false → Same v′ v H′ H → w ≡ v′
+        → stateOf r d g ≡ settled v′ (stored H′ (withRecord l o)) (withRecord l o)
+        → (c ≡ code (roomFirst scant v)) × (lent m d g ≡ left l (roomFirst scant v) (settled v (stored H (stateIn l)) (stateIn l)))
+    unfolding roomFirst left stored stateIn
+    left-own {scant} {v} {v′} {H} {H′} e S p q =
+        let u : w ≡ v = p ∙ S .verdict in
+        rw e (
+          D .answer ∙ ap code u,
+          by v (S .contents) (q ∙ ap (λ x. settled x (stored H′ (withRecord l o)) (withRecord l o)) (S .verdict))
+              (D .written ∙ ap (λ x. settled x (over (numbersOf r) (l .numbers)) (l .numbers)) u),
+        )
+      where
+        by : (x : Verdict) → (x ≡ accepted → H′ ≡ H) → stateOf r d g ≡ settled x (stored H′ (withRecord l o)) (withRecord l o)
+            → m ≡ settled x (over (numbersOf r) (l .numbers)) (l .numbers) → lent m d g ≡ left l x (settled x (stored H (stateIn l)) (stateIn l))
+        by accepted f t n =
+            let z = t ∙ ap (λ K. stored K (stateIn l)) (f refl) in
+            λ i. record { numbers = (n ∙ ap (λ (y : State). over (numbersOf (y .dataset)) (l .numbers)) z) i; distances = z i .distances; settings = z i .settings }
+        by (refused y) f t n = λ i. record { numbers = n i; distances = t i .distances; settings = t i .settings }
+
+    pub open-left : (k : ℕ) → w ≡ openAnswer (withRecord l o) k → stateOf r d g ≡ openLeaves (withRecord l o) k
+        → (c ≡ code (openVerdict l k)) × (lent m d g ≡ openLeft l k)
+    unfolding openVerdict openLeft openAnswer openLeaves
+    open-left k p q = left-own whole (same-fresh l (D .held) (firstOf (openReasons k)) (opening k)) p q
+
+    pub minima-left : (minima : List ℕ) {M : Minima} → 9 ≤ length minima → M ≡ minimaAt 0 minima → w ≡ minimaAnswer (withRecord l o) M
+        → stateOf r d g ≡ minimaLeaves (withRecord l o) M → (c ≡ code (minimaVerdict l minima)) × (lent m d g ≡ minimaLeft l minima)
+    unfolding minimaVerdict minimaLeft minimaAnswer minimaLeaves
+    minima-left minima {M} room e p q =
+        let N = minimaAt 0 minima in
+        left-own (lacks-neither (l .numbers) minima (D .room) room) (same-held l (D .held) (λ H. minimaReasons (H .study) N) (settingMinima N))
+        (p ∙ ap (minimaAnswer (withRecord l o)) e) (q ∙ ap (minimaLeaves (withRecord l o)) e)
+
+    pub enter-left : (setting : ℕ) (row : List ℕ) → w ≡ enterAnswer (withRecord l o) setting row → stateOf r d g ≡ enterLeaves (withRecord l o) setting row
+        → (c ≡ code (enterVerdict l setting row)) × (lent m d g ≡ enterLeft l setting row)
+    unfolding enterVerdict enterLeft enterAnswer enterLeaves
+    enter-left setting row p q = left-own whole (same-held l (D .held) (λ H. enterReasons (H .study) setting row) (entering setting row)) p q
+
+    pub withdraw-left : (t : ℕ) → w ≡ withdrawAnswer (withRecord l o) t → stateOf r d g ≡ withdrawLeaves (withRecord l o) t
+        → (c ≡ code (withdrawVerdict l t)) × (lent m d g ≡ withdrawLeft l t)
+    unfolding withdrawVerdict withdrawLeft withdrawAnswer withdrawLeaves
+    withdraw-left t p q = left-own whole (same-held l (D .held) (λ H. withdrawReasons H t) (withdrawing t)) p q
+
+    pub read-left : (file : List ℕ) → w ≡ readAnswer (withRecord l o) file → stateOf r d g ≡ readLeaves (withRecord l o) file
+        → (c ≡ code (readVerdict l file)) × (lent m d g ≡ readLeft l file)
+    unfolding readVerdict readLeft readAnswer readLeaves
+    read-left file p q = left-own whole (same-fresh l (D .held) (firstOf (readReasons file)) (decoded file)) p q
+
+-- ---- the next call gets what the last one left
+
+left-state : (l : Lent) {scant : Bool} {v : Verdict} {H : Contents} → scant ≡ false → Sound v H
+    → stateIn (left l (roomFirst scant v) (settled v (stored H (stateIn l)) (stateIn l))) ≡ settled v (stored H (stateIn l)) (stateIn l)
+unfolding roomFirst left stateIn stored recordOf
+left-state l {scant} {v} {H} e S = rw e (by v (S .valid))
+  where
+    by : (w : Verdict) → (w ≡ accepted → ValidContents H)
+        → stateIn (left l w (settled w (stored H (stateIn l)) (stateIn l))) ≡ settled w (stored H (stateIn l)) (stateIn l)
+    by accepted valid =
+        let fit = validMinima-T (H .study .k) (H .study .minima) .0 (valid refl .study .minima) in
+        ap (λ r. stateOf r (stored H (stateIn l) .distances) (stored H (stateIn l) .settings)) (read-back (recordOf H) (fit .eight) (l .numbers))
+    by (refused y) valid = refl
+
+module _ (l : Lent) (room : 12 ≤ length (l .numbers)) where
+  pub open-carried : (k : ℕ) → stateIn (openLeft l k) ≡ openLeaves (stateIn l) k
+  unfolding openLeft openVerdict openLeaves
+  open-carried k = left-state l (lacks-no 12 (l .numbers) room) (open-sound (stateIn l) k)
+
+  pub minima-carried : (minima : List ℕ) → 9 ≤ length minima → stateIn (minimaLeft l minima) ≡ minimaLeaves (stateIn l) (minimaAt 0 minima)
+  unfolding minimaLeft minimaVerdict minimaLeaves
+  minima-carried minima nine = left-state l (lacks-neither (l .numbers) minima room nine) (minima-sound (stateIn l) (minimaAt 0 minima))
+
+  pub enter-carried : (setting : ℕ) (row : List ℕ) → stateIn (enterLeft l setting row) ≡ enterLeaves (stateIn l) setting row
+  unfolding enterLeft enterVerdict enterLeaves
+  enter-carried setting row = left-state l (lacks-no 12 (l .numbers) room) (enter-sound (stateIn l) setting row)
+
+  pub withdraw-carried : (t : ℕ) → stateIn (withdrawLeft l t) ≡ withdrawLeaves (stateIn l) t
+  unfolding withdrawLeft withdrawVerdict withdrawLeaves
+  withdraw-carried t = left-state l (lacks-no 12 (l .numbers) room) (withdraw-sound (stateIn l) t)
+
+  pub read-carried : (file : List ℕ) → stateIn (readLeft l file) ≡ readLeaves (stateIn l) file
+  unfolding readLeft readVerdict readLeaves
+  read-carried file = left-state l (lacks-no 12 (l .numbers) room) (read-sound (stateIn l) file)

@@ -1,0 +1,238 @@
+-- From the reply of a Rattle call that only reads the dataset to what the call for C answers and writes. Assumes nothing.
+use Prim.Native.Nat.{ℕ, suc, _≤_, _<_}
+use native.Mathlib.Omega.{arith}
+use mathlib.Core.Path.{_≡_, refl, sym, ap, _∙_, subst}
+use mathlib.Core.Logic.{_⊎_}
+use mathlib.Core.Bool.{Bool, true, _||_}
+use mathlib.Core.List.{List, [], _∷_, _++_}
+use lib.ListN.{length, drop, set, length-map}
+use Rattle.lists.proofs.Tests.{true-T}
+use Rattle.study.specs.declared.Answer.{Answer}
+use Rattle.study.specs.declared.Answer.the-variants.{Done, Refused}
+use Rattle.study.specs.declared.Refusal.{Refusal}
+use Rattle.study.specs.declared.Dataset.{Dataset}
+use Rattle.study.specs.Problem.{centres}
+use Rattle.study.specs.Study.{Contents, size, distance, problem}
+use Rattle.study.specs.Refusals.{Numbered, numbered, Verdict, accepted, refused, verdictOf, settled, value, refusal, replied, Reason}
+use Rattle.study.specs.Calls.{centresReasons, centreNumbers}
+use Rattle.study.specs.Theorems.{ValidContents}
+use Rattle.file_format.specs.File.{fileOf, byteLength}
+use Rattle.file_format.proofs.Proofs.{files}
+use Rattle.radius.proofs.FrontLaws.{centres-few}
+use Rattle.validity.specs.Memory.{State, isDataset, studyOf, contentsOf}
+use Rattle.dataset.specs.Answers.{heldAnswer}
+use Rattle.validity.proofs.Proofs.{for-datasets}
+use Rattle.dataset.proofs.Ways.{accepted-held}
+use Rattle.study_file.specs.declared.Written.{Written}
+use Rattle.study_file.specs.declared.Written.the-variants as Outcome
+use Rattle.study_file.specs.Answers.{writeReasons, writeAnswer, writtenOf, writeReply, writeLeaves}
+use Rattle.study_file.proofs.Lengths.{length-sum}
+use Rattle.blocking.specs.Answers.{centresAnswer, centresFront, centresLeaves}
+use Rattle.c_api.specs.Api.{Lent, stateIn, code, roomFirst, lacks, over, output, centresVerdict, centresList, centresCount, writeVerdict, writeFile, writeLength}
+use Rattle.c_api.specs.Records.{cut, datasetBy, Narrow}
+use Rattle.c_api.proofs.RecordLaws.{withRecord}
+use Rattle.c_api.proofs.CodeLaws.{small, held-narrow}
+use Rattle.c_api.proofs.CallLaws.{lacks-one, lacks-neither, Same, same-held}
+
+-- ---- a reply, and the verdict in it
+
+pub reply-refused : {A : Type 0} {y : Numbered} (v : Verdict) (x : A) → refusal y ≡ replied v x → v ≡ refused y
+reply-refused accepted x e = absurd (let z : _≡_ {A = ℕ} 0 1 = cc in omega arith)
+reply-refused (refused r) x e = cc
+
+pub reply-value : {A : Type 0} {z : A} (v : Verdict) (x : A) → value z ≡ replied v x → (v ≡ accepted) × (z ≡ x)
+reply-value accepted x e = (refl, cc)
+reply-value (refused r) x e = absurd (let z : _≡_ {A = ℕ} 0 1 = cc in omega arith)
+
+-- ---- what is written
+
+-- a call that answers y
+pub output-as : {v y : Verdict} {new : List ℕ} (xs old : List ℕ) → v ≡ y → new ≡ output y xs old → new ≡ output v xs old
+output-as xs old e q = q ∙ ap (λ w. output w xs old) (sym e)
+
+-- one number
+pub first-set : (n : ℕ) (old : List ℕ) → 1 ≤ length old → set old 0 n ≡ over (n ∷ []) old
+unfolding over
+first-set n [] h = absurd (omega arith)
+first-set n (x ∷ xs) h = refl
+
+-- a list of fixed size is too short: 1, and nothing is written
+module _ {scant : Bool} (v : Verdict) (e : scant ≡ true) where
+  pub code-scant : 1 ≡ code (roomFirst scant v)
+  unfolding roomFirst
+  code-scant = rw e
+
+  pub output-scant : (xs old : List ℕ) → old ≡ output (roomFirst scant v) xs old
+  unfolding roomFirst output
+  output-scant xs old = rw e
+
+-- r is the record in l as the code holds it, and a list of fixed size has its m places
+pub record Reads (l : Lent) (r : Dataset) (m : ℕ) (fixed : List ℕ) : Type 0 where
+  pub room : 12 ≤ length (l .numbers)
+  pub enough : m ≤ length fixed
+  pub held : r ≡ datasetBy cut (l .numbers)
+
+-- then the call's own verdict counts, and is that of the record itself
+module _ {l : Lent} {r : Dataset} {m : ℕ} {fixed : List ℕ} (R : Reads l r m fixed) (own : Contents → List Reason) where
+  abbrev verdict : Verdict
+  verdict = heldAnswer (stateIn l) own
+
+  abbrev whole : Verdict
+  whole = roomFirst (lacks 12 (l .numbers) || lacks m fixed) verdict
+
+  abbrev held : Verdict
+  held = heldAnswer (withRecord l r) own
+
+  same : Same held verdict (contentsOf (withRecord l r)) (contentsOf (stateIn l))
+  same = same-held l (R .held) own (λ H. H)
+
+  whole-is : verdict ≡ whole
+  unfolding roomFirst
+  whole-is = rw (lacks-neither {n = 12} {m = m} (l .numbers) fixed (R .room) (R .enough))
+
+  pub code-own : {y : Verdict} → held ≡ y → code y ≡ code whole
+  code-own q = ap code (sym q ∙ same .verdict ∙ whole-is)
+
+  pub output-own : (f : Contents → List ℕ) {new : List ℕ} (old : List ℕ) → new ≡ output held (f (contentsOf (withRecord l r))) old
+      → new ≡ output whole (f (contentsOf (stateIn l))) old
+  unfolding output
+  output-own f {new} old q =
+      by verdict (same .contents) (q ∙ ap (λ w. output w (f (contentsOf (withRecord l r))) old) (same .verdict))
+      ∙ ap (λ w. output w (f (contentsOf (stateIn l))) old) whole-is
+    where
+      by : (w : Verdict) → (w ≡ accepted → contentsOf (withRecord l r) ≡ contentsOf (stateIn l)) → new ≡ output w (f (contentsOf (withRecord l r))) old
+          → new ≡ output w (f (contentsOf (stateIn l))) old
+      by accepted h p = p ∙ ap (λ K. over (f K) old) (h refl)
+      by (refused y) h p = p
+
+-- ---- Centres
+
+module _ (list : List ℕ) (s : State) where
+  pub centres-narrow : Narrow (centresAnswer s list)
+  unfolding centresAnswer centresReasons
+  centres-narrow = held-narrow s (λ H. centresReasons (H .study) (length list)) (λ _. (small tt, (small tt, tt)))
+
+  module _ (g : ℕ) where
+    abbrev found : List ℕ
+    found = centreNumbers (contentsOf s .study) g
+
+    centres-output : centresLeaves s g list ≡ output (centresAnswer s list) found list
+    unfolding centresLeaves centresFront output over contentsOf
+    centres-output = by (centresAnswer s list)
+      where
+        by : (v : Verdict) → settled v found [] ++ drop (length (settled v found [])) list ≡ settled v (over found list) list
+        by accepted = refl
+        by (refused r) = refl
+
+    module _ (a : Answer) {count : ℕ} (p : verdictOf a ≡ centresAnswer s list) (q : a ≡ Done) (e : count ≡ length (centresFront s g list)) where
+      abbrev done : centresAnswer s list ≡ accepted
+      done = sym p ∙ ap verdictOf q
+
+      counted : count ≡ length found
+      unfolding centresFront contentsOf
+      counted = e ∙ ap (λ v. length (settled v found [])) done
+
+      pub count-fits : count < 65536
+      unfolding centresAnswer contentsOf centreNumbers centres problem
+      count-fits =
+          let A = accepted-held s (λ H. centresReasons (H .study) (length list)) done in
+          omega (
+            arith,
+            counted,
+            length-map (centres (problem (studyOf s)) g) suc,
+            centres-few (distance (studyOf s)) g (size (studyOf s)),
+            for-datasets .valid s (true-T (isDataset s) (A .tested)) .study .few,
+          )
+
+module _ (l : Lent) (g : ℕ) (list count : List ℕ) where
+  pub centres-scant : (length (l .numbers) < 12) ⊎ (length count < 1)
+      → (1 ≡ code (centresVerdict l list count)) × ((list ≡ centresList l g list count) × (count ≡ centresCount l g list count))
+  unfolding centresVerdict centresList centresCount
+  centres-scant h = let e = lacks-one (l .numbers) count h in (code-scant _ e, (output-scant _ e _ list, output-scant _ e _ count))
+
+  abbrev own : Contents → List Reason
+  own H = centresReasons (H .study) (length list)
+
+  -- what `centres_into` answers of the record as the code holds it
+  module _ {r : Dataset} (R : Reads l r 1 count) (a : Answer) {n : ℕ} {new : List ℕ} (p : verdictOf a ≡ centresAnswer (withRecord l r) list)
+      (q : n ≡ length (centresFront (withRecord l r) g list)) (t : new ≡ centresLeaves (withRecord l r) g list) where
+    listed : new ≡ centresList l g list count
+    unfolding centresList centresVerdict centresAnswer contentsOf
+    listed = output-own R own (λ H. centreNumbers (H .study) g) list (t ∙ centres-output list (withRecord l r) g)
+
+    abbrev counts : Contents → List ℕ
+    counts H = length (centreNumbers (H .study) g) ∷ []
+
+    pub centres-refused : {x : Refusal} {c : ℕ} → a ≡ Refused x → c ≡ code (verdictOf a)
+        → (c ≡ code (centresVerdict l list count)) × ((new ≡ centresList l g list count) × (count ≡ centresCount l g list count))
+    unfolding centresVerdict centresCount centresAnswer output contentsOf
+    centres-refused e f =
+        (f ∙ code-own R own (sym p), (listed, output-own R own counts count (output-as _ count (sym p ∙ ap verdictOf e) refl)))
+
+    pub centres-done : a ≡ Done
+        → (0 ≡ code (centresVerdict l list count)) × ((new ≡ centresList l g list count) × (set count 0 n ≡ centresCount l g list count))
+    unfolding centresVerdict centresCount centresAnswer output contentsOf
+    centres-done e =
+        let y = sym p ∙ ap verdictOf e in
+        let one = first-set n count (R .enough) ∙ ap (λ z. over (z ∷ []) count) (counted list (withRecord l r) g a p e q) in
+        (code-own R own y, (listed, output-own R own counts count (output-as _ count y one)))
+
+-- ---- Write
+
+module _ (room : ℕ) (s : State) where
+  length-fits : writeAnswer s room ≡ accepted → length (fileOf (contentsOf s)) < 4294967296
+  unfolding writeAnswer byteLength
+  length-fits a =
+      let A = accepted-held s (λ H. writeReasons H room) a in
+      let ok : ValidContents (contentsOf s) = for-datasets .valid s (true-T (isDataset s) (A .tested)) in
+      omega (arith, files .file-length (contentsOf s) ok, length-sum (contentsOf s .study .k) (size (contentsOf s .study)) (ok .study .k-high) (ok .study .few) .most)
+
+  module _ (w : Written) (p : writtenOf w ≡ writeReply s room) where
+    write-why : {why : Refusal} → w ≡ Outcome.Refused why → writeAnswer s room ≡ refused (numbered why)
+    unfolding writeReply
+    write-why e = reply-refused (writeAnswer s room) (length (fileOf (contentsOf s))) (sym (ap writtenOf e) ∙ p)
+
+    pub why-narrow : {why : Refusal} → w ≡ Outcome.Refused why → Narrow (refused (numbered why))
+    unfolding writeAnswer writeReasons
+    why-narrow e = subst Narrow (write-why e) (held-narrow s (λ H. writeReasons H room) (λ _. (small tt, tt)))
+
+    write-size : {n : ℕ} → w ≡ Outcome.Done n → (writeAnswer s room ≡ accepted) × (n ≡ length (fileOf (contentsOf s)))
+    unfolding writeReply
+    write-size e = reply-value (writeAnswer s room) (length (fileOf (contentsOf s))) (sym (ap writtenOf e) ∙ p)
+
+    pub size-fits : {n : ℕ} → w ≡ Outcome.Done n → n < 4294967296
+    size-fits e = let q = write-size e in omega (arith, q .1, length-fits (q .0))
+
+module _ (l : Lent) (file result : List ℕ) where
+  pub write-scant : (length (l .numbers) < 12) ⊎ (length result < 1)
+      → (1 ≡ code (writeVerdict l file result)) × ((file ≡ writeFile l file result) × (result ≡ writeLength l file result))
+  unfolding writeVerdict writeFile writeLength
+  write-scant h = let e = lacks-one (l .numbers) result h in (code-scant _ e, (output-scant _ e _ file, output-scant _ e _ result))
+
+  abbrev writes : Contents → List Reason
+  writes H = writeReasons H (length file)
+
+  -- what `write` answers of the record as the code holds it
+  module _ {r : Dataset} (R : Reads l r 1 result) (w : Written) {new : List ℕ} (p : writtenOf w ≡ writeReply (withRecord l r) (length file))
+      (t : new ≡ writeLeaves (withRecord l r) file) where
+    filed : new ≡ writeFile l file result
+    unfolding writeFile writeVerdict writeAnswer writeLeaves output over
+    filed = output-own R writes fileOf file t
+
+    abbrev lengths : Contents → List ℕ
+    lengths H = length (fileOf H) ∷ []
+
+    pub write-refused : {why : Refusal} {c : ℕ} → w ≡ Outcome.Refused why → c ≡ code (refused (numbered why))
+        → (c ≡ code (writeVerdict l file result)) × ((new ≡ writeFile l file result) × (result ≡ writeLength l file result))
+    unfolding writeVerdict writeLength writeAnswer output
+    write-refused e f =
+        let y = write-why (length file) (withRecord l r) w p e in
+        (f ∙ code-own R writes y, (filed, output-own R writes lengths result (output-as _ result y refl)))
+
+    pub write-done : {n : ℕ} → w ≡ Outcome.Done n
+        → (0 ≡ code (writeVerdict l file result)) × ((new ≡ writeFile l file result) × (set result 0 n ≡ writeLength l file result))
+    unfolding writeVerdict writeLength writeAnswer output
+    write-done {n} e =
+        let y = write-size (length file) (withRecord l r) w p e in
+        let one = first-set n result (R .enough) ∙ ap (λ z. over (z ∷ []) result) (y .1) in
+        (code-own R writes (y .0), (filed, output-own R writes lengths result (output-as _ result (y .0) one)))

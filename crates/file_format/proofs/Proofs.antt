@@ -1,0 +1,19 @@
+-- The theorems of Theorems.antt. Assumes nothing.
+use mathlib.Core.Path.{refl}
+use Rattle.file_format.specs.File.{bitLength, byteLength}
+use Rattle.file_format.specs.Theorems.{Files}
+use Rattle.file_format.proofs.Written.{file-bytes, file-length, file-accepted, decoded-file}
+use Rattle.file_format.proofs.Accepted.{accepted-valid, accepted-file}
+
+pub files : Files
+unfolding bitLength byteLength
+files =
+    record {
+      bytes = file-bytes;
+      file-length = file-length;
+      greatest = refl;
+      accepts = file-accepted;
+      gives = decoded-file;
+      valid = accepted-valid;
+      only = λ s b e. accepted-file s e b;
+    }

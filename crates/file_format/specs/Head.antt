@@ -1,0 +1,26 @@
+-- HEAD file_format/Head
+use Prim.Native.Nat.{ℕ, _-_, _*_, _≤_, _<_}
+use mathlib.Core.Path.{_≡_}
+use mathlib.Core.List.{List}
+use lib.Dec.{T}
+use lib.ListN.{length}
+use Rattle.study.specs.Study.{validMinima}
+use Rattle.study.specs.Refusals.{accepted, firstOf}
+use Rattle.file_format.specs.Bits.{bitsAt}
+use Rattle.file_format.specs.File.{bitLength, byteLength, minimaAt, decoded, headReasons, tideReasons}
+
+-- none before any tide holds
+pub record Head (s : List ℕ) : Type 0 where
+  pub six : 6 ≤ length s
+  pub mark : bitsAt s 0 8 ≡ 0x54
+  pub few : bitsAt s 8 7 ≤ 120
+  pub k-low : 1 ≤ bitsAt s 15 4
+  pub k-high : bitsAt s 15 4 ≤ 8
+  pub long : length s ≡ byteLength (bitsAt s 15 4) (bitsAt s 8 7)
+  pub minima : T (validMinima (bitsAt s 15 4) (minimaAt s (bitsAt s 15 4)))
+  pub filled : bitsAt s (bitLength (bitsAt s 15 4) (bitsAt s 8 7)) (8 * length s - bitLength (bitsAt s 15 4) (bitsAt s 8 7)) ≡ 0
+
+-- no reason holds before any tide, and none of the tides below t
+pub record Clear (s : List ℕ) (t : ℕ) : Type 0 where
+  pub head : firstOf (headReasons s) ≡ accepted
+  pub tides : (u : ℕ) → u < t → firstOf (tideReasons (decoded s .study) u) ≡ accepted

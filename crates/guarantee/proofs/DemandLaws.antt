@@ -1,0 +1,199 @@
+-- Demand 1, and the last sentence of demand 2: what a refused call leaves, that a run's calls are those of the contracts, and that files
+-- and datasets correspond. Assumes nothing.
+use Prim.Native.Nat.{ℕ, _≤_}
+use native.Mathlib.Omega.{arith}
+use mathlib.Core.Path.{_≡_, refl, sym, ap, ap₂, _∙_, subst}
+use mathlib.Core.Bool.{Bool, true, false, cond, not}
+use mathlib.Core.List.{List, [], _∷_, _++_}
+use lib.Dec.{T, ltb}
+use lib.Arith.{le→nltb}
+use lib.ListN.{length, take, drop}
+use lib.Seq.{take-append-seam}
+use Rattle.lists.proofs.Tests.{T-true, true-T, T-false}
+use Rattle.study.specs.Problem.{blocking}
+use Rattle.study.specs.Study.{Study, Contents, size, problem}
+use Rattle.study.specs.Refusals.{Numbered, number, Verdict, accepted, refused, settled, Reply, value, refusal, replied, Reason, _⇒_, firstOf}
+use Rattle.study.specs.Calls.{opening, centreNumbers, figures, judgement}
+use Rattle.file_format.specs.File.{fileOf, decoded, readReasons}
+use Rattle.file_format.specs.Theorems.{Bytes}
+use Rattle.validity.specs.Memory.{State, short, isDataset, studyOf, contentsOf, stored}
+use Rattle.validity.proofs.Proofs.{for-datasets}
+use Rattle.dataset.specs.Answers.{freshAnswer, heldAnswer, openAnswer, openLeaves, minimaAnswer, minimaLeaves, enterAnswer, enterLeaves, withdrawAnswer, withdrawLeaves}
+use Rattle.dataset.proofs.Ways.{Accepted, accepted-held, held-own}
+use Rattle.study_file.specs.Answers.{readAnswer, readLeaves, writeReasons, writeAnswer, writeReply, writeLeaves}
+use Rattle.study_file.proofs.Proofs.{for-files}
+use Rattle.blocking.specs.Answers.{centresAnswer, centresFront, centresLeaves, blockAnswer, blockReply, blockList, blockRecords, judgeAnswer, judgeReply}
+use Rattle.guarantee.specs.Runs.{updating, find-centres, make-blocks, judge-list, write-file, Output, inquiring, figureNumbers, judgementNumbers, Call, call-open, call-read, call-change, call-ask, reasons, answer, after, lent, output}
+use Rattle.guarantee.specs.Theorems.{replyNumbers, AsContracts, FilesAndDatasets}
+use Rattle.guarantee.proofs.Follows.{past-short}
+
+-- ---- demand 1
+
+module _ (s : State) where
+  held-first : (own : Contents → List Reason)
+      → heldAnswer s own ≡ firstOf ((short s ⇒ number 1) ∷ (not (isDataset s) ⇒ number 21) ∷ own (contentsOf s))
+  unfolding heldAnswer freshAnswer firstOf
+  held-first own = by (short s) (isDataset s)
+    where
+      by : (a b : Bool) → cond a (refused (number 1)) (cond b (firstOf (own (contentsOf s))) (refused (number 21)))
+          ≡ cond a (refused (number 1)) (cond (not b) (refused (number 21)) (firstOf (own (contentsOf s))))
+      by true b = refl
+      by false true = refl
+      by false false = refl
+
+  pub first : (c : Call) → answer s c ≡ firstOf (reasons s c)
+  unfolding answer reasons openAnswer readAnswer freshAnswer firstOf
+  first (call-open k) = refl
+  first (call-read file) = refl
+  first (call-change c) = held-first (updating c .own)
+  first (call-ask q) = held-first (inquiring q .own)
+
+  pub unchanged : (c : Call) (r : Numbered) → answer s c ≡ refused r → after s c ≡ s
+  unfolding answer after openLeaves readLeaves
+  unchanged (call-open k) r e = ap (λ v. settled v (stored (opening k) s) s) e
+  unchanged (call-read file) r e = ap (λ v. settled v (stored (decoded file) s) s) e
+  unchanged (call-change c) r e = ap (λ v. settled v (stored (updating c .makes (contentsOf s)) s) s) e
+  unchanged (call-ask q) r e = refl
+
+  pub unwritten : (c : Call) (r : Numbered) → answer s c ≡ refused r → output s c ≡ lent c
+  unfolding answer output lent
+  unwritten (call-open k) r e = refl
+  unwritten (call-read file) r e = refl
+  unwritten (call-change c) r e = refl
+  unwritten (call-ask q) r e = ap (λ v. settled v (inquiring q .tells (contentsOf s)) (inquiring q .lent)) e
+
+-- ---- the calls of a run are those of the contracts
+
+-- a part of what stands after a call
+part-settled : {A B : Type 0} (f : A → B) (v : Verdict) (new old : A) → f (settled v new old) ≡ settled v (f new) (f old)
+part-settled f accepted new old = refl
+part-settled f (refused r) new old = refl
+
+numbers-settled : {A : Type 0} (f : A → List ℕ) (v : Verdict) (x : A) → settled v (f x) [] ≡ replyNumbers f (replied v x)
+numbers-settled f accepted x = refl
+numbers-settled f (refused r) x = refl
+
+module _ (s : State) where
+  abbrev S : Study
+  S = studyOf s
+
+  on-centres : (g : ℕ) (list : List ℕ) → let c = call-ask (find-centres g list) in
+      (output s c .lists ≡ centresLeaves s g list ∷ []) × (output s c .numbers ≡ settled (answer s c) (length (centresFront s g list) ∷ []) [])
+  unfolding answer output inquiring contentsOf centresAnswer centresFront centresLeaves
+  on-centres g list = by (centresAnswer s list)
+    where
+      front : List ℕ
+      front = centreNumbers S g
+
+      by : (v : Verdict)
+          → let left = settled v front [] in
+          let told = settled v (record { numbers = length front ∷ []; lists = (front ++ drop (length front) list) ∷ []; records = [] }) (record { numbers = []; lists = list ∷ []; records = [] }) in
+          (told .lists ≡ (left ++ drop (length left) list) ∷ []) × (told .numbers ≡ settled v (length left ∷ []) [])
+      by accepted = (refl, refl)
+      by (refused r) = (refl, refl)
+
+  pub as-contracts : AsContracts s
+  unfolding answer after output updating inquiring contentsOf minimaAnswer minimaLeaves enterAnswer enterLeaves withdrawAnswer withdrawLeaves centresAnswer
+      blockAnswer blockReply blockList blockRecords judgeAnswer judgeReply writeAnswer writeReply writeLeaves
+  as-contracts =
+      record {
+        on-open = λ k. (refl, refl);
+        on-read = λ file. (refl, refl);
+        on-minima = λ M. (refl, refl);
+        on-enter = λ setting row. (refl, refl);
+        on-withdraw = λ t. (refl, refl);
+        on-centres = λ g list. (refl, on-centres g list .0, on-centres g list .1);
+        on-block = λ list records.
+            let v = blockAnswer s (length list) (length records) in
+            let Q = inquiring (make-blocks list records) in
+            let told = Q .tells (contentsOf s) in (
+              refl,
+              part-settled (λ (o : Output). o .numbers) v told (Q .lent) ∙ numbers-settled figureNumbers v (figures S),
+              part-settled (λ (o : Output). o .lists) v told (Q .lent) ∙ sym (part-settled (λ l. l ∷ []) v (blocking (problem S) ++ drop (size S) list) list),
+              part-settled (λ (o : Output). o .records) v told (Q .lent),
+            );
+        on-judge = λ list.
+            let v = judgeAnswer s list in
+            let Q = inquiring (judge-list list) in
+            (refl, part-settled (λ (o : Output). o .numbers) v (Q .tells (contentsOf s)) (Q .lent) ∙ numbers-settled judgementNumbers v (judgement S list));
+        on-write = λ bytes.
+            let v = writeAnswer s (length bytes) in
+            let Q = inquiring (write-file bytes) in
+            let told = Q .tells (contentsOf s) in
+            let file = fileOf (contentsOf s) in (
+              refl,
+              part-settled (λ (o : Output). o .numbers) v told (Q .lent) ∙ numbers-settled (λ n. n ∷ []) v (length file),
+              part-settled (λ (o : Output). o .lists) v told (Q .lent) ∙ sym (part-settled (λ l. l ∷ []) v (file ++ drop (length file) bytes) bytes),
+            );
+      }
+
+-- ---- files and datasets
+
+replied-value : {A : Type 0} (v : Verdict) (x y : A) → replied v x ≡ value y → (v ≡ accepted) × (x ≡ y)
+replied-value accepted x y e = (refl, cc)
+replied-value (refused r) x y e = absurd (let z : _≡_ {A = ℕ} 0 1 = cc in omega arith)
+
+-- Write is accepted: it writes the file of a dataset
+module _ (s : State) (bytes : List ℕ) (n : ℕ) (e : writeReply s (length bytes) ≡ value n) where
+  abbrev written : List ℕ
+  written = fileOf (contentsOf s)
+
+  accepts : (writeAnswer s (length bytes) ≡ accepted) × (length written ≡ n)
+  unfolding writeReply
+  accepts = replied-value (writeAnswer s (length bytes)) (length written) n e
+
+  good : Accepted s (λ H. writeReasons H (length bytes))
+  unfolding writeAnswer
+  good = accepted-held s (λ H. writeReasons H (length bytes)) (accepts .0)
+
+  a-dataset : T (isDataset s)
+  a-dataset = true-T (isDataset s) (good .tested)
+
+  file-is : take n (writeLeaves s bytes) ≡ written
+  unfolding writeLeaves
+  file-is =
+      ap₂ (λ (k : ℕ) v. take k (settled v (written ++ drop (length written) bytes) bytes)) (sym (accepts .1)) (accepts .0)
+      ∙ take-append-seam written (drop (length written) bytes)
+
+  same : readLeaves s (take n (writeLeaves s bytes)) ≡ s
+  same = ap (readLeaves s) file-is ∙ for-files .again s a-dataset (good .not-short)
+
+  read-back : (over : State) → short over ≡ false
+      → let read = readLeaves over (take n (writeLeaves s bytes)) in T (isDataset read) × (contentsOf read ≡ contentsOf s)
+  read-back over long =
+      let valid = for-datasets .valid s a-dataset in
+      let laid = ap (readLeaves over) file-is ∙ for-files .gives s over a-dataset long in (
+        subst (λ z. T (isDataset z)) (sym laid) (for-datasets .laid-out (contentsOf s) over valid),
+        ap contentsOf laid ∙ for-datasets .read-back (contentsOf s) over valid,
+      )
+
+-- Read is accepted, and there is room for the file
+module _ (over : State) (file bytes : List ℕ) (b : Bytes file) (e : readAnswer over file ≡ accepted) (room : length file ≤ length bytes) where
+  abbrev read : State
+  read = readLeaves over file
+
+  not-short : short read ≡ false
+  unfolding readAnswer freshAnswer readLeaves
+  not-short =
+      let long = past-short (short over) (firstOf (readReasons file)) e .0 in
+      ap (λ v. short (settled v (stored (decoded file) over) over)) e ∙ for-datasets .as-long (decoded file) over long ∙ long
+
+  own-file : fileOf (contentsOf read) ≡ file
+  own-file = for-files .only over file b e
+
+  writes : writeAnswer read (length bytes) ≡ accepted
+  unfolding writeAnswer writeReasons firstOf
+  writes =
+      sym (held-own read (λ H. writeReasons H (length bytes)) not-short (T-true (isDataset read) (for-files .dataset over file e)))
+      ∙ rw (T-false (ltb (length bytes) (length (fileOf (contentsOf read)))) (le→nltb _ _ (subst (λ l. length l ≤ length bytes) (sym own-file) room)))
+
+  written-again : (writeReply read (length bytes) ≡ value (length file)) × (take (length file) (writeLeaves read bytes) ≡ file)
+  unfolding writeReply writeLeaves
+  written-again = (
+    ap (λ v. replied v (length (fileOf (contentsOf read)))) writes ∙ ap (λ (l : List ℕ). value (length l)) own-file,
+    ap₂ (λ v (l : List ℕ). take (length file) (settled v (l ++ drop (length l) bytes) bytes)) writes own-file ∙ take-append-seam file (drop (length file) bytes),
+  )
+
+pub files-and-datasets : FilesAndDatasets
+files-and-datasets =
+    record { same = same; read-back = λ s over bytes n e. read-back s bytes n e over; written-again = λ over file bytes b e. written-again over file bytes b e }

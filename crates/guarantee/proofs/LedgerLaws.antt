@@ -1,0 +1,349 @@
+-- A study's tides are exactly those that remain in the ledger, after every list of calls; an accepted Open or Read begins it anew.
+-- Assumes nothing.
+use Prim.Native.Nat.{ℕ, suc, _+_, _-_, _≤_, _<_}
+use native.Mathlib.Nat.{le-refl}
+use native.Mathlib.Omega.{arith}
+use mathlib.Core.Path.{_≡_, refl, sym, ap, ap₂, _∙_, subst}
+use mathlib.Core.Logic.{_⊎_, inl, inr, ⊎-elim}
+use mathlib.Core.Bool.{Bool, true, false, not}
+use mathlib.Core.List.{List, [], _∷_, _++_, map}
+use mathlib.Core.Option.{Option, none, some}
+use lib.Dec.{T, ltb, eqb, lt→ltb, eqb→eq, eqb-refl, not-T}
+use lib.ListN.{getD, length-append, length-map, List·getD-append, List·getD-map}
+use lib.Seq.{getD-append-seam}
+use Rattle.lists.specs.Lists.{bit, countBelow}
+use Rattle.lists.proofs.Tests.{T-true, split, cond-yes, cond-no}
+use Rattle.lists.proofs.Counts.{sum-bump, count-same, count-hit, count-all}
+use Rattle.lists.proofs.Counting.{count-front, Nth}
+use Rattle.study.specs.declared.Minima.{Minima}
+use Rattle.study.specs.Study.{Tide, Study, Contents, size, noTide, tide, distance}
+use Rattle.study.specs.Refusals.{Verdict, accepted, refused, settled, Reason, firstOf}
+use Rattle.study.specs.Calls.{opened, opening, withMinima, settingMinima, enterReasons, entered, entering, withdrawReasons, withdrawn, withdrawing, skip}
+use Rattle.study.proofs.CallLaws.{entered-size, entered-old, entered-new, entered-held, entered-row, old-or-new, skip-is, withdrawn-setting, withdrawn-distance, withdrawn-size, skip-inside, withdraws}
+use Rattle.file_format.specs.File.{decoded}
+use Rattle.validity.specs.Memory.{State, short}
+use Rattle.guarantee.specs.Runs.{Change, set-minima, enter, withdraw, updating, Call, call-open, call-read, call-change, call-ask, answer, run}
+use Rattle.guarantee.specs.History.{held, onHeld, ownVerdict, verdict, changing, changed, step, following, contentsAfter}
+use Rattle.guarantee.specs.Ledger.{Arrival, Ledger, nobody, named, nameOf, fileLedger, emptyLedger, withArrival, withGone, noting, noted, noteAll, begun, ledgerAfter, Exactly}
+use Rattle.guarantee.specs.Theorems.{Anew}
+use Rattle.guarantee.proofs.Follows.{past-short, holds, settles}
+use Rattle.guarantee.proofs.Names.{stays, arrived, remaining-count, name-nth, nth-name}
+
+-- what the calls keep: the study's tides are those that remain, and no name is gone before it is given
+record Matches (S : Study) (L : Ledger) : Type 0 where
+  exact : Exactly S L
+  unused : (m : ℕ) → arrived L ≤ m → T (stays L m)
+
+-- ---- a file's tides
+
+module _ (S : Study) where
+  abbrev arrival : Tide → Arrival
+  arrival x = record { setting = x .setting; far = λ m. getD (x .row) m 0 }
+
+  abbrev F : Ledger
+  F = fileLedger S
+
+  file-arrived : arrived F ≡ size S
+  unfolding fileLedger
+  file-arrived = length-map (S .tides) arrival
+
+  file-name : (t : ℕ) → t < size S → nameOf F t ≡ t
+  unfolding fileLedger
+  file-name t l = nth-name F t t (record { below = omega (arith, file-arrived); pass = tt; rank = count-all t })
+
+  file-named : (t : ℕ) → t < size S → named F (nameOf F t) ≡ arrival (tide S t)
+  unfolding named fileLedger tide noTide nobody
+  file-named t l = ap (λ m. getD (map arrival (S .tides)) m nobody) (file-name t l) ∙ List·getD-map arrival (S .tides) t noTide
+
+  file-matches : Matches S F
+  unfolding fileLedger distance
+  file-matches =
+      record {
+        exact = record {
+          as-many = sym (remaining-count F ∙ count-all (arrived F) ∙ file-arrived);
+          setting = λ t l. ap (λ (x : Arrival). x .setting) (sym (file-named t l));
+          distances = λ u t k l.
+              cond-yes (ltb u t) _ _ (lt→ltb u t k) ∙ sym (ap₂ (λ (x : Arrival) (m : ℕ). x .far m) (file-named t l) (file-name u (omega arith)));
+        };
+        unused = λ m l. tt;
+      }
+
+-- an opened study has no tides
+empty-matches : (k : ℕ) → Matches (opened k) emptyLedger
+unfolding emptyLedger fileLedger opened
+empty-matches k = file-matches (opened k)
+
+-- Minima leaves the tides
+minima-matches : (S : Study) (L : Ledger) (M : Minima) → Matches S L → Matches (withMinima M S) L
+unfolding withMinima tide distance
+minima-matches S L M K =
+    record { exact = record { as-many = K .exact .as-many; setting = K .exact .setting; distances = K .exact .distances }; unused = K .unused }
+
+name-held : (S : Study) (L : Ledger) → Exactly S L → (t : ℕ) → t < size S → Nth (stays L) (arrived L) t (nameOf L t)
+name-held S L X t l = name-nth L t (omega (arith, X .as-many))
+
+-- ---- a tide entered: it gets the next name, the others keep theirs
+
+module _ (S : Study) (L : Ledger) (s : ℕ) (row : List ℕ) (K : Matches S L) where
+  abbrev n : ℕ
+  n = size S
+
+  abbrev E : Study
+  E = entered s row S
+
+  abbrev A : Ledger
+  A = withArrival s row L
+
+  entered-arrived : arrived A ≡ suc (arrived L)
+  unfolding withArrival
+  entered-arrived = length-append (L .arrivals) (_ ∷ []) ∙ omega arith
+
+  name-old : (t : ℕ) → t < n → nameOf A t ≡ nameOf L t
+  unfolding withArrival
+  name-old t l =
+      let N = name-held S L (K .exact) t l in
+      nth-name A t (nameOf L t) (record { below = omega (arith, entered-arrived, N .below); pass = N .pass; rank = N .rank })
+
+  next-stays : T (stays L (arrived L))
+  next-stays = K .unused (arrived L) (le-refl (arrived L))
+
+  name-new : nameOf A n ≡ arrived L
+  unfolding withArrival
+  name-new =
+      nth-name A n (arrived L) (record { below = omega (arith, entered-arrived); pass = next-stays; rank = sym (K .exact .as-many ∙ remaining-count L) })
+
+  named-old : (t : ℕ) → t < n → named A (nameOf A t) ≡ named L (nameOf L t)
+  unfolding named withArrival
+  named-old t l = ap (named A) (name-old t l) ∙ List·getD-append (L .arrivals) (_ ∷ []) nobody (nameOf L t) (name-held S L (K .exact) t l .below)
+
+  setting-new : named A (nameOf A n) .setting ≡ s
+  unfolding named withArrival
+  setting-new = ap (λ (x : Arrival). x .setting) (ap (named A) name-new ∙ getD-append-seam (L .arrivals) _ [] nobody)
+
+  -- the row holds the distances from those that remain, in order
+  far-new : (u : ℕ) → u < n → named A (nameOf A n) .far (nameOf L u) ≡ getD row u 0
+  unfolding named withArrival
+  far-new u l =
+      ap (λ (x : Arrival). x .far (nameOf L u)) (ap (named A) name-new ∙ getD-append-seam (L .arrivals) _ [] nobody)
+      ∙ ap (λ z. getD row z 0) (name-held S L (K .exact) u l .rank)
+
+  abbrev SameSetting : ℕ → Type 0
+  SameSetting t = tide E t .setting ≡ named A (nameOf A t) .setting
+
+  same-setting : (t : ℕ) → (t < n) ⊎ (t ≡ n) → SameSetting t
+  same-setting t (inl a) =
+      ap (λ (x : Tide). x .setting) (entered-old s row S t a) ∙ K .exact .setting t a ∙ sym (ap (λ (x : Arrival). x .setting) (named-old t a))
+  same-setting t (inr e) =
+      subst SameSetting (sym e) (ap (λ (x : Tide). x .setting) (entered-new s row S) ∙ sym setting-new)
+
+  abbrev SameDistance : ℕ → ℕ → Type 0
+  SameDistance u t = distance E u t ≡ named A (nameOf A t) .far (nameOf A u)
+
+  same-distance : (u t : ℕ) → u < t → (t < n) ⊎ (t ≡ n) → SameDistance u t
+  same-distance u t k (inl a) =
+      let b : u < n = omega arith in
+      entered-held s row S u t b a ∙ K .exact .distances u t k a ∙ sym (ap₂ (λ (x : Arrival) (m : ℕ). x .far m) (named-old t a) (name-old u b))
+  same-distance u t k (inr e) =
+      let b : u < n = omega arith in
+      subst (SameDistance u) (sym e) (entered-row s row S u b ∙ sym (ap (named A (nameOf A n) .far) (name-old u b) ∙ far-new u b))
+
+  arrival-matches : Matches E A
+  unfolding withArrival
+  arrival-matches =
+      record {
+        exact = record {
+          as-many =
+              omega (
+                arith,
+                entered-size s row S,
+                K .exact .as-many,
+                remaining-count L,
+                remaining-count A,
+                ap (λ k. countBelow k (stays L)) entered-arrived,
+                count-hit (arrived L) (stays L) next-stays,
+              );
+          setting = λ t l. same-setting t (old-or-new s row S t l);
+          distances = λ u t k l. same-distance u t k (old-or-new s row S t l);
+        };
+        unused = λ m l. K .unused m (omega (arith, entered-arrived));
+      }
+
+-- ---- a tide withdrawn: its name is gone, and the later tides move down by one
+
+count-order : (q : ℕ → Bool) (a b : ℕ) → countBelow a q < countBelow b q → a < b
+count-order q a b h = ⊎-elim (λ l. l) (λ l. absurd (omega (arith, count-front q b a l))) (split a b)
+
+-- the two cases of `skip-is`
+abbrev Skipped : ℕ → ℕ → Type 0
+Skipped i u = ((u < i) × (skip i u ≡ u)) ⊎ ((i ≤ u) × (skip i u ≡ suc u))
+
+skip-order : (i u v : ℕ) → u < v → skip i u < skip i v
+skip-order i u v k = by (skip-is i u) (skip-is i v)
+  where
+    by : Skipped i u → Skipped i v → skip i u < skip i v
+    by (inl a) (inl b) = omega (arith, a, b)
+    by (inl a) (inr b) = omega (arith, a, b)
+    by (inr a) (inl b) = omega (arith, a, b)
+    by (inr a) (inr b) = omega (arith, a, b)
+
+module _ (S : Study) (L : Ledger) (t : ℕ) (K : Matches S L) (inside : t - 1 < size S) where
+  abbrev i : ℕ
+  i = t - 1
+
+  abbrev x : ℕ
+  x = nameOf L i
+
+  abbrev W : Study
+  W = withdrawn i S
+
+  abbrev G : Ledger
+  G = withGone t L
+
+  -- the name of the tide that goes
+  leaver : Nth (stays L) (arrived L) i x
+  leaver = name-held S L (K .exact) i inside
+
+  gone-self : stays G x ≡ false
+  unfolding withGone
+  gone-self = ap not (cond-yes (eqb x x) true (L .gone x) (eqb-refl x))
+
+  gone-other : (m : ℕ) → (m ≡ x → ⊥) → stays G m ≡ stays L m
+  unfolding withGone
+  gone-other m d = ap not (cond-no (eqb m x) true (L .gone m) (not-T (eqb m x) (λ h. d (eqb→eq m x h))))
+
+  -- how many stay before an earlier name
+  count-low : (m : ℕ) → m < x → countBelow m (stays G) ≡ countBelow m (stays L)
+  count-low m l = count-same m (stays G) (stays L) (λ j k. gone-other j (λ e. omega arith))
+
+  -- and before a later one
+  count-high : (m : ℕ) → x < m → countBelow m (stays L) ≡ countBelow m (stays G) + 1
+  unfolding countBelow
+  count-high m l =
+      sum-bump m (λ j. bit (stays G j)) (λ j. bit (stays L j)) x 1 l
+      (omega (arith, ap bit gone-self, ap bit (T-true (stays L x) (leaver .pass)))) (λ j k d. ap bit (sym (gone-other j d)))
+
+  -- the others keep their names
+  name-left : (u : ℕ) → u < size W → nameOf G u ≡ nameOf L (skip i u)
+  unfolding withGone
+  name-left u l = nth-name G u m (by (skip-is i u))
+    where
+      m : ℕ
+      m = nameOf L (skip i u)
+
+      N : Nth (stays L) (arrived L) (skip i u) m
+      N = name-held S L (K .exact) (skip i u) (skip-inside i S inside u l)
+
+      other : (m ≡ x → ⊥) → countBelow m (stays G) ≡ u → Nth (stays G) (arrived G) u m
+      other d e = record { below = N .below; pass = subst T (sym (gone-other m d)) (N .pass); rank = e }
+
+      by : Skipped i u → Nth (stays G) (arrived G) u m
+      by (inl a) =
+          let h = count-order (stays L) m x (omega (arith, N .rank, leaver .rank, a)) in
+          other (λ e. omega arith) (count-low m h ∙ N .rank ∙ a .1)
+      by (inr a) =
+          let h = count-order (stays L) x m (omega (arith, N .rank, leaver .rank, a)) in
+          other (λ e. omega arith) (omega (arith, count-high m h, N .rank, a))
+
+  gone-matches : Matches W G
+  unfolding withGone named
+  gone-matches =
+      record {
+        exact = record {
+          as-many = omega (arith, withdrawn-size i S inside, K .exact .as-many, remaining-count L, remaining-count G, count-high (arrived L) (leaver .below));
+          setting = λ u l.
+              withdrawn-setting i S u ∙ K .exact .setting (skip i u) (skip-inside i S inside u l) ∙ sym (ap (λ m. named L m .setting) (name-left u l));
+          distances = λ u v k l.
+              withdrawn-distance i S u v ∙ K .exact .distances (skip i u) (skip i v) (skip-order i u v k) (skip-inside i S inside v l)
+              ∙ sym (ap₂ (λ a b. named L a .far b) (name-left v l) (name-left u (omega arith)));
+        };
+        unused = λ m l. subst T (sym (gone-other m (λ e. omega (arith, leaver .below)))) (K .unused m l);
+      }
+
+-- ---- along the calls
+
+-- where there is a study there is a ledger, and they match
+abbrev Agree : Option Contents → Option Ledger → Type 0
+Agree none l = Unit {0}
+Agree (some H) none = ⊥
+Agree (some H) (some L) = Matches (H .study) L
+
+agree-settled : (v : Verdict) (a h : Option Contents) (b l : Option Ledger) → (v ≡ accepted → Agree a b) → Agree h l → Agree (settled v a h) (settled v b l)
+agree-settled accepted a h b l f K = f refl
+agree-settled (refused r) a h b l f K = K
+
+agree-changing : (own : Contents → List Reason) (f : Contents → Contents) (g : Ledger → Ledger)
+    → ((H : Contents) (L : Ledger) → firstOf (own H) ≡ accepted → Matches (H .study) L → Matches (f H .study) (g L))
+    → (h : Option Contents) (l : Option Ledger) → onHeld h own ≡ accepted → Agree h l → Agree (changing h f) (changing l g)
+agree-changing own f g m none l e K = tt
+agree-changing own f g m (some H) none e K = absurd K
+agree-changing own f g m (some H) (some L) e K = m H L e K
+
+change-matches : (c : Change) (H : Contents) (L : Ledger) → firstOf (updating c .own H) ≡ accepted → Matches (H .study) L
+    → Matches (updating c .makes H .study) (noting c L)
+unfolding updating settingMinima entering withdrawing
+change-matches (set-minima M) H L e K = minima-matches (H .study) L M K
+change-matches (enter setting row) H L e K = arrival-matches (H .study) L setting row K
+change-matches (withdraw t) H L e K = let w = withdraws H t e in gone-matches (H .study) L t K (omega (arith, w .low, w .high))
+
+agree-changed : (h : Option Contents) (l : Option Ledger) (c : Call) → ownVerdict h c ≡ accepted → Agree h l → Agree (changed h c) (noted l c)
+unfolding ownVerdict changed noted opening
+agree-changed h l (call-open k) e K = empty-matches k
+agree-changed h l (call-read file) e K = file-matches (decoded file .study)
+agree-changed h l (call-change c) e K = agree-changing (updating c .own) (updating c .makes) (noting c) (change-matches c) h l e K
+agree-changed h l (call-ask q) e K = K
+
+agree-following : (tooShort : Bool) (h : Option Contents) (l : Option Ledger) (cs : List Call) → Agree h l → Agree (following tooShort h cs) (noteAll tooShort h l cs)
+unfolding following noteAll step verdict
+agree-following tooShort h l [] K = K
+agree-following tooShort h l (c ∷ cs) K =
+    agree-following tooShort (step tooShort h c) (settled (verdict tooShort h c) (noted l c) l) cs
+    (agree-settled (verdict tooShort h c) (changed h c) h (noted l c) l (λ e. agree-changed h l c (past-short tooShort (ownVerdict h c) e .1) K) K)
+
+agree-begun : (h : Option Contents) → Agree h (begun h)
+agree-begun none = tt
+agree-begun (some H) = file-matches (H .study)
+
+pub exactly : (start : State) (calls : List Call) (H : Contents) → held (run start calls) ≡ some H
+    → (L : Ledger) × (ledgerAfter start calls ≡ some L) × Exactly (H .study) L
+unfolding contentsAfter ledgerAfter
+exactly start calls H e =
+    from (ledgerAfter start calls) refl
+    (subst (λ h. Agree h (ledgerAfter start calls)) (sym (holds start calls) ∙ e)
+    (agree-following (short start) (held start) (begun (held start)) calls (agree-begun (held start))))
+  where
+    from : (l : Option Ledger) → ledgerAfter start calls ≡ l → Agree (some H) l → (L : Ledger) × (ledgerAfter start calls ≡ some L) × Exactly (H .study) L
+    from none q K = absurd K
+    from (some L) q K = (L, q, K .exact)
+
+-- ---- since the last accepted Open or Read
+
+module _ (tooShort : Bool) where
+  note-append : (h : Option Contents) (l : Option Ledger) (cs ds : List Call)
+      → noteAll tooShort h l (cs ++ ds) ≡ noteAll tooShort (following tooShort h cs) (noteAll tooShort h l cs) ds
+  unfolding noteAll following
+  note-append h l [] ds = refl
+  note-append h l (c ∷ cs) ds = note-append (step tooShort h c) (settled (verdict tooShort h c) (noted l c) l) cs ds
+
+  note-accepted : (h : Option Contents) (l : Option Ledger) (c : Call) (cs : List Call) → verdict tooShort h c ≡ accepted
+      → noteAll tooShort h l (c ∷ cs) ≡ noteAll tooShort (changed h c) (noted l c) cs
+  unfolding noteAll step
+  note-accepted h l c cs e = ap (λ v. noteAll tooShort (settled v (changed h c) h) (settled v (noted l c) l) cs) e
+
+module _ (start : State) (before since : List Call) where
+  abbrev h : Option Contents
+  h = contentsAfter start before
+
+  abbrev l : Option Ledger
+  l = ledgerAfter start before
+
+  -- the ledger after an accepted call and the calls since
+  since-accepted : (c : Call) → answer (run start before) c ≡ accepted
+      → ledgerAfter start (before ++ (c ∷ since)) ≡ noteAll (short start) (changed h c) (noted l c) since
+  unfolding ledgerAfter contentsAfter
+  since-accepted c e =
+      note-append (short start) (held start) (begun (held start)) before (c ∷ since)
+      ∙ note-accepted (short start) h l c since (sym (settles start before c) ∙ e)
+
+  pub anew : Anew start before since
+  unfolding changed noted
+  anew = record { opened = λ k. since-accepted (call-open k); read = λ file. since-accepted (call-read file) }

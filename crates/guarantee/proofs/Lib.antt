@@ -1,0 +1,8 @@
+-- Laws, cited by the proofs of this crate and of those above it.
+pub mod Follows
+pub mod Names
+pub mod LedgerLaws
+pub mod BlockLaws
+pub mod DemandLaws
+pub mod Proofs
+pub mod CasesProof

@@ -1,0 +1,129 @@
+-- The three records of specs/Theorems.antt. Assumes nothing.
+use Prim.Native.Nat.{ℕ, _<_}
+use native.Mathlib.Omega.{arith}
+use mathlib.Core.Path.{_≡_, refl, sym, ap, _∙_}
+use mathlib.Core.Logic.{_↔_}
+use mathlib.Core.Bool.{Bool, true, false, cond}
+use mathlib.Core.List.{List}
+use mathlib.Core.Option.{Option, none, some}
+use Rattle.study.specs.declared.BlockRecord.{BlockRecord}
+use Rattle.study.specs.Problem.{Feasible}
+use Rattle.study.specs.Study.{Study, Contents, size, problem}
+use Rattle.study.specs.Refusals.{Numbered, number, accepted, refused, firstOf}
+use Rattle.study.specs.Calls.{Figures}
+use Rattle.study.specs.Theorems.{ValidContents}
+use Rattle.validity.specs.Memory.{State, short}
+use Rattle.guarantee.specs.Runs.{make-blocks, inquiring, Call, call-ask, answer, Response, response, run}
+use Rattle.guarantee.specs.History.{ownVerdict, verdict, contentsAfter, studyIn, studyAfter, learnt}
+use Rattle.guarantee.specs.Theorems.{Guaranteed, SingledOut, blocked, Demand1, Demand2, Demand3}
+use Rattle.guarantee.proofs.Follows.{held-some, holds-valid, holds, as-short, settles}
+use Rattle.guarantee.proofs.LedgerLaws.{exactly, anew}
+use Rattle.guarantee.proofs.BlockLaws.{block-25, block-guaranteed, block-singled}
+use Rattle.guarantee.proofs.DemandLaws.{first, unchanged, unwritten, as-contracts, files-and-datasets}
+
+-- the study is that of the contents
+record Studied (h : Option Contents) (S : Study) : Type 0 where
+  contents : Contents
+  is : h ≡ some contents
+  study : contents .study ≡ S
+
+studied : (h : Option Contents) (S : Study) → studyIn h ≡ some S → Studied h S
+studied none S e = absurd (let z : _≡_ {A = ℕ} 0 1 = cc in omega arith)
+studied (some H) S e = record { contents = H; is = refl; study = cc }
+
+not-studied : (h : Option Contents) → studyIn h ≡ none → h ≡ none
+not-studied none e = refl
+not-studied (some H) e = absurd (let z : _≡_ {A = ℕ} 0 1 = cc in omega arith)
+
+module _ (start : State) (calls : List Call) where
+  valid-after : (H : Contents) → contentsAfter start calls ≡ some H → ValidContents H
+  valid-after H e = holds-valid (held-some (run start calls) H (holds start calls ∙ e))
+
+  -- what Block's caller learns
+  module _ (list₀ : List ℕ) (records₀ : List BlockRecord) where
+    abbrev block : Call
+    block = call-ask (make-blocks list₀ records₀)
+
+    learns : {h : Option Contents} → contentsAfter start calls ≡ h → response (run start calls) block ≡ learnt (short start) h block
+    learns e = settles start calls block ∙ ap (λ h. learnt (short start) h block) e
+
+    refused-none : contentsAfter start calls ≡ none → (r : Numbered) × (answer (run start calls) block ≡ refused r)
+    unfolding response learnt verdict ownVerdict
+    refused-none e = by (short start) (ap (λ (r : Response). r .verdict) (learns e))
+      where
+        by : (tooShort : Bool) → answer (run start calls) block ≡ cond tooShort (refused (number 1)) (refused (number 21))
+            → (r : Numbered) × (answer (run start calls) block ≡ refused r)
+        by true q = (number 1, q)
+        by false q = (number 21, q)
+
+    module _ (H : Contents) (e : contentsAfter start calls ≡ some H) where
+      long : short start ≡ false
+      long = sym (as-short start calls) ∙ held-some (run start calls) H (holds start calls ∙ e) .not-short
+
+      learns-some : response (run start calls) block ≡ learnt false (some H) block
+      learns-some = learns e ∙ ap (λ tooShort. learnt tooShort (some H) block) long
+
+      answer-own : answer (run start calls) block ≡ firstOf (inquiring (make-blocks list₀ records₀) .own H)
+      unfolding response learnt verdict ownVerdict
+      answer-own = ap (λ (r : Response). r .verdict) learns-some
+
+  no-study : (list : List ℕ) (records : List BlockRecord) → studyAfter start calls ≡ none
+      → (r : Numbered) × (answer (run start calls) (call-ask (make-blocks list records)) ≡ refused r)
+  unfolding studyAfter
+  no-study list records e = refused-none list records (not-studied (contentsAfter start calls) e)
+
+  too-few : (S : Study) (list : List ℕ) (records : List BlockRecord) → studyAfter start calls ≡ some S → 0 < size S
+      → (answer (run start calls) (call-ask (make-blocks list records)) ≡ refused (number 25)) ↔ ((D : ℕ → ℕ) → Feasible (problem S) D → ⊥)
+  unfolding studyAfter
+  too-few S list records e =
+      let K = studied (contentsAfter start calls) S e in
+      let H = K .contents in
+      subst (λ R. 0 < size R → (answer (run start calls) (call-ask (make-blocks list records)) ≡ refused (number 25)) ↔ ((D : ℕ → ℕ) → Feasible (problem R) D → ⊥))
+      (K .study)
+      (λ l. subst (λ v. (v ≡ refused (number 25)) ↔ ((D : ℕ → ℕ) → Feasible (problem (H .study)) D → ⊥)) (sym (answer-own list records H (K .is)))
+      (block-25 H (valid-after H (K .is)) list records l))
+
+  -- Block is accepted
+  module _ (list₀ list : List ℕ) (records₀ records : List BlockRecord) (F : Figures)
+      (q : response (run start calls) (call-ask (make-blocks list₀ records₀)) ≡ blocked F list records) where
+    guaranteed : (S : Study) × (studyAfter start calls ≡ some S) × Guaranteed S F list
+    unfolding studyAfter
+    guaranteed = by (contentsAfter start calls) refl
+      where
+        by : (h : Option Contents) → contentsAfter start calls ≡ h → (S : Study) × (studyIn (contentsAfter start calls) ≡ some S) × Guaranteed S F list
+        by none e =
+            let r = sym (refused-none list₀ records₀ e .1) ∙ accepts in
+            absurd (let z : _≡_ {A = ℕ} 0 1 = cc in omega arith)
+          where
+            accepts : answer (run start calls) (call-ask (make-blocks list₀ records₀)) ≡ accepted
+            accepts = ap (λ (r : Response). r .verdict) q
+        by (some H) e =
+            (H .study, ap studyIn e, block-guaranteed H (valid-after H e) list₀ list records₀ records F (sym (learns-some list₀ records₀ H e) ∙ q))
+
+    single : (S : Study) → studyAfter start calls ≡ some S → SingledOut S F list₀ list records₀ records
+    unfolding studyAfter
+    single S e =
+        let K = studied (contentsAfter start calls) S e in
+        let H = K .contents in
+        subst (λ R. SingledOut R F list₀ list records₀ records) (K .study)
+        (block-singled H (valid-after H (K .is)) list₀ list records₀ records F (sym (learns-some list₀ records₀ H (K .is)) ∙ q))
+
+pub demand1 : Demand1
+unfolding after
+demand1 =
+    record { contracts = as-contracts; first = first; unchanged = unchanged; unwritten = unwritten; only-reads = λ s q. refl }
+
+pub demand2 : Demand2
+demand2 =
+    record {
+      holds = holds;
+      settles = settles;
+      exactly = exactly;
+      anew = anew;
+      too-few = too-few;
+      blocking = λ start calls S list₀ list records₀ records F e q. single start calls list₀ list records₀ records F q S e;
+      files = files-and-datasets;
+    }
+
+pub demand3 : Demand3
+demand3 = record { guaranteed = guaranteed; no-study = no-study }

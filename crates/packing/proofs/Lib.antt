@@ -1,0 +1,8 @@
+-- Laws, cited by the proofs of this crate and of those above it.
+pub mod WordLaws
+pub mod StepLaws
+pub mod NarrowingLaws
+pub mod ReachedLaws
+pub mod CallLaws
+pub mod Turns
+pub mod Writing

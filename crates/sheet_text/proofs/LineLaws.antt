@@ -1,0 +1,146 @@
+-- The sheet put field after field: each line's length at most, and that its fields make it up. Assumes nothing.
+use Prim.Native.Nat.{ℕ, suc, _+_, _^_, _≤_, _<_}
+use native.Mathlib.Omega.{arith}
+use native.Mathlib.Numerals.{add-one}
+use mathlib.Core.Path.{_≡_, refl, sym, ap, _∙_, subst}
+use mathlib.Core.List.{List, [], _∷_, _++_, append-nil, append-assoc}
+use lib.ListN.{length, take, drop, getD, length-append}
+use lib.Seq.{length-take-le, take-suc, take-all, take-at}
+use Rattle.lists.specs.Lists.{tabulate, overwrite}
+use Rattle.lists.proofs.Tables.{length-tabulate}
+use Rattle.study.specs.declared.BlockRecord.{BlockRecord}
+use Rattle.study.specs.declared.Blocked.{Blocked}
+use Rattle.study.specs.declared.Blocked.the-variants.{Done, Refused}
+use Rattle.study.specs.declared.Refusal.{Refusal}
+use Rattle.study.specs.Refusals.{Numbered, numbered, value}
+use Rattle.study.specs.Calls.{Figures, blockedOf}
+use Rattle.refusal_numbers.specs.Numbers.{numberOf}
+use Rattle.sheet_text.specs.Text.{ascii, decimal, heading, line, lines, closing, refusedText, sheetText}
+use Rattle.sheet_text.proofs.NumberLaws.{decimal-short}
+use Rattle.sheet_text.specs.Putting.{Puts}
+use Rattle.sheet_text.proofs.PuttingLaws.{puts-none, puts-then, puts-as}
+use Rattle.sheet_text.specs.Lines.{field, named}
+
+pub field-length : (x mark : ℕ) → length (field x mark) ≡ length (decimal x) + 1
+unfolding field
+field-length x mark = length-append (decimal x) (mark ∷ [])
+
+pub field-short : (n x mark : ℕ) → x < 10 ^ suc n → length (field x mark) ≤ suc n + 1
+field-short n x mark h = omega (arith, field-length x mark, decimal-short n x h)
+
+pub named-length : (name : List ℕ) (x mark : ℕ) → length (named name x mark) ≡ length name + length (field x mark)
+unfolding named
+named-length name x mark = length-append name (field x mark)
+
+-- ---- the line of a block
+
+module _ (n : ℕ) (r : BlockRecord) where
+  line-fields : field n 32 ++ field (r .centre) 32 ++ field (r .tides) 32 ++ field (r .diameter) 10 ≡ line n r
+  unfolding field line
+  line-fields = simp append-assoc
+
+  pub line-put : {l a b c d : List ℕ} {at p q s end : ℕ} → Puts l at (field n 32) p a → Puts a p (field (r .centre) 32) q b
+      → Puts b q (field (r .tides) 32) s c → Puts c s (field (r .diameter) 10) end d → Puts l at (line n r) end d
+  line-put w x y z = puts-as (puts-then (puts-then (puts-then w x) y) z) line-fields refl
+
+  pub line-length : length (line n r) ≡ length (field n 32) + length (field (r .centre) 32) + length (field (r .tides) 32) + length (field (r .diameter) 10)
+  line-length = ap length (sym line-fields) ∙ simp length-append
+
+  pub line-short : n < 256 → r .centre < 256 → r .tides < 256 → r .diameter < 4294967296 → length (line n r) ≤ 23
+  line-short a b c d =
+      omega (
+        arith,
+        line-length,
+        field-short 2 n 32 (omega arith),
+        field-short 2 (r .centre) 32 (omega arith),
+        field-short 2 (r .tides) 32 (omega arith),
+        field-short 9 (r .diameter) 10 (omega arith),
+      )
+
+-- ---- the last line
+
+module _ (r w x : ℕ) where
+  closing-fields : named (ascii "reach ") r 32 ++ named (ascii "widest ") w 32 ++ named (ascii "withdrawn ") x 10 ≡ closing r w x
+  unfolding field named closing
+  closing-fields = simp append-assoc
+
+  pub closing-put : {l a b c : List ℕ} {at p q end : ℕ} → Puts l at (named (ascii "reach ") r 32) p a
+      → Puts a p (named (ascii "widest ") w 32) q b → Puts b q (named (ascii "withdrawn ") x 10) end c → Puts l at (closing r w x) end c
+  closing-put y z u = puts-as (puts-then (puts-then y z) u) closing-fields refl
+
+  pub closing-length : length (closing r w x)
+      ≡ length (named (ascii "reach ") r 32) + length (named (ascii "widest ") w 32) + length (named (ascii "withdrawn ") x 10)
+  closing-length = ap length (sym closing-fields) ∙ simp length-append
+
+  pub closing-short : r < 4294967296 → w < 4294967296 → x < 65536 → length (closing r w x) ≤ 51
+  closing-short a b c =
+      omega (
+        arith,
+        closing-length,
+        named-length (ascii "reach ") r 32,
+        named-length (ascii "widest ") w 32,
+        named-length (ascii "withdrawn ") x 10,
+        field-short 9 r 32 (omega arith),
+        field-short 9 w 32 (omega arith),
+        field-short 4 x 10 (omega arith),
+      )
+
+-- ---- a refusal
+
+refused-field : (r : Numbered) → named (ascii "refused ") (numberOf r) 10 ≡ refusedText r
+unfolding field named refusedText
+refused-field r = simp append-assoc
+
+pub refused-short : (x : ℕ) → x < 4294967296 → length (named (ascii "refused ") x 10) ≤ 19
+refused-short x h = omega (arith, named-length (ascii "refused ") x 10, field-short 9 x 10 (omega arith))
+
+-- ---- a line for each record
+
+lines-end : (n : ℕ) (rs : List BlockRecord) (r : BlockRecord) → lines n (rs ++ (r ∷ [])) ≡ lines n rs ++ line (n + length rs) r
+unfolding lines
+lines-end n [] r = append-nil (line n r) ∙ ap (λ k. line k r) (omega arith)
+lines-end n (x ∷ rs) r =
+    ap (λ l. line n x ++ l) (lines-end (suc n) rs r ∙ ap (λ k. lines (suc n) rs ++ line k r) (omega arith))
+    ∙ sym (append-assoc (line n x) (lines (suc n) rs) (line (n + suc (length rs)) r))
+
+module _ (rs : List BlockRecord) where
+  pub lines-none : {l : List ℕ} {at : ℕ} → at ≤ length l → Puts l at (lines 1 (take 0 rs)) at l
+  unfolding lines
+  lines-none {l} {at} h = puts-none l at h
+
+  pub lines-more : (d : BlockRecord) (i : ℕ) → i < length rs → {l m n : List ℕ} {at mid end : ℕ} → Puts l at (lines 1 (take i rs)) mid m
+      → Puts m mid (line (i + 1) (getD rs i d)) end n → Puts l at (lines 1 (take (i + 1) rs)) end n
+  lines-more d i h p q = puts-as (puts-then p q) (sym more) refl
+    where
+      more : lines 1 (take (i + 1) rs) ≡ lines 1 (take i rs) ++ line (i + 1) (getD rs i d)
+      more =
+          ap (λ k. lines 1 (take k rs)) (add-one i) ∙ ap (lines 1) (take-suc rs i d h) ∙ lines-end 1 (take i rs) (getD rs i d)
+          ∙ ap (λ k. lines 1 (take i rs) ++ line k (getD rs i d)) (omega (arith, length-take-le i rs (omega arith)))
+
+  -- where there are no more records than i
+  pub lines-all : (i n : ℕ) → length rs ≤ i → i ≤ n → {l m : List ℕ} {at end : ℕ} → Puts l at (lines 1 (take i rs)) end m
+      → Puts l at (lines 1 (take n rs)) end m
+  lines-all i n h k p = puts-as p (ap (lines 1) (take-all i rs h ∙ sym (take-all n rs (omega arith)))) refl
+
+-- ---- the sheet
+
+module _ {answer : Blocked} (records : List BlockRecord) (withdrawn : ℕ) {l : List ℕ} {end : ℕ} where
+  pub sheet-refused : {m : List ℕ} {why : Refusal} {x : ℕ} → answer ≡ Refused why → x ≡ numberOf (numbered why)
+      → Puts l 0 (named (ascii "refused ") x 10) end m → Puts l 0 (sheetText (blockedOf answer) records withdrawn) end m
+  sheet-refused {m} {why} e q p =
+      subst (λ a. Puts l 0 (sheetText (blockedOf a) records withdrawn) end m) (sym e)
+      (puts-as p (ap (λ n. named (ascii "refused ") n 10) q ∙ refused-field (numbered why)) refl)
+
+  pub sheet-done : {a b m : List ℕ} {c r w first last : ℕ} → answer ≡ Done c r w → Puts l 0 heading first a
+      → Puts a first (lines 1 (take c records)) last b → Puts b last (closing r w withdrawn) end m
+      → Puts l 0 (sheetText (blockedOf answer) records withdrawn) end m
+  sheet-done {a} {b} {m} e x y z = subst (λ a. Puts l 0 (sheetText (blockedOf a) records withdrawn) end m) (sym e) (puts-then (puts-then x y) z)
+
+-- the sheet of records that were written over old ones
+pub sheet-written : (F : Figures) (f : ℕ → BlockRecord) (old : List BlockRecord) (withdrawn : ℕ)
+    → sheetText (value F) (overwrite (F .blocks) f old) withdrawn ≡ sheetText (value F) (tabulate (F .blocks) f) withdrawn
+unfolding overwrite
+sheet-written F f old withdrawn =
+    let long = length-tabulate (F .blocks) f in
+    ap (λ rs. heading ++ lines 1 rs ++ closing (F .radius) (F .widest) withdrawn)
+    (take-at (tabulate (F .blocks) f) (drop (F .blocks) old) (F .blocks) long ∙ sym (take-all (F .blocks) (tabulate (F .blocks) f) (omega arith)))

@@ -1,0 +1,52 @@
+-- The three records of Theorems.antt. Assumes nothing.
+use mathlib.Core.Bool.{true}
+use lib.Dec.{T}
+use lib.ListN.{length}
+use Rattle.study.specs.Problem.{Problem, centres, labels, radius, blocking}
+use Rattle.study.specs.Study.{Study, problem, Valid}
+use Rattle.study.specs.Theorems.{Lawful, Singled, ForProblem, ForStudy, ForCalls}
+use Rattle.study.proofs.ProblemLaws.{cover, apart, assignments-are, assignable-by, greatestDiameter-is, feasible-T}
+use Rattle.study.proofs.Approximation.{two-approximation, one-block, feasible-radius, blocking-assigns, feasible-exactly, assignable-exactly}
+use Rattle.study.proofs.Dictionary.{blocking-precedes, blocking-found}
+use Rattle.study.proofs.StudyLaws.{study-symmetric, study-lawful, study-reordered, ample-T}
+use Rattle.study.proofs.CallLaws.{opening-valid, minima-valid, entering-valid, withdrawing-valid}
+
+pub singled : (P : Problem) → Lawful P → T (P .enough (λ t. true)) → Singled P
+singled P L h =
+    let F = one-block P L h in
+    let A = blocking-assigns P L (λ t. 1) F in
+    let R = feasible-radius P L (λ t. 1) F in
+    record {
+      assignment = A;
+      candidate = R .candidate;
+      lowest = λ g m xs B. R .lowest g m (assignable-by P g xs B);
+      first = blocking-precedes P;
+      widest = greatestDiameter-is P (labels (blocking P)) (length (centres P (radius P))) (A .low) (A .high);
+    }
+
+pub for-problem : (P : Problem) → Lawful P → ForProblem P
+for-problem P L =
+    record {
+      cover = λ g. cover P g L;
+      apart = apart P;
+      assignments-are = assignments-are P;
+      bounded = λ Q Y R D F. two-approximation P Q L Y R D F;
+      feasible-exactly = feasible-exactly P L;
+      assignable-exactly = assignable-exactly P L;
+      singled = singled P L;
+      found = blocking-found P;
+      feasible-test = feasible-T P;
+    }
+
+pub for-study : (S : Study) → Valid S → ForStudy S
+unfolding problem
+for-study S ok =
+    let L = study-lawful S (ok .three-tide) in
+    record {
+      lawful = L;
+      bounded = λ R N D F. two-approximation (problem S) (problem R) L (study-symmetric R) (study-reordered S R N) D F;
+      ample-exactly = λ s. let e = feasible-exactly (problem S) L s in let a = ample-T S in (λ d. a .0 (e .0 d), λ m. e .1 (a .1 m));
+    }
+
+pub for-calls : ForCalls
+for-calls = record { on-open = opening-valid; on-minima = minima-valid; on-enter = entering-valid; on-withdraw = withdrawing-valid }

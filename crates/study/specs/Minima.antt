@@ -1,0 +1,19 @@
+-- HEAD study/Minima
+use Prim.Native.Nat.{ℕ, suc, _≤_, _<_}
+use mathlib.Core.Path.{_≡_}
+use mathlib.Core.Bool.{Bool, _&&_}
+use lib.Dec.{eqb}
+use lib.ListN.{length, getD}
+use Rattle.lists.specs.Lists.{sumBelow, countBelow}
+use Rattle.study.specs.declared.Minima.{Minima}
+
+pub record Meets (M : Minima) (n : ℕ) (setting : ℕ → ℕ) (p : ℕ → Bool) : Type 0 where
+  pub whole : M .b0 ≤ countBelow n p
+  pub each : (j : ℕ) → j < 8 → getD (M .b) j 0 ≤ countBelow n (λ t. p t && eqb (setting t) (suc j))
+
+pub record MinimaFit (k : ℕ) (M : Minima) : Type 0 where
+  pub low : 1 ≤ M .b0
+  pub high : M .b0 ≤ 120
+  pub eight : length (M .b) ≡ 8
+  pub together : sumBelow 8 (λ j. getD (M .b) j 0) ≤ M .b0
+  pub above : (j : ℕ) → k ≤ j → j < 8 → getD (M .b) j 0 ≡ 0

@@ -1,0 +1,10 @@
+-- Laws, cited by the proofs of this crate and of those above it.
+pub mod Lengths
+pub mod WritingLaws
+pub mod PuttingLaws
+pub mod WriteWays
+pub mod LoadingLaws
+pub mod HeadLaws
+pub mod RowLaws
+pub mod ReadWays
+pub mod Proofs
