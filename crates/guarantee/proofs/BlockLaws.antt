@@ -16,7 +16,7 @@ use Rattle.lists.proofs.Counting.{nth, nth-is}
 use Rattle.study.specs.declared.BlockRecord.{BlockRecord}
 use Rattle.study.specs.Problem.{Problem, centres, block, labels, radius, blocking, Feasible}
 use Rattle.study.specs.Study.{Study, Contents, size, tide, sufficient, problem, Valid}
-use Rattle.study.specs.Refusals.{number, Verdict, accepted, refused, settled, firstOf}
+use Rattle.study.specs.Refusals.{number, accepted, refused, settled, firstOf}
 use Rattle.study.specs.Calls.{blockReasons, Figures, figures, blockRecord}
 use Rattle.study.specs.Theorems.{Lawful, Singled, ValidContents}
 use Rattle.study.proofs.ProblemLaws.{greatestDiameter-is, greatestDiameter-same}
@@ -107,7 +107,7 @@ own-25 S list records l =
     by false room = (λ q. tt, λ t. refl)
 
 -- figures are known by their numbers
-figures-by : List ℕ → Figures
+abbrev figures-by : List ℕ → Figures
 figures-by ns = record { blocks = getD ns 0 0; radius = getD ns 1 0; widest = getD ns 2 0 }
 
 module _ (H : Contents) (ok : ValidContents H) where
@@ -144,7 +144,7 @@ module _ (H : Contents) (ok : ValidContents H) where
     ample = not-not (sufficient S (λ t. true)) (none-holds (blockReasons S (length list₀) (length records₀)) accepts .1 .0)
 
     figures-are : figures S ≡ F
-    unfolding inquiring
+    unfolding inquiring figures
     figures-are = ap (λ (o : Output). figures-by (o .numbers)) tells
 
     list-is : blocking (problem S) ++ drop (size S) list₀ ≡ list

@@ -1,5 +1,5 @@
 -- The statements of specs/Cases.antt, by computation. Assumes nothing.
-use mathlib.Core.Path.{_≡_, refl}
+use mathlib.Core.Path.{refl}
 use mathlib.Core.List.{flatMap}
 use Rattle.lists.specs.Lists.{every, sumBelow, countBelow, tabulate}
 use Rattle.study.specs.Study.{noTide, tide, distance, meets, sufficient}

@@ -12,7 +12,7 @@ use lib.Seq.{take-append-seam}
 use Rattle.lists.proofs.Tests.{T-true, true-T, T-false}
 use Rattle.study.specs.Problem.{blocking}
 use Rattle.study.specs.Study.{Study, Contents, size, problem}
-use Rattle.study.specs.Refusals.{Numbered, number, Verdict, accepted, refused, settled, Reply, value, refusal, replied, Reason, _⇒_, firstOf}
+use Rattle.study.specs.Refusals.{Numbered, number, Verdict, accepted, refused, settled, value, replied, Reason, _⇒_, firstOf}
 use Rattle.study.specs.Calls.{opening, centreNumbers, figures, judgement}
 use Rattle.file_format.specs.File.{fileOf, decoded, readReasons}
 use Rattle.file_format.specs.Theorems.{Bytes}
@@ -80,17 +80,18 @@ module _ (s : State) where
   on-centres : (g : ℕ) (list : List ℕ) → let c = call-ask (find-centres g list) in
       (output s c .lists ≡ centresLeaves s g list ∷ []) × (output s c .numbers ≡ settled (answer s c) (length (centresFront s g list) ∷ []) [])
   unfolding answer output inquiring contentsOf centresAnswer centresFront centresLeaves
-  on-centres g list = by (centresAnswer s list)
+  on-centres g list =
+      let v = centresAnswer s list in
+      let front = centreNumbers S g in
+      let Q = inquiring (find-centres g list) in
+      let told = Q .tells (contentsOf s) in (
+        part-settled (λ (o : Output). o .lists) v told (Q .lent) ∙ sym (part-settled (λ (l : List ℕ). (l ++ drop (length l) list) ∷ []) v front []),
+        part-settled (λ (o : Output). o .numbers) v told (Q .lent) ∙ counted v front,
+      )
     where
-      front : List ℕ
-      front = centreNumbers S g
-
-      by : (v : Verdict)
-          → let left = settled v front [] in
-          let told = settled v (record { numbers = length front ∷ []; lists = (front ++ drop (length front) list) ∷ []; records = [] }) (record { numbers = []; lists = list ∷ []; records = [] }) in
-          (told .lists ≡ (left ++ drop (length left) list) ∷ []) × (told .numbers ≡ settled v (length left ∷ []) [])
-      by accepted = (refl, refl)
-      by (refused r) = (refl, refl)
+      counted : (v : Verdict) (front : List ℕ) → settled v (length front ∷ []) [] ≡ settled v (length (settled v front []) ∷ []) []
+      counted accepted front = refl
+      counted (refused r) front = refl
 
   pub as-contracts : AsContracts s
   unfolding answer after output updating inquiring contentsOf minimaAnswer minimaLeaves enterAnswer enterLeaves withdrawAnswer withdrawLeaves centresAnswer

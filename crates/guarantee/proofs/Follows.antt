@@ -6,22 +6,20 @@ use mathlib.Core.Path.{_≡_, refl, sym, ap, ap₂, _∙_, subst}
 use mathlib.Core.Bool.{Bool, true, false, cond}
 use mathlib.Core.List.{List, [], _∷_}
 use mathlib.Core.Option.{Option, none, some}
-use lib.ListN.{length}
 use Rattle.lists.proofs.Tests.{T-true, true-T}
 use Rattle.study.specs.Study.{Contents}
 use Rattle.study.specs.Refusals.{number, Verdict, accepted, refused, settled, Reason, firstOf}
-use Rattle.study.specs.Calls.{openReasons, opening, minimaReasons, settingMinima, enterReasons, entering, withdrawReasons, withdrawing, blockReasons}
+use Rattle.study.specs.Calls.{openReasons, opening}
 use Rattle.study.specs.Theorems.{ValidContents}
 use Rattle.study.proofs.Proofs.{for-calls}
 use Rattle.file_format.specs.File.{decoded, readReasons}
 use Rattle.file_format.proofs.Proofs.{files}
 use Rattle.validity.specs.Memory.{State, short, isDataset, contentsOf, stored}
-use Rattle.dataset.specs.Answers.{freshAnswer, heldAnswer, openAnswer, openLeaves, minimaAnswer, minimaLeaves, enterAnswer, enterLeaves, withdrawAnswer, withdrawLeaves}
+use Rattle.dataset.specs.Answers.{freshAnswer, heldAnswer, openAnswer, openLeaves}
 use Rattle.validity.proofs.Proofs.{for-datasets}
 use Rattle.dataset.proofs.Ways.{accepted-held}
 use Rattle.study_file.specs.Answers.{readAnswer, readLeaves}
-use Rattle.blocking.specs.Answers.{blockAnswer}
-use Rattle.guarantee.specs.Runs.{Change, set-minima, enter, withdraw, updating, Inquiry, inquiring, Call, call-open, call-read, call-change, call-ask, answer, after, output, response, run}
+use Rattle.guarantee.specs.Runs.{Change, set-minima, enter, withdraw, updating, Inquiry, inquiring, Call, call-open, call-read, call-change, call-ask, answer, after, output, Response, response, run}
 use Rattle.guarantee.specs.History.{held, onHeld, ownVerdict, verdict, changing, changed, step, following, contentsAfter, told, outputs, learnt}
 
 -- ---- what is held
@@ -178,3 +176,7 @@ module _ (start : State) (calls : List Call) where
 
   pub settles : (c : Call) → response (run start calls) c ≡ learnt (short start) (contentsAfter start calls) c
   settles c = response-is (run start calls) c ∙ ap₂ (λ tooShort h. learnt tooShort h c) as-short holds
+
+  pub answers : (c : Call) → answer (run start calls) c ≡ verdict (short start) (contentsAfter start calls) c
+  unfolding response learnt
+  answers c = ap (λ (r : Response). r .verdict) (settles c)

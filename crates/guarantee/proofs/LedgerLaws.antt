@@ -18,7 +18,7 @@ use Rattle.lists.proofs.Counting.{count-front, Nth}
 use Rattle.study.specs.declared.Minima.{Minima}
 use Rattle.study.specs.Study.{Tide, Study, Contents, size, noTide, tide, distance}
 use Rattle.study.specs.Refusals.{Verdict, accepted, refused, settled, Reason, firstOf}
-use Rattle.study.specs.Calls.{opened, opening, withMinima, settingMinima, enterReasons, entered, entering, withdrawReasons, withdrawn, withdrawing, skip}
+use Rattle.study.specs.Calls.{opened, opening, withMinima, settingMinima, entered, entering, withdrawn, withdrawing, skip}
 use Rattle.study.proofs.CallLaws.{entered-size, entered-old, entered-new, entered-held, entered-row, old-or-new, skip-is, withdrawn-setting, withdrawn-distance, withdrawn-size, skip-inside, withdraws}
 use Rattle.file_format.specs.File.{decoded}
 use Rattle.validity.specs.Memory.{State, short}
@@ -26,7 +26,7 @@ use Rattle.guarantee.specs.Runs.{Change, set-minima, enter, withdraw, up
 use Rattle.guarantee.specs.History.{held, onHeld, ownVerdict, verdict, changing, changed, step, following, contentsAfter}
 use Rattle.guarantee.specs.Ledger.{Arrival, Ledger, nobody, named, nameOf, fileLedger, emptyLedger, withArrival, withGone, noting, noted, noteAll, begun, ledgerAfter, Exactly}
 use Rattle.guarantee.specs.Theorems.{Anew}
-use Rattle.guarantee.proofs.Follows.{past-short, holds, settles}
+use Rattle.guarantee.proofs.Follows.{past-short, holds, answers}
 use Rattle.guarantee.proofs.Names.{stays, arrived, remaining-count, name-nth, nth-name}
 
 -- what the calls keep: the study's tides are those that remain, and no name is gone before it is given
@@ -342,7 +342,7 @@ module _ (start : State) (before since : List Call) where
   unfolding ledgerAfter contentsAfter
   since-accepted c e =
       note-append (short start) (held start) (begun (held start)) before (c ∷ since)
-      ∙ note-accepted (short start) h l c since (sym (settles start before c) ∙ e)
+      ∙ note-accepted (short start) h l c since (sym (answers start before c) ∙ e)
 
   pub anew : Anew start before since
   unfolding changed noted

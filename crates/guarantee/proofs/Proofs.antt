@@ -1,7 +1,7 @@
 -- The three records of specs/Theorems.antt. Assumes nothing.
 use Prim.Native.Nat.{ℕ, _<_}
 use native.Mathlib.Omega.{arith}
-use mathlib.Core.Path.{_≡_, refl, sym, ap, _∙_}
+use mathlib.Core.Path.{_≡_, refl, sym, ap, _∙_, subst}
 use mathlib.Core.Logic.{_↔_}
 use mathlib.Core.Bool.{Bool, true, false, cond}
 use mathlib.Core.List.{List}
@@ -13,7 +13,7 @@ use Rattle.study.specs.Refusals.{Numbered, number, accepted, refused, firstOf}
 use Rattle.study.specs.Calls.{Figures}
 use Rattle.study.specs.Theorems.{ValidContents}
 use Rattle.validity.specs.Memory.{State, short}
-use Rattle.guarantee.specs.Runs.{make-blocks, inquiring, Call, call-ask, answer, Response, response, run}
+use Rattle.guarantee.specs.Runs.{make-blocks, inquiring, Call, call-ask, answer, after, Response, response, run}
 use Rattle.guarantee.specs.History.{ownVerdict, verdict, contentsAfter, studyIn, studyAfter, learnt}
 use Rattle.guarantee.specs.Theorems.{Guaranteed, SingledOut, blocked, Demand1, Demand2, Demand3}
 use Rattle.guarantee.proofs.Follows.{held-some, holds-valid, holds, as-short, settles}
@@ -86,6 +86,10 @@ module _ (start : State) (calls : List Call) where
   -- Block is accepted
   module _ (list₀ list : List ℕ) (records₀ records : List BlockRecord) (F : Figures)
       (q : response (run start calls) (call-ask (make-blocks list₀ records₀)) ≡ blocked F list records) where
+    accepts : answer (run start calls) (call-ask (make-blocks list₀ records₀)) ≡ accepted
+    unfolding response
+    accepts = ap (λ (r : Response). r .verdict) q
+
     guaranteed : (S : Study) × (studyAfter start calls ≡ some S) × Guaranteed S F list
     unfolding studyAfter
     guaranteed = by (contentsAfter start calls) refl
@@ -94,9 +98,6 @@ module _ (start : State) (calls : List Call) where
         by none e =
             let r = sym (refused-none list₀ records₀ e .1) ∙ accepts in
             absurd (let z : _≡_ {A = ℕ} 0 1 = cc in omega arith)
-          where
-            accepts : answer (run start calls) (call-ask (make-blocks list₀ records₀)) ≡ accepted
-            accepts = ap (λ (r : Response). r .verdict) q
         by (some H) e =
             (H .study, ap studyIn e, block-guaranteed H (valid-after H e) list₀ list records₀ records F (sym (learns-some list₀ records₀ H e) ∙ q))
 

@@ -2,7 +2,7 @@
 -- A `BitReader` is Copy: what it owns is had twice where it is used twice. A field is plain data: what it owns is made anew.
 -- Assumes nothing.
 use mathlib.Core.Path.{_≡_, refl, sym, ap, subst, _∙_}
-use Prim.Native.Nat.{ℕ, _<_, _≤_, _+_, _^_}
+use Prim.Native.Nat.{ℕ, _<_, _+_, _^_}
 use mathlib.Core.List.{List, [], _∷_}
 use lib.Dec.{T as Holds, lit<, lit≤}
 use lib.ListN.{length}
