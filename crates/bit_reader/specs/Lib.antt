@@ -1,2 +1,2 @@
--- What the reader answers: Fields. Laws of it: FieldLaws.
+-- Fields, to be read; the laws of it are under proofs/.
 pub mod Fields

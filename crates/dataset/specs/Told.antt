@@ -1,4 +1,4 @@
--- HEAD dataset/Told
+-- Inner promises of the calls: what a call may rely on once it is accepted, or once short memory and 21 are past. Assumes nothing.
 use Prim.Native.Nat.{ℕ, _≤_, _<_}
 use mathlib.Core.Path.{_≡_}
 use mathlib.Core.Bool.{true, false}

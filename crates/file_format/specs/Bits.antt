@@ -44,5 +44,6 @@ pack m f = tabulate m (λ i. binary f (8 * i) 8)
 unfoldable pub packed : List ℕ → List ℕ
 packed bs = pack ((length bs + 7) / 8) (λ p. getD bs p 0)
 
+-- each is 0 or 1
 abbrev pub Bits : (ℕ → ℕ) → Type 0
 Bits f = (p : ℕ) → f p < 2

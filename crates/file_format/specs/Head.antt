@@ -1,4 +1,4 @@
--- HEAD file_format/Head
+-- Inner promises of Read: no reason before any tide holds, and none of the first tides. Assumes nothing.
 use Prim.Native.Nat.{ℕ, _-_, _*_, _≤_, _<_}
 use mathlib.Core.Path.{_≡_}
 use mathlib.Core.List.{List}

@@ -1,4 +1,4 @@
--- Definitions, to be read beside document 01: Bits, File. What is proved of them: Theorems, Cases. Proofs: the rest.
+-- To be read beside document 01: Bits, File; what is proved of them: Theorems, Cases. Head: an inner promise.
 pub mod Bits
 pub mod File
 pub mod Theorems

@@ -1,4 +1,4 @@
--- Definitions and statements, to be read beside document 01: Runs, History, Ledger, Theorems. Proofs: the rest.
+-- All of it is to be read beside document 01: Runs, History, Ledger; what is proved of them: Theorems, Cases.
 pub mod Runs
 pub mod History
 pub mod Ledger

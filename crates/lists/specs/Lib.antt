@@ -1,2 +1,2 @@
--- Definitions first (Lists), then their laws.
+-- The definitions; their laws are under proofs/.
 pub mod Lists

@@ -1,4 +1,4 @@
--- What a caller reads: Meeting, PartialSolution. The rest serves the contracts of private functions and the proofs.
+-- PartialSolution, to be read beside document 01. The rest: inner promises. What the search promises stands in crate promise.
 pub mod PartialSolution
 pub mod Matching
 pub mod Graph

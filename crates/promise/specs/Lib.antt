@@ -1,2 +1,2 @@
--- What a caller reads: Promise. The rest serves the proofs of the searches and of those who call them.
+-- Promise: all that callers of a search know of it, and all that a search must keep.
 pub mod Promise

@@ -1,30 +1,30 @@
--- What a search for an assignment promises, for any test E of which sets of tides are sufficient. Blocks and tides are numbered from 0
--- here; a set of tides is a test of the tide's number, and an assignment gives each tide the number of its block. Assumes nothing.
+-- What a search for an assignment may assume and what it promises, for any test of which sets of tides are sufficient: all that crates
+-- above know of a search, and all that another one in its place must keep. Blocks and tides are numbered from 0 here; a set of tides is a
+-- test of the tide's number, and an assignment gives each tide the number of its block. Assumes nothing.
 use Prim.Native.Nat.{ℕ, _≤_, _<_, _+_, _*_}
 use mathlib.Core.Path.{_≡_}
 use mathlib.Core.List.{List}
+use mathlib.Core.Bool.{Bool, true, false, not}
 use lib.Dec.{T, eqb}
 use lib.ListN.{length, getD, drop}
 use Rattle.lists.specs.Lists.{sumBelow, countBelow}
 use Rattle.study.specs.declared.Minima.{Minima}
 use Rattle.study.specs.Study.{meets}
-use mathlib.Core.Bool.{Bool, true, false, not}
 use Rattle.study.specs.Problem.{block, labels}
 
 -- which sets of tides are sufficient for a block
 abbrev pub Test : Type 0
 Test = (ℕ → Bool) → Bool
 
--- the sets of n tides with these settings that meet the minima
-unfoldable pub meeting : Minima → ℕ → List ℕ → Test
-meeting M n s = meets M n (λ t. getD s t 0)
+-- more of the n tides never make a sufficient block insufficient
+pub record Upward (n : ℕ) (E : Test) : Type 0 where
+  pub more : (p q : ℕ → Bool) → ((t : ℕ) → t < n → T (p t) → T (q t)) → T (E p) → T (E q)
 
-pub record Able (M : Minima) (n : ℕ) (s : List ℕ) : Type 0 where
-  pub small : M .b0 ≤ 120
-  pub fit : sumBelow 8 (λ j. getD (M .b) j 0) ≤ M .b0
-  pub settings-long : n ≤ length s
-  pub setting-low : (t : ℕ) → t < n → 1 ≤ getD s t 0
-  pub setting-high : (t : ℕ) → t < n → getD s t 0 ≤ 8
+-- a sufficient block has at least b of the n tides
+pub record AtLeast (n b : ℕ) (E : Test) : Type 0 where
+  pub many : (p : ℕ → Bool) → T (E p) → b ≤ countBelow n p
+
+-- ---- the table of allowed pairs
 
 -- tide t may go to block m, by a table in rows of 120: a row for each block, so that a scan of a block runs along memory
 unfoldable pub allows : List ℕ → ℕ → ℕ → Bool
@@ -39,6 +39,8 @@ pub record FirstAllowed (allowed : List ℕ) (t blocks r : ℕ) : Type 0 where
   pub may : r < blocks → T (allows allowed t r)
   pub none : blocks ≤ r → Nowhere allowed t blocks
 
+-- ---- a search
+
 -- D gives each of the n tides a block, by May one that it may go to, so that each block is sufficient
 pub record Assigning (n blocks : ℕ) (E : Test) (May : ℕ → ℕ → Type 0) (D : ℕ → ℕ) : Type 0 where
   pub below : (t : ℕ) → t < n → D t < blocks
@@ -49,6 +51,14 @@ pub record Assigning (n blocks : ℕ) (E : Test) (May : ℕ → ℕ → Type 0) 
 abbrev pub Assigned : (n blocks : ℕ) (E : Test) (allowed : List ℕ) (D : ℕ → ℕ) → Type 0
 Assigned n blocks E allowed = Assigning n blocks E (λ t m. T (allows allowed t m))
 
+-- what a search may assume; Able is what it may of the numbers that its test is made of
+pub record Asked (Able : Type 0) (n blocks : ℕ) (allowed list : List ℕ) : Type 0 where
+  pub few-tides : n ≤ 120
+  pub few-blocks : blocks ≤ 120
+  pub allowed-long : 14400 ≤ length allowed
+  pub list-long : n ≤ length list
+  pub able : Able
+
 -- what a search promises of its answer r and of the list that it leaves, list′
 pub record Promise (n blocks : ℕ) (E : Test) (allowed list list′ : List ℕ) (r : Bool) : Type 0 where
   -- on yes the list is an assignment
@@ -58,18 +68,16 @@ pub record Promise (n blocks : ℕ) (E : Test) (allowed list list′ : List ℕ)
   pub same-length : length list′ ≡ length list
   pub rest : drop n list′ ≡ drop n list
 
--- what a search may assume; Able is what it may of the numbers that its test is made of
-pub record Asked (Able : Type 0) (n blocks : ℕ) (allowed list : List ℕ) : Type 0 where
-  pub few-tides : n ≤ 120
-  pub few-blocks : blocks ≤ 120
-  pub allowed-long : 14400 ≤ length allowed
-  pub list-long : n ≤ length list
-  pub able : Able
+-- ---- the minima as a test of sets of tides
 
--- more of the n tides never make a sufficient block insufficient
-pub record Upward (n : ℕ) (E : Test) : Type 0 where
-  pub more : (p q : ℕ → Bool) → ((t : ℕ) → t < n → T (p t) → T (q t)) → T (E p) → T (E q)
+-- the sets of n tides with these settings that meet the minima
+unfoldable pub meeting : Minima → ℕ → List ℕ → Test
+meeting M n s = meets M n (λ t. getD s t 0)
 
--- a sufficient block has at least b of the n tides
-pub record AtLeast (n b : ℕ) (E : Test) : Type 0 where
-  pub many : (p : ℕ → Bool) → T (E p) → b ≤ countBelow n p
+-- what a search may assume of minima and settings
+pub record Able (M : Minima) (n : ℕ) (s : List ℕ) : Type 0 where
+  pub small : M .b0 ≤ 120
+  pub fit : sumBelow 8 (λ j. getD (M .b) j 0) ≤ M .b0
+  pub settings-long : n ≤ length s
+  pub setting-low : (t : ℕ) → t < n → 1 ≤ getD s t 0
+  pub setting-high : (t : ℕ) → t < n → getD s t 0 ≤ 8

@@ -1,2 +1,2 @@
--- Laws of what the functions here write, with the definitions that their contracts name.
+-- Inner promises: what the functions here write.
 pub mod Places

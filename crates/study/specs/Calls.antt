@@ -101,6 +101,10 @@ withdrawn i S = record { k = S .k; minima = S .minima; tides = map (shortened i)
 unfoldable pub withdrawing : ℕ → Contents → Contents
 withdrawing t H = record { study = withdrawn (t - 1) (H .study); withdrawals = H .withdrawals + 1 }
 
+-- the old number of tide t once tide i is gone
+abbrev pub skip : ℕ → ℕ → ℕ
+skip i t = cond (ltb t i) t (suc t)
+
 -- ---- Centres, lent a list of this length
 
 unfoldable pub centresReasons : Study → ℕ → List Reason
@@ -170,7 +174,3 @@ abbrev pub judgedOf : Judged → Reply Judgement
 judgedOf (Judges.Approved w) = value (approval w)
 judgedOf Judges.Declined = value disapproval
 judgedOf (Judges.Refused r) = refusal (numbered r)
-
--- the old number of tide t once tide i is gone
-abbrev pub skip : ℕ → ℕ → ℕ
-skip i t = cond (ltb t i) t (suc t)

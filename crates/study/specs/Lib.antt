@@ -1,4 +1,5 @@
--- Definitions, to be read beside document 01: Problem, Study, Refusals, Calls. What is proved of them: Theorems, Cases. Proofs: the rest.
+-- To be read beside document 01: Problem, Study, Refusals, Calls; what is proved of them: Theorems, Renumbering. Minima and Triangle: two
+-- tests in plain words.
 pub mod Problem
 pub mod Study
 pub mod Refusals

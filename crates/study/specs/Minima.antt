@@ -1,4 +1,5 @@
--- HEAD study/Minima
+-- In plain words: that a set of tides meets the minima, and that minima are valid. The tests of Study.antt say the same, by `meets-T` and
+-- `validMinima-T` of proofs/StudyLaws.antt. Assumes nothing.
 use Prim.Native.Nat.{ℕ, suc, _≤_, _<_}
 use mathlib.Core.Path.{_≡_}
 use mathlib.Core.Bool.{Bool, _&&_}
@@ -7,10 +8,12 @@ use lib.ListN.{length, getD}
 use Rattle.lists.specs.Lists.{sumBelow, countBelow}
 use Rattle.study.specs.declared.Minima.{Minima}
 
+-- of n tides with these settings, the set p has at least b0 tides, and at least b of each setting
 pub record Meets (M : Minima) (n : ℕ) (setting : ℕ → ℕ) (p : ℕ → Bool) : Type 0 where
   pub whole : M .b0 ≤ countBelow n p
   pub each : (j : ℕ) → j < 8 → getD (M .b) j 0 ≤ countBelow n (λ t. p t && eqb (setting t) (suc j))
 
+-- document 01's sentence on the minima: b0 is 1 to 120; there are 8 b's, together at most b0; those above k are 0
 pub record MinimaFit (k : ℕ) (M : Minima) : Type 0 where
   pub low : 1 ≤ M .b0
   pub high : M .b0 ≤ 120

@@ -1,4 +1,4 @@
--- Statements: Answers, Theorems. Laws for the code and proofs: the rest.
+-- To be read beside document 01: Answers, Theorems. The rest: inner promises.
 pub mod Answers
 pub mod Writing
 pub mod Putting

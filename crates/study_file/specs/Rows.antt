@@ -1,4 +1,4 @@
--- HEAD study_file/Rows
+-- Inner promises of Read: the distances of one tide, as they are read into memory and tested. Assumes nothing.
 use Prim.Native.Nat.{ℕ, _+_, _*_}
 use mathlib.Core.Path.{_≡_}
 use mathlib.Core.List.{List}

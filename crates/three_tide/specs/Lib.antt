@@ -1,4 +1,3 @@
--- Laws, with the definitions that contracts name: Pairs, of the search for a pair that breaks the three-tide rule; Doubts, of the quick
--- test before it.
+-- Inner promises: Pairs, of the search for a pair that breaks the three-tide rule; Doubts, of the quick test before it.
 pub mod Pairs
 pub mod Doubts

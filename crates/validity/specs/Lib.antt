@@ -1,4 +1,4 @@
--- Definitions and statements, to be read beside document 01: Memory, the record at the head of Validity, Theorems. Laws: the rest.
+-- To be read beside document 01: Memory, Validity (reason 21 in plain words), Theorems.
 pub mod Memory
 pub mod Validity
 pub mod Theorems

@@ -1,5 +1,5 @@
--- Reason 21 in plain words: what it says that a record and memory are a dataset, and that the contents of a dataset are valid.
--- Assumes nothing.
+-- Reason 21 in plain words: what it says that a record and memory are a dataset (document 01: a book as described). `ForDatasets`
+-- (Theorems) says that the test `isDataset` is exactly this. Assumes nothing.
 use Prim.Native.Nat.{ℕ, _+_, _≤_, _<_}
 use mathlib.Core.Path.{_≡_}
 use mathlib.Core.Logic.{_⊎_}
@@ -7,11 +7,6 @@ use lib.ListN.{length, getD}
 use Rattle.lists.specs.Lists.{at}
 use Rattle.validity.specs.Memory.{State}
 use Rattle.study.specs.Minima.{MinimaFit}
-
--- long enough for 14,400 distances and 120 settings
-pub record Long (s : State) : Type 0 where
-  pub distances : 14400 ≤ length (s .distances)
-  pub settings : 120 ≤ length (s .settings)
 
 -- document 01 on what a book is, of a record and its memory; tides are numbered from 0
 pub record IsDataset (s : State) : Type 0 where
@@ -35,3 +30,8 @@ pub record IsDataset (s : State) : Type 0 where
   -- everything beyond the tides held is zero, in rows of 120
   pub setting-beyond : (i : ℕ) → s .dataset .n ≤ i → i < 120 → getD (s .settings) i 0 ≡ 0
   pub beyond : (i j : ℕ) → i < 120 → j < 120 → (s .dataset .n ≤ i) ⊎ (s .dataset .n ≤ j) → at (s .distances) i j ≡ 0
+
+-- long enough for 14,400 distances and 120 settings
+pub record Long (s : State) : Type 0 where
+  pub distances : 14400 ≤ length (s .distances)
+  pub settings : 120 ≤ length (s .settings)
