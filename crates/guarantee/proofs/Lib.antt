@@ -6,3 +6,4 @@ pub mod BlockLaws
 pub mod DemandLaws
 pub mod Proofs
 pub mod CasesProof
+pub mod ShamsProof

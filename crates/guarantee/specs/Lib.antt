@@ -4,3 +4,4 @@ pub mod History
 pub mod Ledger
 pub mod Cases
 pub mod Theorems
+pub mod Shams
