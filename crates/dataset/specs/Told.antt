@@ -8,7 +8,6 @@ use Rattle.study.specs.Calls.{entering, withdrawing}
 use Rattle.validity.specs.Memory.{State, short, isDataset, contentsOf, stored}
 use Rattle.dataset.specs.Answers.{enterLeaves, withdrawLeaves}
 use Rattle.validity.specs.Validity.{IsDataset, Long}
-use Rattle.validity.proofs.LayoutLaws.{long}
 
 -- what passes the tests of short memory and 21 is a dataset
 pub record Passed (s : State) : Type 0 where

@@ -197,4 +197,4 @@ module _ (over : State) (file bytes : List ℕ) (b : Bytes file) (e : readAnswer
 
 pub files-and-datasets : FilesAndDatasets
 files-and-datasets =
-    record { same = same; read-back = λ s over bytes n e. read-back s bytes n e over; written-again = λ over file bytes b e. written-again over file bytes b e }
+    record { same = same; read-back = λ s over bytes n e. read-back s bytes n e over; written-again = written-again }

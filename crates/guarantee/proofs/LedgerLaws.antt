@@ -292,7 +292,8 @@ agree-changed h l (call-read file) e K = file-matches (decoded file .study)
 agree-changed h l (call-change c) e K = agree-changing (updating c .own) (updating c .makes) (noting c) (change-matches c) h l e K
 agree-changed h l (call-ask q) e K = K
 
-agree-following : (tooShort : Bool) (h : Option Contents) (l : Option Ledger) (cs : List Call) → Agree h l → Agree (following tooShort h cs) (noteAll tooShort h l cs)
+agree-following : (tooShort : Bool) (h : Option Contents) (l : Option Ledger) (cs : List Call) → Agree h l
+    → Agree (following tooShort h cs) (noteAll tooShort h l cs)
 unfolding following noteAll step verdict
 agree-following tooShort h l [] K = K
 agree-following tooShort h l (c ∷ cs) K =

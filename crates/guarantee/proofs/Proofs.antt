@@ -78,8 +78,8 @@ module _ (start : State) (calls : List Call) where
   too-few S list records e =
       let K = studied (contentsAfter start calls) S e in
       let H = K .contents in
-      subst (λ R. 0 < size R → (answer (run start calls) (call-ask (make-blocks list records)) ≡ refused (number 25)) ↔ ((D : ℕ → ℕ) → Feasible (problem R) D → ⊥))
-      (K .study)
+      let v = answer (run start calls) (call-ask (make-blocks list records)) in
+      subst (λ R. 0 < size R → (v ≡ refused (number 25)) ↔ ((D : ℕ → ℕ) → Feasible (problem R) D → ⊥)) (K .study)
       (λ l. subst (λ v. (v ≡ refused (number 25)) ↔ ((D : ℕ → ℕ) → Feasible (problem (H .study)) D → ⊥)) (sym (answer-own list records H (K .is)))
       (block-25 H (valid-after H (K .is)) list records l))
 

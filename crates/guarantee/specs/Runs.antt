@@ -77,7 +77,11 @@ inquiring (find-centres g list) =
     record {
       own = λ H. centresReasons (H .study) (length list);
       lent = record { numbers = []; lists = list ∷ []; records = [] };
-      tells = λ H. let front = centreNumbers (H .study) g in record { numbers = length front ∷ []; lists = (front ++ drop (length front) list) ∷ []; records = [] };
+      tells = λ H. let front = centreNumbers (H .study) g in record {
+        numbers = length front ∷ [];
+        lists = (front ++ drop (length front) list) ∷ [];
+        records = [];
+      };
     }
 inquiring (make-blocks list records) =
     record {
@@ -99,7 +103,11 @@ inquiring (write-file bytes) =
     record {
       own = λ H. writeReasons H (length bytes);
       lent = record { numbers = []; lists = bytes ∷ []; records = [] };
-      tells = λ H. let file = fileOf H in record { numbers = length file ∷ []; lists = (file ++ drop (length file) bytes) ∷ []; records = [] };
+      tells = λ H. let file = fileOf H in record {
+        numbers = length file ∷ [];
+        lists = (file ++ drop (length file) bytes) ∷ [];
+        records = [];
+      };
     }
 
 -- ---- any call
