@@ -24,9 +24,11 @@ holding M tides w = some (record { study = record { k = 1; minima = M; tides = t
 abbrev pub two : List Tide
 two = record { setting = 1; row = [] } ∷ record { setting = 1; row = 3 ∷ [] } ∷ []
 
+-- records for n blocks
 abbrev pub records : ℕ → List BlockRecord
 records n = replicate n (record { centre = 0; tides = 0; diameter = 0 })
 
+-- a call, and the verdict that it must get
 pub record Case : Type 0 where
   -- whether the memory is too short
   pub tooShort : Bool
@@ -34,9 +36,11 @@ pub record Case : Type 0 where
   pub call : Call
   pub gives : Verdict
 
+-- in memory that is long enough, refused by a number alone
 abbrev pub case : Option Contents → Call → ℕ → Case
 case h c n = record { tooShort = false; held = h; call = c; gives = refused (number n) }
 
+-- two reasons at once, and which one counts
 unfoldable pub order : List Case
 order =
     -- short memory before everything else

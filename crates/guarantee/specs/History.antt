@@ -30,6 +30,7 @@ ownVerdict h (call-ask q) = onHeld h (inquiring q .own)
 unfoldable pub verdict : Bool → Option Contents → Call → Verdict
 verdict tooShort h c = cond tooShort (refused (number 1)) (ownVerdict h c)
 
+-- what is there, changed; nothing, where there is nothing
 abbrev pub changing : {A : Type 0} → Option A → (A → A) → Option A
 changing none f = none
 changing (some x) f = some (f x)
@@ -45,6 +46,7 @@ changed h (call-ask q) = h
 unfoldable pub step : Bool → Option Contents → Call → Option Contents
 step tooShort h c = settled (verdict tooShort h c) (changed h c) h
 
+-- along the calls
 unfoldable pub following : Bool → Option Contents → List Call → Option Contents
 following tooShort h [] = h
 following tooShort h (c ∷ cs) = following tooShort (step tooShort h c) cs
@@ -53,6 +55,7 @@ following tooShort h (c ∷ cs) = following tooShort (step tooShort h c) cs
 unfoldable pub contentsAfter : State → List Call → Option Contents
 contentsAfter start calls = following (short start) (held start) calls
 
+-- without the count
 abbrev pub studyIn : Option Contents → Option Study
 studyIn none = none
 studyIn (some H) = some (H .study)
@@ -63,10 +66,12 @@ studyAfter start calls = studyIn (contentsAfter start calls)
 
 -- ---- what a caller learns
 
+-- an accepted query tells of what is held; of a refused one everything lent stays
 abbrev pub told : Verdict → Inquiry → Option Contents → Output
 told v Q none = Q .lent
 told v Q (some H) = settled v (Q .tells H) (Q .lent)
 
+-- the numbers that a call answers, and what then stands in what it was lent
 unfoldable pub outputs : Bool → Option Contents → Call → Output
 outputs tooShort h (call-open k) = noOutput
 outputs tooShort h (call-read file) = noOutput

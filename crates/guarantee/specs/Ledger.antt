@@ -26,6 +26,7 @@ pub record Ledger : Type 0 where
   pub arrivals : List Arrival
   pub gone : ℕ → Bool
 
+-- where no name stands
 unfoldable pub nobody : Arrival
 nobody = record { setting = 0; far = λ m. 0 }
 
@@ -45,6 +46,7 @@ nameOf L t = getD (remaining L) t 0
 unfoldable pub fileLedger : Study → Ledger
 fileLedger S = record { arrivals = map (λ (x : Tide). record { setting = x .setting; far = λ m. getD (x .row) m 0 }) (S .tides); gone = λ m. false }
 
+-- after Open
 unfoldable pub emptyLedger : Ledger
 emptyLedger = record { arrivals = []; gone = λ m. false }
 
@@ -83,6 +85,7 @@ abbrev pub begun : Option Contents → Option Ledger
 begun none = none
 begun (some H) = some (fileLedger (H .study))
 
+-- the ledger that the start and the calls bring in
 unfoldable pub ledgerAfter : State → List Call → Option Ledger
 ledgerAfter start calls = noteAll (short start) (held start) (begun (held start)) calls
 

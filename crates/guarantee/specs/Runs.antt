@@ -19,6 +19,7 @@ use Rattle.study_file.specs.Answers.{readAnswer, readLeaves, writeReasons}
 
 -- ---- the calls that change a dataset's contents
 
+-- each with the values of its arguments
 pub data Change : Type 0 where
   set-minima : Minima → Change
   -- a setting and a row
@@ -31,6 +32,7 @@ pub record Update : Type 0 where
   pub own : Contents → List Reason
   pub makes : Contents → Contents
 
+-- what a change asks and makes
 unfoldable pub updating : Change → Update
 updating (set-minima M) = record { own = λ H. minimaReasons (H .study) M; makes = settingMinima M }
 updating (enter setting row) = record { own = λ H. enterReasons (H .study) setting row; makes = entering setting row }
@@ -38,6 +40,7 @@ updating (withdraw t) = record { own = λ H. withdrawReasons H t; makes = withdr
 
 -- ---- the calls that only read
 
+-- each with the values of its arguments and what it is lent
 pub data Query : Type 0 where
   -- a radius, and the list for the centres
   find-centres : ℕ → List ℕ → Query
@@ -54,6 +57,7 @@ pub record Output : Type 0 where
   pub lists : List (List ℕ)
   pub records : List BlockRecord
 
+-- of a call that answers no numbers and is lent no list
 abbrev pub noOutput : Output
 noOutput = record { numbers = []; lists = []; records = [] }
 
@@ -72,6 +76,7 @@ abbrev pub judgementNumbers : Judgement → List ℕ
 judgementNumbers (approval w) = 1 ∷ w ∷ []
 judgementNumbers disapproval = 0 ∷ []
 
+-- what a query asks, is lent and tells
 unfoldable pub inquiring : Query → Inquiry
 inquiring (find-centres g list) =
     record {
@@ -159,6 +164,7 @@ pub record Response : Type 0 where
   pub verdict : Verdict
   pub output : Output
 
+-- of a call on this record and memory
 unfoldable pub response : State → Call → Response
 response s c = record { verdict = answer s c; output = output s c }
 
