@@ -20,7 +20,8 @@ noRecord = record { centre = 0; tides = 0; diameter = 0 }
 unfoldable pub noRecords : List BlockRecord
 noRecords = replicate 120 noRecord
 
--- with a list and records of these lengths
+-- the rows that Block hands back, lent a list and records of these lengths. Their count and the first `count` places of each are settled,
+-- since `records` holds of any l; the places past them are free, and stand in no record
 pub record RowsOf (s : State) (list room : ℕ) (rows : BlockRows) : Type 0 where
   pub fits : rows .count ≤ room
   pub few : rows .count ≤ 120

@@ -1,4 +1,4 @@
--- HEAD blocking/Told
+-- What an accepted call tells; the function that computes or writes requires it. Assumes nothing.
 use Prim.Native.Nat.{ℕ, _≤_, _<_}
 use mathlib.Core.Path.{_≡_}
 use mathlib.Core.Bool.{true}

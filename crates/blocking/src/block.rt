@@ -1,6 +1,5 @@
 // Block: the core, by plain rows of numbers.
-use crate::centres::put_centres;
-use blocks::core::block_rows;
+use crate::computing::compute;
 use radius::bound::ball_meets;
 use study::Answer;
 use study::Blocked;
@@ -12,10 +11,10 @@ ghost use Rattle.study.specs.Refusals.{verdictOf};
 ghost use Rattle.study.specs.Calls.{blockedOf};
 ghost use Rattle.validity.specs.Memory.{stateOf};
 ghost use Rattle.blocking.specs.Answers.{blockAnswer, blockReply, blockList};
-ghost use Rattle.blocking.specs.Told.{BlockTold};
 ghost use Rattle.blocking.specs.Rows.{RowsOf};
 
-// The records of the blocks as rows of numbers: centres' tide numbers, numbers of tides, diameters.
+// The records of the blocks as rows of numbers: centres' tide numbers, numbers of tides, diameters. `count` is the number of blocks, 0 on a
+// refusal. The places past it are free: they may hold any numbers, and no record is made of them.
 pub struct BlockRows {
     pub count: usize,
     pub centres: [u8; 120],
@@ -60,39 +59,8 @@ fn block_answer(
     Answer::Done
 }
 
-// What an accepted call writes and answers.
-fn compute(
-    dataset: Dataset,
-    distances: &[u32],
-    settings: &[u8],
-    list: &mut [u8],
-    room: usize,
-) -> Computed
-    requires { ⌜ BlockTold (stateOf dataset (now distances) (now settings)) (length (now list)) room ⌝ }
-    ensures { λ r. ⌜ blockedOf (r .answer) ≡ blockReply (stateOf dataset (now (distances .entry)) (now (settings .entry))) (length (now (list .entry))) room ⌝ }
-    ensures { λ r. ⌜ RowsOf (stateOf dataset (now (distances .entry)) (now (settings .entry))) (length (now (list .entry))) room (r .rows) ⌝ }
-    ensures { λ _. ⌜ now (list .exit) ≡ blockList (stateOf dataset (now (distances .entry)) (now (settings .entry))) (now (list .entry)) room ⌝ }
-{
-    let n = dataset.n;
-    let rows = block_rows(distances, settings, n, dataset.minima, list);
-    let count = rows.count;
-    let centres = rows.centres;
-    let mut numbers: [u8; 120] = [0; 120];
-    put_centres(&centres, count, &mut numbers);
-    let tides = rows.sizes;
-    let diameters = rows.diameters;
-    Computed {
-        answer: Blocked::Done(count, rows.radius, rows.widest),
-        rows: BlockRows {
-            count,
-            centres: numbers,
-            tides,
-            diameters,
-        },
-    }
-}
-
-// Block, with its records by value. `room` is the length of the records that the rows will be put into.
+// Block, with its records by value. `room` is the length of the records that the rows will be put into. Answer, list and the rows of the
+// blocks there are are settled; the rows past the last block are free (`RowsOf`).
 pub fn block_core(
     dataset: Dataset,
     distances: &[u32],
@@ -100,7 +68,8 @@ pub fn block_core(
     list: &mut [u8],
     room: usize,
 ) -> Computed
-    ensures answer { λ r. ⌜ blockedOf (r .answer) ≡ blockReply (stateOf dataset (now (distances .entry)) (now (settings .entry))) (length (now (list .entry))) room ⌝ }
+    ensures answer { λ r. ⌜ blockedOf (r .answer)
+        ≡ blockReply (stateOf dataset (now (distances .entry)) (now (settings .entry))) (length (now (list .entry))) room ⌝ }
     ensures rows { λ r. ⌜ RowsOf (stateOf dataset (now (distances .entry)) (now (settings .entry))) (length (now (list .entry))) room (r .rows) ⌝ }
     ensures list { λ _. ⌜ now (list .exit) ≡ blockList (stateOf dataset (now (distances .entry)) (now (settings .entry))) (now (list .entry)) room ⌝ }
 {

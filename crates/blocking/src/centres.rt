@@ -1,16 +1,15 @@
 // Centres at a radius.
-use radius::centres::find_centres;
+use crate::front::fill_front;
+use refusal_numbers::refusal_number;
 use study::Answer;
 use study::Dataset;
 use study::Refusal;
 ghost use mathlib.Core.Path.{_≡_};
-ghost use Prim.Native.Nat.{ℕ, _+_, _<_, _≤_};
-ghost use lib.ListN.{length, getD};
-ghost use Rattle.lists.specs.Lists.{overwrite};
+ghost use lib.ListN.{length};
 ghost use Rattle.study.specs.Refusals.{verdictOf};
+ghost use Rattle.refusal_numbers.specs.Numbers.{refusalNumber};
 ghost use Rattle.validity.specs.Memory.{stateOf};
 ghost use Rattle.blocking.specs.Answers.{centresAnswer, centresFront, centresLeaves};
-ghost use Rattle.blocking.specs.Told.{CentresTold};
 
 // The answer, and how many centres stand in the front of the list.
 pub struct Counted {
@@ -36,38 +35,6 @@ pub fn centres_answer(dataset: Dataset, distances: &[u32], settings: &[u8], list
     Answer::Done
 }
 
-// Writes the first count centres to the front of the list, as tide numbers from 1.
-pub fn put_centres(centres: &[usize; 120], count: usize, list: &mut [u8])
-    requires { ⌜ (length (now centres) ≡ 120) × (count ≤ 120) × (count ≤ length (now list)) ⌝ }
-    requires { ⌜ ((i : ℕ) → i < count → getD (now centres) i 0 < 120) ⌝ }
-    ensures { λ _. ⌜ now (list .exit) ≡ overwrite count (λ (i : ℕ). getD (now (centres .entry)) i 0 + 1) (now (list .entry)) ⌝ }
-{
-    let mut i = 0;
-    while i < count {
-        list[i] = (centres[i] + 1) as u8;
-        i += 1;
-    }
-}
-
-// What an accepted call writes, and the number of centres.
-fn fill_front(
-    dataset: Dataset,
-    distances: &[u32],
-    settings: &[u8],
-    g: u32,
-    list: &mut [u8],
-) -> usize
-    requires { ⌜ CentresTold (stateOf dataset (now distances) (now settings)) (now list) ⌝ }
-    ensures { λ r. ⌜ r ≡ length (centresFront (stateOf dataset (now (distances .entry)) (now (settings .entry))) g (now (list .entry))) ⌝ }
-    ensures { λ _. ⌜ now (list .exit) ≡ centresLeaves (stateOf dataset (now (distances .entry)) (now (settings .entry))) g (now (list .entry)) ⌝ }
-{
-    let n = dataset.n;
-    let mut centres: [usize; 120] = [0; 120];
-    let count = find_centres(distances, n, g, &mut centres);
-    put_centres(&centres, count, list);
-    count
-}
-
 // Centres, with the answer, the count and the whole list settled.
 pub fn centres_into(
     dataset: Dataset,
@@ -88,17 +55,24 @@ pub fn centres_into(
     Counted { answer, count }
 }
 
-// Hands back the filled front of the list; it is empty on a refusal.
+// Centres as document 01 asks for it: hands back the filled front of the caller's list, empty on a refusal, and leaves in `refusal` 0 or the
+// refusal's number. The part handed back spends the list, so of the places after it nothing can be said here; `centres_into` settles them.
 pub fn centres<'a>(
     dataset: Dataset,
     distances: &[u32],
     settings: &[u8],
     g: u32,
     list: &'a mut [u8],
+    refusal: &mut u8,
 ) -> &'a mut [u8]
-    ensures { λ r. ⌜ now r ≡ centresFront (stateOf dataset (now (distances .entry)) (now (settings .entry))) g (now (list .entry)) ⌝ }
+    ensures front { λ r. ⌜ r .ptr ≡ list .entry .ptr ⌝ }
+    ensures part { λ r. ⌜ now r ≡ centresFront (stateOf dataset (now (distances .entry)) (now (settings .entry))) g (now (list .entry)) ⌝ }
+    ensures refusal { λ _. ⌜ now (refusal .exit)
+        ≡ refusalNumber (centresAnswer (stateOf dataset (now (distances .entry)) (now (settings .entry))) (now (list .entry))) ⌝ }
 {
     let filled = centres_into(dataset, distances, settings, g, list);
+    let answer = filled.answer;
+    *refusal = refusal_number(answer);
     let count = filled.count;
     &mut list[..count]
 }

@@ -1,43 +1,15 @@
 // Block's records in a lent slice. The core computes plain rows; the functions here are thin.
-use crate::block::BlockRows;
 use crate::block::block_core;
+use crate::storing::put_records;
 use study::BlockRecord;
 use study::Blocked;
 use study::Dataset;
 ghost use mathlib.Core.Path.{_≡_};
-ghost use Prim.Native.Nat.{_<_, _≤_};
 ghost use lib.ListN.{length};
-ghost use Rattle.lists.specs.Lists.{overwrite};
 ghost use Rattle.study.specs.Calls.{blockedOf};
 ghost use Rattle.validity.specs.Memory.{stateOf};
 ghost use Rattle.blocking.specs.Answers.{blockReply, blockList, blockRecords};
-ghost use Rattle.blocking.specs.Rows.{rowAt, noRecords};
-
-// The record of one block.
-fn row_at(rows: BlockRows, i: usize) -> BlockRecord
-    requires { ⌜ i < 120 ⌝ }
-    ensures { λ r. ⌜ r ≡ rowAt rows i ⌝ }
-{
-    BlockRecord {
-        centre: rows.centres[i],
-        tides: rows.tides[i],
-        diameter: rows.diameters[i],
-    }
-}
-
-// Stores the records of all blocks; the later places stay.
-fn put_records(records: &mut [BlockRecord], rows: BlockRows)
-    requires { ⌜ (rows .count ≤ length (now records)) × (rows .count ≤ 120) ⌝ }
-    ensures { λ _. ⌜ now (records .exit) ≡ overwrite (rows .count) (rowAt rows) (now (records .entry)) ⌝ }
-{
-    let count = rows.count;
-    let mut i: usize = 0;
-    while i < count {
-        let r = row_at(rows, i);
-        records[i] = r;
-        i = i + 1;
-    }
-}
+ghost use Rattle.blocking.specs.Rows.{noRecords};
 
 // Block: the list, a record for each block, and the answer. A refusal writes nothing.
 pub fn block(
@@ -47,9 +19,12 @@ pub fn block(
     list: &mut [u8],
     records: &mut [BlockRecord],
 ) -> Blocked
-    ensures answer { λ r. ⌜ blockedOf r ≡ blockReply (stateOf dataset (now (distances .entry)) (now (settings .entry))) (length (now (list .entry))) (length (now (records .entry))) ⌝ }
-    ensures list { λ _. ⌜ now (list .exit) ≡ blockList (stateOf dataset (now (distances .entry)) (now (settings .entry))) (now (list .entry)) (length (now (records .entry))) ⌝ }
-    ensures records { λ _. ⌜ now (records .exit) ≡ blockRecords (stateOf dataset (now (distances .entry)) (now (settings .entry))) (length (now (list .entry))) (now (records .entry)) ⌝ }
+    ensures answer { λ r. ⌜ blockedOf r
+        ≡ blockReply (stateOf dataset (now (distances .entry)) (now (settings .entry))) (length (now (list .entry))) (length (now (records .entry))) ⌝ }
+    ensures list { λ _. ⌜ now (list .exit)
+        ≡ blockList (stateOf dataset (now (distances .entry)) (now (settings .entry))) (now (list .entry)) (length (now (records .entry))) ⌝ }
+    ensures records { λ _. ⌜ now (records .exit)
+        ≡ blockRecords (stateOf dataset (now (distances .entry)) (now (settings .entry))) (length (now (list .entry))) (now (records .entry)) ⌝ }
 {
     let room = records.len();
     let computed = block_core(dataset, distances, settings, list, room);
@@ -70,9 +45,11 @@ pub fn block_by_value(
     settings: &[u8],
     list: &mut [u8],
 ) -> Blocking
-    ensures answer { λ r. ⌜ blockedOf (r .answer) ≡ blockReply (stateOf dataset (now (distances .entry)) (now (settings .entry))) (length (now (list .entry))) 120 ⌝ }
+    ensures answer { λ r. ⌜ blockedOf (r .answer)
+        ≡ blockReply (stateOf dataset (now (distances .entry)) (now (settings .entry))) (length (now (list .entry))) 120 ⌝ }
     ensures list { λ _. ⌜ now (list .exit) ≡ blockList (stateOf dataset (now (distances .entry)) (now (settings .entry))) (now (list .entry)) 120 ⌝ }
-    ensures records { λ r. ⌜ r .records ≡ blockRecords (stateOf dataset (now (distances .entry)) (now (settings .entry))) (length (now (list .entry))) noRecords ⌝ }
+    ensures records { λ r. ⌜ r .records
+        ≡ blockRecords (stateOf dataset (now (distances .entry)) (now (settings .entry))) (length (now (list .entry))) noRecords ⌝ }
 {
     let none = BlockRecord {
         centre: 0,

@@ -1,4 +1,4 @@
-// Centres beside the plain rule: the front handed back, and the whole list.
+// Centres beside the plain rule: the front handed back with the refusal's number, and the whole list.
 use crate::given::is_number;
 use blocking::centres::Counted;
 use blocking::centres::centres_into;
@@ -32,16 +32,17 @@ fn right_places(list: &[u8], plain: Centres) -> bool {
     true
 }
 
-fn right_answer(counted: Counted, small: Small, plain: Centres) -> bool {
-    let answer = counted.answer;
-    let number = answer_number(answer);
-    if counted.count != wide(plain.count) {
-        return false;
-    }
+// 24 where there are no tides, else 0.
+fn right_number(number: u32, small: Small) -> bool {
     if small.n == 0 {
         return number == 24;
     }
     number == 0
+}
+
+fn right_answer(counted: Counted, small: Small, plain: Centres) -> bool {
+    let answer = counted.answer;
+    counted.count == wide(plain.count) && right_number(answer_number(answer), small)
 }
 
 fn right_list(small: Small, g: u32, plain: Centres) -> bool {
@@ -58,8 +59,18 @@ fn right_front(small: Small, g: u32, plain: Centres) -> bool {
     let mut settings = [9u8; 123];
     let mut list = [170u8; 9];
     let dataset = small.held(&mut distances, &mut settings);
-    let front = blocking::centres::centres(dataset, &distances, &settings, g, &mut list);
-    front.len() == wide(plain.count) && right_places(front, plain)
+    let mut refusal: u8 = 99;
+    let front = blocking::centres::centres(
+        dataset,
+        &distances,
+        &settings,
+        g,
+        &mut list,
+        &mut refusal,
+    );
+    front.len() == wide(plain.count)
+        && right_places(front, plain)
+        && right_number(refusal as u32, small)
 }
 
 fn trial(so_far: Tally, small: Small, g: u32) -> Tally {

@@ -6,3 +6,4 @@ pub mod ReachedLaws
 pub mod CallLaws
 pub mod Turns
 pub mod Writing
+pub mod CasesProof

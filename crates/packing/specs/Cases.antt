@@ -1,17 +1,11 @@
--- Texts and what is said of them, by computation. Assumes nothing.
+-- Texts and what is said of them. There are no proofs here: CasesProof.antt proves both statements, by computation. Assumes nothing.
 use Prim.Native.String.{String}
-use mathlib.Core.Path.{_≡_, refl}
-use mathlib.Core.List.{List, [], _∷_, map, flatMap}
+use mathlib.Core.Path.{_≡_}
+use mathlib.Core.List.{List, [], _∷_, map}
 use lib.ListN.{replicate}
-use Rattle.lists.specs.Lists.{every, sumBelow, tabulate}
-use Rattle.study.specs.Study.{noTide, tide, distance, validMinima}
-use Rattle.study.specs.Refusals.{number, seven, firstOf}
-use Rattle.study.specs.Calls.{openReasons, opened, opening, minimaReasons, withMinima, settingMinima, triangle, breaking, enterReasons, entered, entering}
-use Rattle.file_format.specs.Bits.{binary, allBits, pack, packed}
-use Rattle.file_format.specs.File.{tideFields, fields, fileOf}
+use Rattle.study.specs.Refusals.{number, seven}
 use Rattle.sheet_text.specs.Text.{ascii}
-use Rattle.packing.specs.Words.{newlines, endsWord, begins, commentAfter, past, startOf, wordOf, digit, withDigit, valueFrom, numeralOf, wordAt, nextOf}
-use Rattle.packing.specs.Packing.{Told, done, refusedAt, notNumber, tooLarge, missing, numberOf, numbersOf, minimaFrom, openingOf, minimaOf, headOf, tideOf, turnOf, turnsOf, textOf, packAnswer, packLeaves}
+use Rattle.packing.specs.Packing.{Told, done, refusedAt, notNumber, tooLarge, missing, packAnswer, packLeaves}
 
 pub record Case : Type 0 where
   pub text : String
@@ -46,11 +40,10 @@ cases =
     ∷ ("1 1 0\n1\n1 3\n" gives refusedAt 4 (number 1))
     ∷ []
 
-pub worked-cases : map (λ (c : Case). packAnswer (ascii (c .text)) 8) cases ≡ map (λ (c : Case). c .told) cases
-unfolding cases packAnswer textOf turnsOf turnOf tideOf headOf minimaOf openingOf minimaFrom numbersOf numberOf nextOf wordAt numeralOf valueFrom withDigit digit wordOf startOf past commentAfter begins endsWord newlines openReasons opening opened minimaReasons settingMinima withMinima validMinima enterReasons entering entered breaking triangle distance tide noTide firstOf every sumBelow tabulate flatMap fileOf fields tideFields packed pack allBits binary
-worked-cases = refl
+-- of each text is said what stands beside it
+abbrev pub WorkedCases : Type 0
+WorkedCases = map (λ (c : Case). packAnswer (ascii (c .text)) 8) cases ≡ map (λ (c : Case). c .told) cases
 
 -- the file of one tide, and a byte past it
-pub one-tide : packLeaves (ascii "1 1 0 1\n") (replicate 8 170) ≡ 0x54 ∷ 0x02 ∷ 0x20 ∷ 0x40 ∷ 0x00 ∷ 0x00 ∷ 0x00 ∷ 170 ∷ []
-unfolding packLeaves textOf turnsOf turnOf tideOf headOf minimaOf openingOf minimaFrom numbersOf numberOf nextOf wordAt numeralOf valueFrom withDigit digit wordOf startOf past commentAfter begins endsWord newlines openReasons opening opened minimaReasons settingMinima withMinima validMinima enterReasons entering entered breaking triangle distance tide noTide firstOf every sumBelow tabulate flatMap fileOf fields tideFields packed pack allBits binary
-one-tide = refl
+abbrev pub OneTide : Type 0
+OneTide = packLeaves (ascii "1 1 0 1\n") (replicate 8 170) ≡ 0x54 ∷ 0x02 ∷ 0x20 ∷ 0x40 ∷ 0x00 ∷ 0x00 ∷ 0x00 ∷ 170 ∷ []

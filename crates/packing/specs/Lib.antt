@@ -1,4 +1,4 @@
--- Statements: Words, Packing, Cases. Laws for the code and proofs: the rest.
+-- Statements, to be read: Words, Packing, Cases. Inner promises, which only contracts of private functions cite: Steps, Narrowing, Reached.
 pub mod Words
 pub mod Packing
 pub mod Cases

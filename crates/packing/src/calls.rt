@@ -36,14 +36,15 @@ pub enum Step {
     Over(Over),
 }
 
-// The record after a call, and the place in the text.
+// The record after a call, and the place in the text. The place is free where no more is read, the record where something stops the
+// reading; what holds of them all the same is said by `Reaches` and `Begins`.
 pub struct Reached {
     pub step: Step,
     pub dataset: Dataset,
     pub cursor: Cursor,
 }
 
-// The record at the end.
+// The record at the text's end; it is free where something stops the reading.
 pub struct Finished {
     pub over: Over,
     pub dataset: Dataset,

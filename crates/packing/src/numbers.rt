@@ -36,7 +36,7 @@ pub fn number(text: &[u8], from: Cursor) -> Given
     }
 }
 
-// As many numbers as the row is long.
+// As many numbers as the row is long; the row is free where something stops the reading.
 pub fn read_row(text: &[u8], from: Cursor, row: &mut [u32]) -> Row
     requires { ⌜ Within (now text) from ⌝ }
     ensures { λ r. ⌜ readOf r (now (row .exit)) ≡ numbersOf (now (text .entry)) (length (now (row .entry))) from ⌝ }

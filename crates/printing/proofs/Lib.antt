@@ -1,3 +1,4 @@
 -- Laws, cited by the proofs of this crate and of those above it.
 pub mod Laws
-pub mod Limit
+pub mod LimitLaws
+pub mod CasesProof

@@ -1,17 +1,14 @@
--- The sheets of document 01 and some more, from the bytes of a file, by computation. Assumes nothing.
-use mathlib.Core.Path.{_≡_, refl}
-use mathlib.Core.List.{[], _∷_, map, flatMap, headD}
-use Rattle.lists.specs.Lists.{every, sumBelow, countBelow, greatest, tabulate}
-use Rattle.study.specs.Problem.{centresAmong, centres, centreOf, choices, block, labels, allSufficient, assignments, assignable, candidates, radius, blocking, diameter, greatestDiameter}
-use Rattle.study.specs.Study.{noTide, tide, distance, meets, sufficient, problem, validMinima}
-use Rattle.study.specs.Refusals.{firstOf}
-use Rattle.study.specs.Calls.{triangle, breaking, blockReasons, figures, blockRecord}
-use Rattle.file_format.specs.Bits.{binary}
-use Rattle.file_format.specs.File.{bitLength, byteLength, tideAt, minimaAt, decoded, headReasons, tideReasons, readReasons}
-use Rattle.sheet_text.specs.Text.{ascii, digits, decimal, heading, line, lines, closing, refusedText}
+-- The sheets of document 01 and some more, from the bytes of a file. There are no proofs here: `sheets` of CasesProof.antt proves the
+-- statement, by computation. Assumes nothing.
+use mathlib.Core.Path.{_≡_}
+use mathlib.Core.List.{[], _∷_, map}
+use Rattle.sheet_text.specs.Text.{ascii}
 use Rattle.printing.specs.Sheet.{sheetOf}
 
-pub sheets : map sheetOf
+-- each file and its sheet
+abbrev pub Sheets : Type 0
+Sheets =
+    map sheetOf
     -- one tide, k = 1, b0 = 1
     ((0x54 ∷ 0x02 ∷ 0x20 ∷ 0x40 ∷ 0x00 ∷ 0x00 ∷ 0x00 ∷ [])
     -- the same after 65,535 withdrawals
@@ -32,5 +29,3 @@ pub sheets : map sheetOf
     ∷ ascii "refused 8\n"
     ∷ ascii "refused 7\n"
     ∷ []
-unfolding sheetOf readReasons headReasons tideReasons decoded minimaAt tideAt byteLength bitLength binary triangle breaking distance tide noTide validMinima every sumBelow tabulate flatMap firstOf blockReasons figures blockRecord centresAmong centres centreOf choices block labels allSufficient assignments assignable candidates radius blocking diameter greatestDiameter meets sufficient problem countBelow greatest headD heading lines line closing refusedText decimal digits
-sheets = refl

@@ -1,3 +1,4 @@
--- Statements: Sheet, Cases, and `decided` of Limit. Laws for the code: Laws.
+-- Statements, to be read: Sheet, Cases, Limit. `blockedText` of Sheet is an inner promise, which only a private function cites.
 pub mod Sheet
 pub mod Cases
+pub mod Limit

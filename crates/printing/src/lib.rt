@@ -10,10 +10,9 @@ use study::Minima;
 use study::Refusal;
 ghost use mathlib.Core.Path.{_≡_};
 ghost use Prim.Native.Nat.{_≤_};
-ghost use lib.ListN.{take};
 ghost use Rattle.study.specs.Refusals.{numbered};
 ghost use Rattle.validity.specs.Memory.{stateOf};
-ghost use Rattle.sheet_text.specs.Text.{refusedText};
+ghost use Rattle.sheet_text.specs.Text.{refusedText, laidOut};
 ghost use Rattle.printing.specs.Sheet.{sheetOf};
 ghost use Rattle.printing.specs.Sheet.{blockedText};
 
@@ -30,7 +29,7 @@ fn blank() -> Dataset {
 
 // No block is printed of a refusal, so its records are blank.
 fn refused_sheet(why: Refusal) -> Text
-    ensures { λ r. ⌜ (r .length ≤ 2837) × (take (r .length) (r .bytes) ≡ refusedText (numbered why)) ⌝ }
+    ensures { λ r. ⌜ (r .length ≤ 2837) × (r ≡ laidOut (refusedText (numbered why))) ⌝ }
 {
     let none = BlockRecord {
         centre: 0,
@@ -41,7 +40,7 @@ fn refused_sheet(why: Refusal) -> Text
 }
 
 fn blocked_sheet(dataset: Dataset, distances: &[u32], settings: &[u8]) -> Text
-    ensures { λ r. ⌜ (r .length ≤ 2837) × (take (r .length) (r .bytes) ≡ blockedText (stateOf dataset (now (distances .entry)) (now (settings .entry)))) ⌝ }
+    ensures { λ r. ⌜ (r .length ≤ 2837) × (r ≡ laidOut (blockedText (stateOf dataset (now (distances .entry)) (now (settings .entry))))) ⌝ }
 {
     let mut list = [0u8; 120];
     let blocked = block_by_value(dataset, distances, settings, &mut list);
@@ -52,7 +51,8 @@ fn blocked_sheet(dataset: Dataset, distances: &[u32], settings: &[u8]) -> Text
 
 // The sheet of any bytes: a study file's blocks, or why there are none.
 pub fn sheet(file: &[u8]) -> Text
-    ensures { λ r. ⌜ (r .length ≤ 2837) × (take (r .length) (r .bytes) ≡ sheetOf (now (file .entry))) ⌝ }
+    ensures fits { λ r. ⌜ r .length ≤ 2837 ⌝ }
+    ensures text { λ r. ⌜ r ≡ laidOut (sheetOf (now (file .entry))) ⌝ }
 {
     let before = blank();
     let mut distances = [0u32; 14400];

@@ -1,6 +1,6 @@
 -- A refusal's number in code. Assumes nothing.
 use Prim.Native.Nat.{ℕ}
-use Rattle.study.specs.Refusals.{Numbered, number, seven}
+use Rattle.study.specs.Refusals.{Numbered, number, seven, Verdict, accepted, refused}
 use Rattle.refusal_numbers.specs.declared.Number.{Number}
 use Rattle.refusal_numbers.specs.declared.Number.the-variants.{Alone, Seven}
 
@@ -13,3 +13,8 @@ saidBy (Seven i j) = seven i j
 abbrev pub numberOf : Numbered → ℕ
 numberOf (number n) = n
 numberOf (seven i j) = 7
+
+-- 0 of an accepted call, else the number of its refusal
+abbrev pub refusalNumber : Verdict → ℕ
+refusalNumber accepted = 0
+refusalNumber (refused r) = numberOf r

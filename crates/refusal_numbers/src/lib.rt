@@ -1,8 +1,9 @@
 // Document 01's numbers of the refusals.
+use study::Answer;
 use study::Refusal;
 ghost use mathlib.Core.Path.{_≡_};
-ghost use Rattle.study.specs.Refusals.{numbered};
-ghost use Rattle.refusal_numbers.specs.Numbers.{saidBy, numberOf};
+ghost use Rattle.study.specs.Refusals.{numbered, verdictOf};
+ghost use Rattle.refusal_numbers.specs.Numbers.{saidBy, numberOf, refusalNumber};
 
 // A number alone, or 7 with its pair.
 pub enum Number {
@@ -43,5 +44,15 @@ pub fn number_of(refusal: Refusal) -> u32
     match number {
         Number::Alone(n) => n,
         Number::Seven(_, _) => 7,
+    }
+}
+
+// 0 where a call is done, else the number of its refusal, without the pair.
+pub fn refusal_number(answer: Answer) -> u8
+    ensures { λ r. ⌜ r ≡ refusalNumber (verdictOf answer) ⌝ }
+{
+    match answer {
+        Answer::Done => 0,
+        Answer::Refused(why) => number_of(why) as u8,
     }
 }

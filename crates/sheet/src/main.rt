@@ -10,7 +10,7 @@ fn print(bytes: [u8; 2837], length: usize)
 }
 
 fn main() {
-    // one byte more than the longest file decides (`decided` of printing/specs/Limit.antt)
+    // one byte more than the longest file decides (`Decided` of printing/specs/Limit.antt)
     let mut input = [0u8; 17909];
     let count = io::read_full(STDIN_FILENO, &mut input);
     let text = printing::sheet(&input[..count]);

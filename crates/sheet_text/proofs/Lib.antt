@@ -2,3 +2,4 @@
 pub mod NumberLaws
 pub mod PuttingLaws
 pub mod LineLaws
+pub mod CasesProof

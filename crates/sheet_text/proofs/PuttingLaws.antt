@@ -4,8 +4,10 @@ use native.Mathlib.Omega.{arith}
 use native.Mathlib.Numerals.{add-one}
 use mathlib.Core.Path.{_≡_, refl, sym, ap, ap₂, _∙_, subst}
 use mathlib.Core.List.{List, [], _∷_, _++_, append-nil, append-assoc}
-use lib.ListN.{length, take, drop, getD, set, length-append, length-set, take-append-drop}
+use lib.ListN.{length, take, drop, replicate, getD, set, length-append, length-set, take-append-drop}
 use lib.Seq.{length-take-le, take-at, drop-at, drop-drop, set-split, take-suc, take-all, append-snoc}
+use Rattle.sheet_text.specs.declared.Text.{Text}
+use Rattle.sheet_text.specs.Text.{laidOut}
 use Rattle.sheet_text.specs.Putting.{Puts}
 
 pub puts-none : (l : List ℕ) (at : ℕ) → at ≤ length l → Puts l at [] at l
@@ -45,9 +47,15 @@ puts-then {l} {m} {n} {at} {mid} {end} {a} {b} p q =
 pub puts-as : {l m : List ℕ} {at end end′ : ℕ} {a b : List ℕ} → Puts l at a end m → a ≡ b → end ≡ end′ → Puts l at b end′ m
 puts-as {l} {m} {at} {end} {end′} {a} {b} p e f = subst (λ x. Puts l at b x m) f (subst (λ x. Puts l at x end m) e p)
 
--- memory filled from its first place on
-pub puts-front : {l m : List ℕ} {end : ℕ} {text : List ℕ} → Puts l 0 text end m → take end m ≡ text
-puts-front {l} {m} {end} {text} p = ap (take end) (p .is) ∙ take-at text (drop end l) end (omega (arith, p .ends))
+-- zeros filled from the first place on, and where the text ends
+abbrev with-end : List ℕ → ℕ → Text
+with-end bytes end = record { bytes = bytes; length = end }
+
+pub puts-text : {bytes : List ℕ} {end : ℕ} {text : List ℕ} → Puts (replicate 2837 0) 0 text end bytes → with-end bytes end ≡ laidOut text
+unfolding laidOut
+puts-text {bytes} {end} {text} p =
+    let e : end ≡ length text = omega (arith, p .ends) in
+    ap₂ with-end (p .is ∙ ap (λ n. text ++ drop n (replicate 2837 0)) e) e
 
 -- ---- a loop that copies a text byte by byte
 

@@ -1,4 +1,4 @@
--- Statements: Text, Cases. Laws for the code and proofs: the rest.
+-- Statements, to be read: Text, Cases. Inner promises, which only contracts of private functions cite: Putting, Lines.
 pub mod Text
 pub mod Cases
 pub mod Putting

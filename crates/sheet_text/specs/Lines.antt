@@ -1,4 +1,4 @@
--- The sheet put field after field: each line's length at most, and that its fields make it up. Assumes nothing.
+-- A number with the words and the byte around it, as the code puts it. Assumes nothing.
 use Prim.Native.Nat.{ℕ}
 use mathlib.Core.List.{List, [], _∷_, _++_}
 use Rattle.sheet_text.specs.Text.{decimal}

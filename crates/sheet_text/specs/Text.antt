@@ -5,11 +5,12 @@ use Prim.Native.String.{String, [] as end, _∷_ as _before_}
 use mathlib.Core.Bool.{cond}
 use mathlib.Core.List.{List, [], _∷_, _++_}
 use lib.Dec.{ltb}
-use lib.ListN.{take}
+use lib.ListN.{length, take, drop, replicate}
 use Rattle.study.specs.declared.BlockRecord.{BlockRecord}
 use Rattle.study.specs.Refusals.{Numbered, Reply, value, refusal}
 use Rattle.study.specs.Calls.{Figures}
 use Rattle.refusal_numbers.specs.Numbers.{numberOf}
+use Rattle.sheet_text.specs.declared.Text.{Text}
 
 -- the bytes of a text
 abbrev pub ascii : String → List ℕ
@@ -61,3 +62,7 @@ refusedText r = ascii "refused " ++ decimal (numberOf r) ++ ascii "\n"
 abbrev pub sheetText : Reply Figures → List BlockRecord → ℕ → List ℕ
 sheetText (value F) records withdrawn = heading ++ lines 1 (take (F .blocks) records) ++ closing (F .radius) (F .widest) withdrawn
 sheetText (refusal r) records withdrawn = refusedText r
+
+-- a text by value: its bytes over the front of 2,837 zeros, and its length
+unfoldable pub laidOut : List ℕ → Text
+laidOut text = record { bytes = text ++ drop (length text) (replicate 2837 0); length = length text }

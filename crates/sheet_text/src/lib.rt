@@ -12,12 +12,12 @@ mod putting;
 
 ghost use mathlib.Core.Path.{_≡_};
 ghost use Prim.Native.Nat.{_≤_};
-ghost use lib.ListN.{length, take};
+ghost use lib.ListN.{length};
 ghost use Rattle.study.specs.Calls.{blockedOf};
-ghost use Rattle.sheet_text.specs.Text.{sheetText};
+ghost use Rattle.sheet_text.specs.Text.{sheetText, laidOut};
 ghost use Rattle.sheet_text.specs.Putting.{Puts};
 
-// The text is the first `length` bytes: at most 26 of heading, 120 lines of 23 and a last line of 51.
+// The text is the first `length` bytes, zeros stand after it: at most 26 of heading, 120 lines of 23 and a last line of 51.
 pub struct Text {
     pub bytes: [u8; 2837],
     pub length: usize,
@@ -38,7 +38,8 @@ fn put_sheet(out: &mut [u8], answer: Blocked, records: [BlockRecord; 120], withd
 }
 
 pub fn sheet_text(answer: Blocked, records: [BlockRecord; 120], withdrawn: u16) -> Text
-    ensures { λ r. ⌜ (r .length ≤ 2837) × (take (r .length) (r .bytes) ≡ sheetText (blockedOf answer) records withdrawn) ⌝ }
+    ensures fits { λ r. ⌜ r .length ≤ 2837 ⌝ }
+    ensures text { λ r. ⌜ r ≡ laidOut (sheetText (blockedOf answer) records withdrawn) ⌝ }
 {
     let mut bytes = [0u8; 2837];
     let length = put_sheet(&mut bytes, answer, records, withdrawn);

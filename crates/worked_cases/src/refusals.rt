@@ -63,11 +63,19 @@ fn judge_number(dataset: Dataset, distances: &[u32], settings: &[u8], list: &[u8
     }
 }
 
-// Whether the front that Centres hands back is empty. The list has a place.
-fn no_front(dataset: Dataset, distances: &[u32], settings: &[u8]) -> bool {
+// Whether Centres hands back an empty front of a list of one place, and leaves this number.
+fn no_front(dataset: Dataset, distances: &[u32], settings: &[u8], number: u32) -> bool {
     let mut list = [170u8; 1];
-    let front = blocking::centres::centres(dataset, distances, settings, 1, &mut list);
-    front.len() == 0
+    let mut refusal: u8 = 99;
+    let front = blocking::centres::centres(
+        dataset,
+        distances,
+        settings,
+        1,
+        &mut list,
+        &mut refusal,
+    );
+    front.len() == 0 && refusal as u32 == number
 }
 
 // The three calls with a list of one place, which holds no valid number for Judge.
@@ -84,7 +92,7 @@ fn refused(
     let mut second = [170u8; 1];
     so_far
         .see(centres_number(dataset, distances, settings, &mut first) == centres)
-        .see(no_front(dataset, distances, settings))
+        .see(no_front(dataset, distances, settings, centres))
         .see(block_number(dataset, distances, settings, &mut second) == block)
         .see(judge_number(dataset, distances, settings, &[0]) == judge)
 }

@@ -1,8 +1,9 @@
 -- `blocked_sheet` meets its contract: the text of what Block answers. Assumes nothing.
-use mathlib.Core.Path.{_∙_}
+use mathlib.Core.Path.{ap, _∙_}
 use Prim.Native.Nat.{ℕ}
 use lib.ListN.{length-replicate}
 use Rattle.validity.specs.Memory.{stateOf}
+use Rattle.sheet_text.specs.Text.{laidOut}
 use Rattle.printing.proofs.Laws.{blocked-text}
 use borrow.Author.Needs.{needs}
 use Rattle.printing.proofs.blocked_sheet.Statement.{statement}
@@ -13,7 +14,8 @@ returns c =
     let a = c .before .before .before .before .before .before .before .args in
     let blocked = c .before .before .before .block-by-value .ensures in
     let text = c .sheet-text .ensures in
-    (text .0, text .1 ∙ blocked-text (stateOf (a .dataset) (a .distances .now) (a .settings .now)) _ (length-replicate {A = ℕ} 120 0) (blocked .0) (blocked .1 .1))
+    let s = stateOf (a .dataset) (a .distances .now) (a .settings .now) in
+    (text .0, text .1 ∙ ap laidOut (blocked-text s _ (length-replicate {A = ℕ} 120 0) (blocked .0) (blocked .1 .1)))
 
 pub blocked-sheet-spec : {M : Type 1} → statement M
 blocked-sheet-spec =

@@ -56,10 +56,10 @@ use Rattle.blocking.proofs.block.block_core as core
 use Rattle.blocking.proofs.block.block_core.Symbol as core-def
 use Rattle.blocking.proofs.block.block_core.Symbol.{name as #block-core}
 use Rattle.blocking.proofs.block.block_core.Met as core-thm
-use Rattle.blocking.proofs.records.put_records as put
-use Rattle.blocking.proofs.records.put_records.Symbol as put-def
-use Rattle.blocking.proofs.records.put_records.Symbol.{name as #put-records}
-use Rattle.blocking.proofs.records.put_records.Met as put-thm
+use Rattle.blocking.proofs.storing.put_records as put
+use Rattle.blocking.proofs.storing.put_records.Symbol as put-def
+use Rattle.blocking.proofs.storing.put_records.Symbol.{name as #put-records}
+use Rattle.blocking.proofs.storing.put_records.Met as put-thm
 use Rattle.blocking.proofs.records.block.Key.{name as #block}
 use Rattle.blocking.proofs.records.block as f
 use Rattle.blocking.proofs.records.block.Statement as stated
@@ -232,4 +232,4 @@ block-spec 𝓤 H 𝓜 𝓖 𝓡 =
     walk-proves 𝓤 H 𝓜 𝓖 𝓡 code.env f.ended stayed (goes 𝓤 H (𝓖 .A) W) (f.clauses 𝓤 H (𝓖 .A) (𝓜 .mem) (𝓡 .run)) #block code.function (code.unfolded 𝓤 H 𝓜 𝓡)
     (walks 𝓤 H (𝓖 .A) W (𝓜 .mem) (𝓡 .run) (table 𝓤 H 𝓜 𝓡 code.env)
     (known 𝓤 H 𝓜 𝓖 𝓡 code.env core.ended (core.clauses 𝓤 H (𝓖 .A) (𝓜 .mem) (𝓡 .run)) #block-core core-def.routine code.calls-blocking·block·block-core (core-thm.met 𝓤 H 𝓜 𝓖 𝓡))
-    (known 𝓤 H 𝓜 𝓖 𝓡 code.env put.ended (put.clauses 𝓤 H (𝓖 .A) (𝓜 .mem) (𝓡 .run)) #put-records put-def.routine code.calls-blocking·records·put-records (put-thm.met 𝓤 H 𝓜 𝓖 𝓡)))
+    (known 𝓤 H 𝓜 𝓖 𝓡 code.env put.ended (put.clauses 𝓤 H (𝓖 .A) (𝓜 .mem) (𝓡 .run)) #put-records put-def.routine code.calls-blocking·storing·put-records (put-thm.met 𝓤 H 𝓜 𝓖 𝓡)))

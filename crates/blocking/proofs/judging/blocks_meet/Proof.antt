@@ -8,8 +8,8 @@ use Rattle.lists.specs.Lists.{every}
 use Rattle.lists.proofs.Scans.{every-none, every-more, every-fails, every-done, test-passes, test-fails}
 use Rattle.study.specs.Problem.{block, labels}
 use Rattle.study.specs.Study.{meets}
-use Rattle.blocking.proofs.judge.blocks_meet.Statement.{statement}
-use Rattle.blocking.proofs.judge.blocks_meet.Tie as tie
+use Rattle.blocking.proofs.judging.blocks_meet.Statement.{statement}
+use Rattle.blocking.proofs.judging.blocks_meet.Tie as tie
 
 abbrev Inv-loop : tie.InvT-loop
 Inv-loop settings n minima list t₀ t = (t ≤ n) × (every t (λ u. meets minima n (λ x. getD settings x 0) (block (labels list) (labels list u))) ≡ true)

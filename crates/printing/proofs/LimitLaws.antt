@@ -1,4 +1,4 @@
--- Of an input that is longer than the longest file, of 17,908 bytes, one byte more decides. Assumes nothing.
+-- The statement of specs/Limit.antt: a longer input is refused, and by its first 19 bits alone. Assumes nothing.
 use Prim.Native.Nat.{ℕ, _+_, _/_, _%_, _^_, _-_, _≤_, _<_}
 use native.Mathlib.Omega.{arith}
 use mathlib.Core.Path.{_≡_, refl, sym, ap, ap₂, _∙_}
@@ -19,6 +19,7 @@ use Rattle.file_format.proofs.ReadLaws.{refused-head}
 use Rattle.study_file.proofs.Lengths.{length-sum}
 use Rattle.sheet_text.specs.Text.{refusedText}
 use Rattle.printing.specs.Sheet.{sheetOf}
+use Rattle.printing.specs.Limit.{Decided}
 use Rattle.printing.proofs.Laws.{refusing}
 
 -- why it is refused, of its mark, number of tides and k
@@ -65,5 +66,5 @@ cut s l =
     ∙ ap₂ (tooLong (bitsAt s 0 8)) (same-bits s m 8 7 (omega arith)) (same-bits s m 15 4 (omega arith)))
     ∙ sym (sheet-long s m)
 
-pub decided : (input : List ℕ) → sheetOf (take 17909 input) ≡ sheetOf input
+pub decided : Decided
 decided input = ⊎-elim (λ l. ap sheetOf (take-all 17909 input (omega arith))) (cut input) (split (length input) 17909)

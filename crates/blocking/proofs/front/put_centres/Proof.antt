@@ -5,8 +5,8 @@ use Rattle.lists.specs.Lists.{overwrite}
 use lib.ListN.{length, getD}
 use mathlib.Core.Path.{_≡_, refl, ap, _∙_}
 use Prim.Native.Nat.{_+_, _≤_, _-_}
-use Rattle.blocking.proofs.centres.put_centres.Statement.{statement}
-use Rattle.blocking.proofs.centres.put_centres.Tie as tie
+use Rattle.blocking.proofs.front.put_centres.Statement.{statement}
+use Rattle.blocking.proofs.front.put_centres.Tie as tie
 
 abbrev Inv-loop : tie.InvT-loop
 Inv-loop centres count list₀ i₀ list i = (i ≤ count) × (list ≡ overwrite i (λ x. getD centres x 0 + 1) list₀)

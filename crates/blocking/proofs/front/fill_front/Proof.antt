@@ -3,8 +3,8 @@ use native.Mathlib.Omega.{arith}
 use Rattle.blocking.proofs.CentresLaws.{centres-filled}
 use Rattle.radius.proofs.FrontLaws.{front-fits, front-few, front-below}
 use borrow.Author.Needs.{needs}
-use Rattle.blocking.proofs.centres.fill_front.Statement.{statement}
-use Rattle.blocking.proofs.centres.fill_front.Tie as tie
+use Rattle.blocking.proofs.front.fill_front.Statement.{statement}
+use Rattle.blocking.proofs.front.fill_front.Tie as tie
 
 find-centres-requires : tie.Need-find-centres-requires
 find-centres-requires c κs = let p = c .before .before .before .before .pre .passed in (p .dataset .few, omega (arith, p .dataset .few, p .long .distances), omega arith)

@@ -1,4 +1,5 @@
--- `blocking::records::put_records` meets its contract: a walk of its MIR, by hand, with a loop. The borrow is opened before the loop and closed after it; between the two the first i places hold the rows' records.
+-- `blocking::storing::put_records` meets its contract: a walk of its MIR, by hand, with a loop. The borrow is opened before the
+-- loop and closed after it; between the two the first i places hold the rows' records.
 -- A turn passes the rows by value to `row_at`: they are plain data, so what they own is made anew for each call. Assumes nothing.
 use mathlib.Core.Path.{_≡_, refl, sym, ap, subst}
 use Prim.Native.Nat.{ℕ, zero-le, _+_, _-_, _*_, _<_, _≤_, _^_}
@@ -53,15 +54,15 @@ use Rattle.study.proofs.BlockRecord as T
 use Rattle.study.proofs.BlockRecord.Laws as T′
 use Rattle.blocking.proofs.block.BlockRows as B
 use Rattle.blocking.proofs.block.BlockRows.Laws as B′
-use Rattle.blocking.proofs.records.row_at as row-at
-use Rattle.blocking.proofs.records.row_at.Symbol as row-at-def
-use Rattle.blocking.proofs.records.row_at.Symbol.{name as #row-at}
-use Rattle.blocking.proofs.records.row_at.Met as row-at-thm
-use Rattle.blocking.proofs.records.put_records.Key.{name as #put-records}
-use Rattle.blocking.proofs.records.put_records as f
-use Rattle.blocking.proofs.records.put_records.Statement as stated
-use Rattle.blocking.proofs.records.put_records.Code as code
-use Rattle.blocking.proofs.records.put_records.Code.Mir as piece
+use Rattle.blocking.proofs.storing.row_at as row-at
+use Rattle.blocking.proofs.storing.row_at.Symbol as row-at-def
+use Rattle.blocking.proofs.storing.row_at.Symbol.{name as #row-at}
+use Rattle.blocking.proofs.storing.row_at.Met as row-at-thm
+use Rattle.blocking.proofs.storing.put_records.Key.{name as #put-records}
+use Rattle.blocking.proofs.storing.put_records as f
+use Rattle.blocking.proofs.storing.put_records.Statement as stated
+use Rattle.blocking.proofs.storing.put_records.Code as code
+use Rattle.blocking.proofs.storing.put_records.Code.Mir as piece
 
 abbrev stayed : Stays (f.ended .signature .params) (f.ended .kept)
 stayed = (stay-slice (0 ∷ []) tt (plain (λ _. R)), (stay-none (λ _. B.the-row) yes, tt))
@@ -241,4 +242,4 @@ put-records-spec 𝓤 H 𝓜 𝓖 𝓡 =
     let W = givenOf 𝓤 H 𝓜 𝓖 in
     walk-proves 𝓤 H 𝓜 𝓖 𝓡 code.env f.ended stayed (goes 𝓤 H (𝓖 .A) W) (f.clauses 𝓤 H (𝓖 .A) (𝓜 .mem) (𝓡 .run)) #put-records code.function (code.unfolded 𝓤 H 𝓜 𝓡)
     (walks 𝓤 H (𝓖 .A) W (𝓜 .mem) (𝓡 .run) (table 𝓤 H 𝓜 𝓡 code.env)
-    (known 𝓤 H 𝓜 𝓖 𝓡 code.env row-at.ended (row-at.clauses 𝓤 H (𝓖 .A) (𝓜 .mem) (𝓡 .run)) #row-at row-at-def.routine code.calls-blocking·records·row-at (row-at-thm.met 𝓤 H 𝓜 𝓖 𝓡)))
+    (known 𝓤 H 𝓜 𝓖 𝓡 code.env row-at.ended (row-at.clauses 𝓤 H (𝓖 .A) (𝓜 .mem) (𝓡 .run)) #row-at row-at-def.routine code.calls-blocking·storing·row-at (row-at-thm.met 𝓤 H 𝓜 𝓖 𝓡)))

@@ -2,8 +2,8 @@
 use borrow.Author.Needs.{needs}
 use native.Mathlib.Omega.{arith}
 use Rattle.blocking.proofs.BlockLaws.{told-sized, told-proper, block-value, block-rows, block-list}
-use Rattle.blocking.proofs.block.compute.Statement.{statement}
-use Rattle.blocking.proofs.block.compute.Tie as tie
+use Rattle.blocking.proofs.computing.compute.Statement.{statement}
+use Rattle.blocking.proofs.computing.compute.Tie as tie
 
 block-rows-requires : tie.Need-block-rows-requires
 block-rows-requires c κs = let p = c .before .before .before .before .pre in (told-sized _ _ _ p, (told-proper _ _ _ p, (p .some-tide, p .list-room)))

@@ -6,8 +6,8 @@ use mathlib.Core.Path.{_≡_}
 use Rattle.study.specs.Problem.{block, labels}
 use Rattle.radius.specs.Tally.{Tallied}
 use Rattle.radius.proofs.TallyLaws.{tallied-none, tallied-more, tallied-done, tallied-long, tallied-few, tallied-small}
-use Rattle.blocking.proofs.judge.count_block.Statement.{statement}
-use Rattle.blocking.proofs.judge.count_block.Tie as tie
+use Rattle.blocking.proofs.judging.count_block.Statement.{statement}
+use Rattle.blocking.proofs.judging.count_block.Tie as tie
 
 abbrev Inv-loop : tie.InvT-loop
 Inv-loop settings n list number counts₀ found₀ t₀ counts found t = (t ≤ n) × Tallied settings (block (labels list) number) t found counts

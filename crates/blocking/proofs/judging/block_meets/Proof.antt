@@ -2,8 +2,8 @@
 use borrow.Author.Needs.{needs}
 use mathlib.Core.Path.{_∙_}
 use Rattle.radius.proofs.TallyLaws.{tallied-long, met-meets}
-use Rattle.blocking.proofs.judge.block_meets.Statement.{statement}
-use Rattle.blocking.proofs.judge.block_meets.Tie as tie
+use Rattle.blocking.proofs.judging.block_meets.Statement.{statement}
+use Rattle.blocking.proofs.judging.block_meets.Tie as tie
 
 counts-meet-requires : tie.Need-counts-meet-requires
 counts-meet-requires c κs = tallied-long (c .before .count-block .ensures)

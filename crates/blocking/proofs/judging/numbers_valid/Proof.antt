@@ -7,8 +7,8 @@ use mathlib.Core.Bool.{true}
 use Rattle.lists.specs.Lists.{between, every}
 use Rattle.lists.proofs.Scans.{every-none, every-more, every-fails, every-done, test-passes, test-fails}
 use Rattle.study.specs.Problem.{labels}
-use Rattle.blocking.proofs.judge.numbers_valid.Statement.{statement}
-use Rattle.blocking.proofs.judge.numbers_valid.Tie as tie
+use Rattle.blocking.proofs.judging.numbers_valid.Statement.{statement}
+use Rattle.blocking.proofs.judging.numbers_valid.Tie as tie
 
 abbrev Inv-loop : tie.InvT-loop
 Inv-loop list n t₀ t = (t ≤ n) × (every t (λ u. between 1 255 (labels list u)) ≡ true)

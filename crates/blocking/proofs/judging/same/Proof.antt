@@ -1,8 +1,8 @@
 -- One test. Assumes nothing.
 use native.Mathlib.Omega.{arith}
 use borrow.Author.Tests.{eq-eqb, ne-eqb}
-use Rattle.blocking.proofs.judge.same.Statement.{statement}
-use Rattle.blocking.proofs.judge.same.Tie as tie
+use Rattle.blocking.proofs.judging.same.Statement.{statement}
+use Rattle.blocking.proofs.judging.same.Tie as tie
 
 returns : tie.Need-returns
 returns c = (rw (eq-eqb _ _ (c .if1 .taken)), omega arith)

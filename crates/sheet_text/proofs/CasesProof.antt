@@ -1,0 +1,28 @@
+-- The statements of specs/Cases.antt, by computation. Assumes nothing.
+use mathlib.Core.Path.{refl}
+use Rattle.sheet_text.specs.Text.{digits, decimal, heading, line, lines, closing, refusedText}
+use Rattle.sheet_text.specs.Cases.{HeadingLength, OneTide, TwoBlocks, TooFew, ThreeTideRule, Decimals}
+
+pub heading-length : HeadingLength
+unfolding heading
+heading-length = refl
+
+pub one-tide : OneTide
+unfolding heading lines line closing decimal digits
+one-tide = refl
+
+pub two-blocks : TwoBlocks
+unfolding heading lines line closing decimal digits
+two-blocks = refl
+
+pub too-few : TooFew
+unfolding refusedText decimal digits
+too-few = refl
+
+pub three-tide-rule : ThreeTideRule
+unfolding refusedText decimal digits
+three-tide-rule = refl
+
+pub decimals : Decimals
+unfolding decimal digits
+decimals = refl
