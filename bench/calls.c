@@ -51,7 +51,7 @@ static uint32_t withdraw_enter(uint32_t *result) {
     uint8_t setting = settings[last - 1];
     record[11] = 0;
     memcpy(row, distances + (last - 1) * 120, sizeof row);
-    return tides_withdraw(DATASET, (uint8_t)last) || tides_enter(DATASET, setting, row, last - 1u);
+    return tides_withdraw(DATASET, last) || tides_enter(DATASET, setting, row, last - 1u);
 }
 
 static uint32_t judging(uint32_t *result) {

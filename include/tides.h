@@ -13,7 +13,8 @@ extern "C" {
  * A dataset is a record of 12 numbers (k, n, b0, b1 .. b8, withdrawals) and lent memory: 14,400 distances in rows of 120, and 120
  * settings. Longer lists keep what stands past these places. Tides are numbered from 1.
  *
- * Each list is a pointer that isn't null and a length in elements. Lists of one call don't overlap.
+ * Each list is a pointer that isn't null and a length in elements. Lists of one call don't overlap. Each single number has 32 bits and
+ * counts as it is given: 257 is no k, no setting and no tide.
  *
  * Each call answers 0, or the number of the first reason that holds, in the order given. For 7 it answers 7 + 256 i + 65,536 j,
  * where i < j is the first pair of tides with which the three-tide rule breaks. A refused call changes nothing.
@@ -32,7 +33,7 @@ extern "C" {
 
 /* The dataset becomes empty: the given k, b0 = 1, every b = 0, no withdrawals. Any record and memory will do. Reasons: 1, 2. */
 uint32_t tides_open(uint16_t *record, size_t record_length, uint32_t *distances, size_t distances_length, uint8_t *settings,
-                    size_t settings_length, uint8_t k);
+                    size_t settings_length, uint32_t k);
 
 /* Replaces the minima by 9 bytes: b0, b1 .. b8. Reasons: 1, 21, 3. */
 uint32_t tides_minima(uint16_t *record, size_t record_length, const uint32_t *distances, size_t distances_length,
@@ -40,11 +41,11 @@ uint32_t tides_minima(uint16_t *record, size_t record_length, const uint32_t *di
 
 /* One more tide, at the row's distances from the tides held. Reasons: 1, 21, 22, 4, 5, 6, 7. */
 uint32_t tides_enter(uint16_t *record, size_t record_length, uint32_t *distances, size_t distances_length, uint8_t *settings,
-                     size_t settings_length, uint8_t setting, const uint32_t *row, size_t row_length);
+                     size_t settings_length, uint32_t setting, const uint32_t *row, size_t row_length);
 
 /* The named tide goes, and later tides move down by one. Reasons: 1, 21, 23, 26. */
 uint32_t tides_withdraw(uint16_t *record, size_t record_length, uint32_t *distances, size_t distances_length, uint8_t *settings,
-                        size_t settings_length, uint8_t tide);
+                        size_t settings_length, uint32_t tide);
 
 /*
  * The centres at radius g, as tide numbers in the front of a list of at least n places; their number goes into count[0].

@@ -16,7 +16,7 @@ extern "C" {
         record: *mut u16, record_len: usize,
         distances: *mut u32, distances_len: usize,
         settings: *mut u8, settings_len: usize,
-        k: u8,
+        k: u32,
     ) -> u32;
     fn tides_minima(
         record: *mut u16, record_len: usize,
@@ -28,14 +28,14 @@ extern "C" {
         record: *mut u16, record_len: usize,
         distances: *mut u32, distances_len: usize,
         settings: *mut u8, settings_len: usize,
-        setting: u8,
+        setting: u32,
         row: *const u32, row_len: usize,
     ) -> u32;
     fn tides_withdraw(
         record: *mut u16, record_len: usize,
         distances: *mut u32, distances_len: usize,
         settings: *mut u8, settings_len: usize,
-        tide: u8,
+        tide: u32,
     ) -> u32;
     fn tides_centres(
         record: *const u16, record_len: usize,
@@ -159,17 +159,17 @@ impl World {
 #[derive(Clone, PartialEq)]
 enum Call {
     Open {
-        k: u8,
+        k: u32,
     },
     Minima {
         minima: Lent<u8>,
     },
     Enter {
-        setting: u8,
+        setting: u32,
         row: Lent<u32>,
     },
     Withdraw {
-        tide: u8,
+        tide: u32,
     },
     Centres {
         g: u32,
@@ -951,7 +951,7 @@ impl Run {
     fn propose_call(&self, rng: &mut Rng, what: usize, n: usize, k: usize) -> (Call, usize) {
         let mut point = 0;
         let call = match what {
-            0 => Call::Open { k: rng.within(1, 8) as u8 },
+            0 => Call::Open { k: rng.within(1, 8) as u32 },
             1 => {
                 let m = minima_for(rng, k, &self.w.settings.places[..n]);
                 let mut minima = room(rng, 9, 2);
@@ -962,9 +962,9 @@ impl Run {
                 point = rng.below(self.metric.len());
                 let row = self.row(rng, point);
                 let setting = if rng.one_in(3) { 1 } else { rng.within(1, k) };
-                Call::Enter { setting: setting as u8, row: exact(rng, &row) }
+                Call::Enter { setting: setting as u32, row: exact(rng, &row) }
             }
-            3 => Call::Withdraw { tide: rng.within(1, n.max(1)) as u8 },
+            3 => Call::Withdraw { tide: rng.within(1, n.max(1)) as u32 },
             4 => {
                 let g = match rng.below(6) {
                     0 => 0,
@@ -1087,11 +1087,18 @@ fn some_study(rng: &mut Rng, n: usize) -> Study {
     }
 }
 
+/// A number that is wrong, or nearly so, where 1 to `most` is asked for; some
+/// come round to x in their lowest 8 or 16 bits.
+fn wrong_number(rng: &mut Rng, x: u32, most: usize) -> u32 {
+    let round = x.wrapping_add(rng.pick(&[256, 65_536, 1 << 24, 1 << 31]));
+    rng.pick(&[0, most as u32 + 1, 9, 121, 255, 256, 257, u32::MAX, round, round])
+}
+
 /// Makes one argument of a call wrong.
 fn spoil_call(rng: &mut Rng, call: &mut Call, w: &World) {
     let k = w.k().clamp(1, 8);
     match call {
-        Call::Open { k } => *k = rng.pick(&[0, 9, 10, 16, 128, 255]),
+        Call::Open { k } => *k = wrong_number(rng, *k, 8),
         Call::Minima { minima } => match rng.below(6) {
             0 => minima.places[0] = rng.pick(&[0, 121, 128, 255]),
             1 => minima.places[rng.within(1, 8)] = 1,
@@ -1105,7 +1112,7 @@ fn spoil_call(rng: &mut Rng, call: &mut Call, w: &World) {
             _ => minima.places[rng.below(9)] = rng.next() as u8,
         },
         Call::Enter { setting, row } => match rng.below(8) {
-            0 => *setting = rng.pick(&[0, k as u8 + 1, 9, 255]),
+            0 => *setting = wrong_number(rng, *setting, k),
             1 => row.len += rng.within(1, 2).min(row.places.len() - row.len),
             2 => row.len -= rng.within(0, 2.min(row.len)),
             3 if row.len > 0 => {
@@ -1125,9 +1132,7 @@ fn spoil_call(rng: &mut Rng, call: &mut Call, w: &World) {
             }
             _ => *setting = 0,
         },
-        Call::Withdraw { tide } => {
-            *tide = rng.pick(&[0, (w.n() as u8).wrapping_add(1), 121, 255]);
-        }
+        Call::Withdraw { tide } => *tide = wrong_number(rng, *tide, w.n()),
         Call::Centres { g, .. } => *g = rng.next() as u32,
         Call::Block { .. } => {}
         Call::Judge { list, .. } => match rng.below(4) {
@@ -1175,7 +1180,7 @@ fn shorten(rng: &mut Rng, w: &mut World, call: &mut Call) {
 
 fn open(rng: &mut Rng, seen: &mut Seen, run: &mut Run) {
     let k = if rng.one_in(3) { 1 } else { rng.within(1, 8) };
-    let mut call = Call::Open { k: k as u8 };
+    let mut call = Call::Open { k: k as u32 };
     run.make(seen, &mut call, 0);
 }
 
@@ -1396,6 +1401,30 @@ fn every_place(seen: &mut Seen, rng: &mut Rng) {
     }
 }
 
+/// Each single number through 0 to 600 and around the powers of two.
+fn numbers(seen: &mut Seen, rng: &mut Rng) {
+    let file = plain::file_of(&known_study());
+    let mut run = Run::new(rng, 4);
+    let mut read = Call::Read { file: exact(rng, &file) };
+    expect(run.make(seen, &mut read, 0), 0, "the known file is read");
+    let powers = (9..32).flat_map(|bits| (0..10).map(move |more| (1u32 << bits) - 1 + more));
+    for x in (0..=600).chain(powers).chain([u32::MAX - 1, u32::MAX]) {
+        let row = exact(rng, &[5, 2, 0, 1, 5]);
+        for (mut call, most, reason) in [
+            (Call::Open { k: x }, 8, 2),
+            (Call::Enter { setting: x, row }, 2, 5),
+            (Call::Withdraw { tide: x }, 5, 23),
+        ] {
+            let expected = if (1..=most).contains(&x) { 0 } else { reason };
+            expect(
+                seen.call(&mut run.w.clone(), &mut call),
+                expected,
+                &format!("{} of {x}", NAMES[call.number()]),
+            );
+        }
+    }
+}
+
 /// Books of 120 tides, and nearly so.
 fn large(seen: &mut Seen, rng: &mut Rng, runs: usize) {
     for turn in 0..runs {
@@ -1405,7 +1434,7 @@ fn large(seen: &mut Seen, rng: &mut Rng, runs: usize) {
             open(rng, seen, &mut run);
             for t in 0..n {
                 let row = run.row(rng, t);
-                let setting = rng.within(1, run.w.k()) as u8;
+                let setting = rng.within(1, run.w.k()) as u32;
                 let mut call = Call::Enter { setting, row: exact(rng, &row) };
                 run.make(seen, &mut call, t);
             }
@@ -1454,7 +1483,7 @@ fn large(seen: &mut Seen, rng: &mut Rng, runs: usize) {
         // pairs with high numbers: a row that breaks the rule at one or two places
         let before = run.clone();
         if run.w.n() == TIDES {
-            run.make(seen, &mut Call::Withdraw { tide: rng.within(1, 120) as u8 }, 0);
+            run.make(seen, &mut Call::Withdraw { tide: rng.within(1, 120) as u32 }, 0);
         }
         for _ in 0..8 {
             let n = run.w.n();
@@ -1500,10 +1529,10 @@ fn worked(seen: &mut Seen, rng: &mut Rng) {
     ];
     let line = |seen: &mut Seen, rng: &mut Rng, at: &[i32], settings: &[u8], k: u8| -> Run {
         let mut run = Run::new(rng, 1);
-        expect(run.make(seen, &mut Call::Open { k }, 0), 0, "Open");
+        expect(run.make(seen, &mut Call::Open { k: k as u32 }, 0), 0, "Open");
         for t in 0..at.len() {
             let row: Vec<u32> = (0..t).map(|e| at[t].abs_diff(at[e])).collect();
-            let mut call = Call::Enter { setting: settings[t], row: exact(rng, &row) };
+            let mut call = Call::Enter { setting: settings[t] as u32, row: exact(rng, &row) };
             expect(run.make(seen, &mut call, 0), 0, "Enter");
         }
         run
@@ -1585,6 +1614,7 @@ fn main() {
         ("worked cases", Box::new(worked)),
         ("each slice short", Box::new(short)),
         ("every place", Box::new(every_place)),
+        ("every number", Box::new(numbers)),
         ("to 9 tides", Box::new(|s, r| sound(s, r, 2500, 9, 40))),
         ("to 14 tides", Box::new(|s, r| sound(s, r, 500, 14, 60))),
         ("to 30 tides", Box::new(|s, r| sound(s, r, 60, 30, 100))),

@@ -26,7 +26,8 @@ use Rattle.dataset.proofs.Ways.{accepted-held}
 use Rattle.blocking.specs.declared.block.BlockRows.{BlockRows}
 use Rattle.blocking.specs.Answers.{blockAnswer, blockReply, blockList, blockRecords}
 use Rattle.blocking.specs.Rows.{rowAt, noRecord, RowsOf}
-use Rattle.c_api.specs.Api.{Lent, code, over, output, Places, places, recordRoom, blockVerdict, column, figureNumbers, blockLeft}
+use Rattle.guarantee.specs.Runs.{figureNumbers}
+use Rattle.c_api.specs.Api.{Lent, code, over, output, Places, places, recordRoom, blockVerdict, column, blockLeft}
 use Rattle.c_api.proofs.RecordLaws.{withRecord, front-written}
 use Rattle.c_api.specs.Records.{Narrow}
 use Rattle.c_api.proofs.CodeLaws.{small, held-narrow}
@@ -47,7 +48,7 @@ module _ (s : State) (list : List ℕ) (room : ℕ) where
       let ok = for-datasets .valid s (true-T (isDataset s) (A .tested)) .study in
       for-problem (problem S) (for-study S ok .lawful) .singled (not-not (sufficient S (λ t. true)) (w .1 .0)) .assignment .long
 
-  list-output : blockList s list room ≡ output (blockAnswer s (length list) room) (blocking (problem S)) list
+  pub list-output : blockList s list room ≡ output (blockAnswer s (length list) room) (blocking (problem S)) list
   unfolding blockList output over
   list-output = by (blockAnswer s (length list) room) blocking-long
     where

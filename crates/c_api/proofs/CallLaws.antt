@@ -27,10 +27,12 @@ use Rattle.validity.specs.Memory.{State, stateOf, short, isDataset, contentsOf,
 use Rattle.dataset.specs.Answers.{freshAnswer, heldAnswer, openAnswer, openLeaves, minimaAnswer, minimaLeaves, enterAnswer, enterLeaves, withdrawAnswer, withdrawLeaves}
 use Rattle.validity.proofs.Proofs.{for-datasets}
 use Rattle.dataset.proofs.Ways.{accepted-held}
+use Rattle.narrowing.specs.Narrowing.{narrowed, narrowDataset}
+use Rattle.narrowing.proofs.Proofs.{unchanged}
 use Rattle.study_file.specs.Answers.{readAnswer, readLeaves}
-use Rattle.c_api.specs.Api.{Lent, lent, minimaAt, numbersOf, stateIn, code, roomFirst, lacks, over, left, openVerdict, openLeft, minimaVerdict, minimaLeft, enterVerdict, enterLeft, withdrawVerdict, withdrawLeft, readVerdict, readLeft}
-use Rattle.c_api.specs.Records.{cut, datasetBy, Narrow, Storable}
-use Rattle.c_api.proofs.RecordLaws.{withRecord, held-same, contents-same, read-back}
+use Rattle.c_api.specs.Api.{Lent, lent, minimaAt, datasetOf, numbersOf, stateIn, code, roomFirst, lacks, over, left, openVerdict, openLeft, minimaVerdict, minimaLeft, enterVerdict, enterLeft, withdrawVerdict, withdrawLeft, readVerdict, readLeft}
+use Rattle.c_api.specs.Records.{Narrow, Storable}
+use Rattle.c_api.proofs.RecordLaws.{withRecord, read-back}
 use Rattle.c_api.proofs.CodeLaws.{AllNarrow, small, first-narrow, append-narrow, runs-narrow, pair-narrow, fresh-narrow, held-narrow}
 
 -- ---- a list of fixed size
@@ -57,7 +59,8 @@ lacks-neither {n} {m} l k a b = rw (lacks-no n l a, lacks-no m k b)
 
 -- ---- a record that is written
 
-pub settle-done : {a : Answer} {new : List ℕ} (xs old : List ℕ) → a ≡ Done → new ≡ over xs old → (0 ≡ code (verdictOf a)) × (new ≡ settled (verdictOf a) (over xs old) old)
+pub settle-done : {a : Answer} {new : List ℕ} (xs old : List ℕ) → a ≡ Done → new ≡ over xs old
+    → (0 ≡ code (verdictOf a)) × (new ≡ settled (verdictOf a) (over xs old) old)
 settle-done xs old e q = (sym (ap (λ x. code (verdictOf x)) e), q ∙ sym (ap (λ x. settled (verdictOf x) (over xs old) old) e))
 
 -- ---- a call that answers v, and leaves H where it is accepted
@@ -137,12 +140,14 @@ pub record Same (v′ v : Verdict) (H′ H : Contents) : Type 0 where
   pub verdict : v′ ≡ v
   pub contents : v ≡ accepted → H′ ≡ H
 
-module _ (l : Lent) {r : Dataset} (e : r ≡ datasetBy cut (l .numbers)) where
+module _ (l : Lent) {r : Dataset} (e : r ≡ narrowDataset (datasetOf (l .numbers))) where
   pub same-held : (own : Contents → List Reason) (f : Contents → Contents)
       → Same (heldAnswer (withRecord l r) own) (heldAnswer (stateIn l) own) (f (contentsOf (withRecord l r))) (f (contentsOf (stateIn l)))
+  unfolding stateIn
   same-held own f =
+      let N = unchanged (stateIn l) .on-record own in
       subst (λ x. Same (heldAnswer (withRecord l x) own) (heldAnswer (stateIn l) own) (f (contentsOf (withRecord l x))) (f (contentsOf (stateIn l)))) (sym e)
-      (record { verdict = held-same l own; contents = λ q. ap f (contents-same l own q) })
+      (record { verdict = N .0; contents = λ q. ap (λ s. f (contentsOf s)) (N .1 q) })
 
   pub same-fresh : (own : Verdict) (H : Contents) → Same (freshAnswer (withRecord l r) own) (freshAnswer (stateIn l) own) H H
   unfolding freshAnswer short stateIn
@@ -158,7 +163,7 @@ left-scant l v s e = (rw e, rw e)
 -- a call got the record in l as o and made r of it; its verdict w gave the code c and the numbers m
 pub record Settled (l : Lent) (o r : Dataset) (w : Verdict) (c : ℕ) (m : List ℕ) : Type 0 where
   pub room : 12 ≤ length (l .numbers)
-  pub held : o ≡ datasetBy cut (l .numbers)
+  pub held : o ≡ narrowDataset (datasetOf (l .numbers))
   pub answer : c ≡ code w
   pub written : m ≡ settled w (over (numbersOf r) (l .numbers)) (l .numbers)
 
@@ -183,13 +188,17 @@ module _ {l : Lent} {o r : Dataset} {w : Verdict} {c : ℕ} {m : List ℕ} (D : 
             → m ≡ settled x (over (numbersOf r) (l .numbers)) (l .numbers) → lent m d g ≡ left l x (settled x (stored H (stateIn l)) (stateIn l))
         by accepted f t n =
             let z = t ∙ ap (λ K. stored K (stateIn l)) (f refl) in
-            λ i. record { numbers = (n ∙ ap (λ (y : State). over (numbersOf (y .dataset)) (l .numbers)) z) i; distances = z i .distances; settings = z i .settings }
+            let w = n ∙ ap (λ (y : State). over (numbersOf (y .dataset)) (l .numbers)) z in
+            λ i. record { numbers = w i; distances = z i .distances; settings = z i .settings }
         by (refused y) f t n = λ i. record { numbers = n i; distances = t i .distances; settings = t i .settings }
 
-    pub open-left : (k : ℕ) → w ≡ openAnswer (withRecord l o) k → stateOf r d g ≡ openLeaves (withRecord l o) k
+    pub open-left : (k : ℕ) {y : ℕ} → y ≡ narrowed k → w ≡ openAnswer (withRecord l o) y → stateOf r d g ≡ openLeaves (withRecord l o) y
         → (c ≡ code (openVerdict l k)) × (lent m d g ≡ openLeft l k)
     unfolding openVerdict openLeft openAnswer openLeaves
-    open-left k p q = left-own whole (same-fresh l (D .held) (firstOf (openReasons k)) (opening k)) p q
+    open-left k e p q =
+        let N = unchanged (withRecord l o) .on-open k in
+        left-own whole (same-fresh l (D .held) (firstOf (openReasons k)) (opening k)) (p ∙ ap (openAnswer (withRecord l o)) e ∙ N .0)
+        (q ∙ ap (openLeaves (withRecord l o)) e ∙ N .1)
 
     pub minima-left : (minima : List ℕ) {M : Minima} → 9 ≤ length minima → M ≡ minimaAt 0 minima → w ≡ minimaAnswer (withRecord l o) M
         → stateOf r d g ≡ minimaLeaves (withRecord l o) M → (c ≡ code (minimaVerdict l minima)) × (lent m d g ≡ minimaLeft l minima)
@@ -199,15 +208,21 @@ module _ {l : Lent} {o r : Dataset} {w : Verdict} {c : ℕ} {m : List ℕ} (D : 
         left-own (lacks-neither (l .numbers) minima (D .room) room) (same-held l (D .held) (λ H. minimaReasons (H .study) N) (settingMinima N))
         (p ∙ ap (minimaAnswer (withRecord l o)) e) (q ∙ ap (minimaLeaves (withRecord l o)) e)
 
-    pub enter-left : (setting : ℕ) (row : List ℕ) → w ≡ enterAnswer (withRecord l o) setting row → stateOf r d g ≡ enterLeaves (withRecord l o) setting row
-        → (c ≡ code (enterVerdict l setting row)) × (lent m d g ≡ enterLeft l setting row)
+    pub enter-left : (setting : ℕ) (row : List ℕ) {y : ℕ} → y ≡ narrowed setting → w ≡ enterAnswer (withRecord l o) y row
+        → stateOf r d g ≡ enterLeaves (withRecord l o) y row → (c ≡ code (enterVerdict l setting row)) × (lent m d g ≡ enterLeft l setting row)
     unfolding enterVerdict enterLeft enterAnswer enterLeaves
-    enter-left setting row p q = left-own whole (same-held l (D .held) (λ H. enterReasons (H .study) setting row) (entering setting row)) p q
+    enter-left setting row e p q =
+        let N = unchanged (withRecord l o) .on-enter setting row in
+        left-own whole (same-held l (D .held) (λ H. enterReasons (H .study) setting row) (entering setting row))
+        (p ∙ ap (λ x. enterAnswer (withRecord l o) x row) e ∙ N .0) (q ∙ ap (λ x. enterLeaves (withRecord l o) x row) e ∙ N .1)
 
-    pub withdraw-left : (t : ℕ) → w ≡ withdrawAnswer (withRecord l o) t → stateOf r d g ≡ withdrawLeaves (withRecord l o) t
+    pub withdraw-left : (t : ℕ) {y : ℕ} → y ≡ narrowed t → w ≡ withdrawAnswer (withRecord l o) y → stateOf r d g ≡ withdrawLeaves (withRecord l o) y
         → (c ≡ code (withdrawVerdict l t)) × (lent m d g ≡ withdrawLeft l t)
     unfolding withdrawVerdict withdrawLeft withdrawAnswer withdrawLeaves
-    withdraw-left t p q = left-own whole (same-held l (D .held) (λ H. withdrawReasons H t) (withdrawing t)) p q
+    withdraw-left t e p q =
+        let N = unchanged (withRecord l o) .on-withdraw t in
+        left-own whole (same-held l (D .held) (λ H. withdrawReasons H t) (withdrawing t)) (p ∙ ap (withdrawAnswer (withRecord l o)) e ∙ N .0)
+        (q ∙ ap (withdrawLeaves (withRecord l o)) e ∙ N .1)
 
     pub read-left : (file : List ℕ) → w ≡ readAnswer (withRecord l o) file → stateOf r d g ≡ readLeaves (withRecord l o) file
         → (c ≡ code (readVerdict l file)) × (lent m d g ≡ readLeft l file)

@@ -14,7 +14,7 @@ use Rattle.study.specs.Refusals.{numbered, accepted, refused, value, Reason}
 use Rattle.study.specs.Calls.{judgeReasons, Judgement, judgement, judgedOf}
 use Rattle.validity.specs.Memory.{State, studyOf, contentsOf}
 use Rattle.blocking.specs.Answers.{judgeAnswer, judgeReply}
-use Rattle.c_api.specs.Api.{Lent, code, over, output, judgementNumbers, judgeVerdict, judgeResult}
+use Rattle.c_api.specs.Api.{Lent, code, over, output, judgementPair, judgeVerdict, judgeResult}
 use Rattle.c_api.proofs.RecordLaws.{withRecord, front-written}
 use Rattle.c_api.specs.Records.{Narrow}
 use Rattle.c_api.proofs.CodeLaws.{small, held-narrow}
@@ -43,7 +43,7 @@ module _ (l : Lent) (list result : List ℕ) where
   own H = judgeReasons (H .study) list
 
   abbrev judged : Contents → List ℕ
-  judged H = judgementNumbers (judgement (H .study) list)
+  judged H = judgementPair (judgement (H .study) list)
 
   -- what `judge` answers of the record as the code holds it
   module _ {r : Dataset} (R : Reads l r 2 result) (j : Judged) (p : judgedOf j ≡ judgeReply (withRecord l r) list) where
@@ -55,10 +55,10 @@ module _ (l : Lent) (list result : List ℕ) where
         (f ∙ code-own R own y, output-own R own judged result (output-as _ result y refl))
 
     pub judge-done : {k : Judged} {x : Judgement} {new : List ℕ} → j ≡ k → judgedOf k ≡ value x
-        → new ≡ overwrite (length (judgementNumbers x)) (λ i. getD (judgementNumbers x) i 0) result
+        → new ≡ overwrite (length (judgementPair x)) (λ i. getD (judgementPair x) i 0) result
         → (0 ≡ code (judgeVerdict l list result)) × (new ≡ judgeResult l list result)
     unfolding judgeVerdict judgeResult judgeAnswer output contentsOf
     judge-done {k} {x} e v f =
         let y = judge-value (withRecord l r) list j p (ap judgedOf e ∙ v) in
-        let two = f ∙ front-written (judgementNumbers x) result ∙ ap (λ z. over (judgementNumbers z) result) (y .1) in
+        let two = f ∙ front-written (judgementPair x) result ∙ ap (λ z. over (judgementPair z) result) (y .1) in
         (code-own R own (y .0), output-own R own judged result (output-as _ result (y .0) two))

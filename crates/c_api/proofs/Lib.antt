@@ -5,4 +5,5 @@ pub mod CallLaws
 pub mod OutputLaws
 pub mod BlockLaws
 pub mod JudgeLaws
+pub mod RunLaws
 pub mod Proofs

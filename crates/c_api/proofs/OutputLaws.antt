@@ -28,8 +28,9 @@ use Rattle.study_file.specs.declared.Written.the-variants as Outcome
 use Rattle.study_file.specs.Answers.{writeReasons, writeAnswer, writtenOf, writeReply, writeLeaves}
 use Rattle.study_file.proofs.Lengths.{length-sum}
 use Rattle.blocking.specs.Answers.{centresAnswer, centresFront, centresLeaves}
-use Rattle.c_api.specs.Api.{Lent, stateIn, code, roomFirst, lacks, over, output, centresVerdict, centresList, centresCount, writeVerdict, writeFile, writeLength}
-use Rattle.c_api.specs.Records.{cut, datasetBy, Narrow}
+use Rattle.narrowing.specs.Narrowing.{narrowDataset}
+use Rattle.c_api.specs.Api.{Lent, datasetOf, stateIn, code, roomFirst, lacks, over, output, centresVerdict, centresList, centresCount, writeVerdict, writeFile, writeLength}
+use Rattle.c_api.specs.Records.{Narrow}
 use Rattle.c_api.proofs.RecordLaws.{withRecord}
 use Rattle.c_api.proofs.CodeLaws.{small, held-narrow}
 use Rattle.c_api.proofs.CallLaws.{lacks-one, lacks-neither, Same, same-held}
@@ -70,7 +71,7 @@ module _ {scant : Bool} (v : Verdict) (e : scant ≡ true) where
 pub record Reads (l : Lent) (r : Dataset) (m : ℕ) (fixed : List ℕ) : Type 0 where
   pub room : 12 ≤ length (l .numbers)
   pub enough : m ≤ length fixed
-  pub held : r ≡ datasetBy cut (l .numbers)
+  pub held : r ≡ narrowDataset (datasetOf (l .numbers))
 
 -- then the call's own verdict counts, and is that of the record itself
 module _ {l : Lent} {r : Dataset} {m : ℕ} {fixed : List ℕ} (R : Reads l r m fixed) (own : Contents → List Reason) where
@@ -185,7 +186,8 @@ module _ (room : ℕ) (s : State) where
   length-fits a =
       let A = accepted-held s (λ H. writeReasons H room) a in
       let ok : ValidContents (contentsOf s) = for-datasets .valid s (true-T (isDataset s) (A .tested)) in
-      omega (arith, files .file-length (contentsOf s) ok, length-sum (contentsOf s .study .k) (size (contentsOf s .study)) (ok .study .k-high) (ok .study .few) .most)
+      let most = length-sum (contentsOf s .study .k) (size (contentsOf s .study)) (ok .study .k-high) (ok .study .few) .most in
+      omega (arith, files .file-length (contentsOf s) ok)
 
   module _ (w : Written) (p : writtenOf w ≡ writeReply s room) where
     write-why : {why : Refusal} → w ≡ Outcome.Refused why → writeAnswer s room ≡ refused (numbered why)

@@ -1,122 +1,33 @@
--- The record as the code holds it: numbers that must be bytes are cut to 255, which no dataset has in their place, so that every call
--- answers as on the record itself. Assumes nothing.
+-- The record as the code holds it, with k and the minima narrowed, and as it is written. Assumes nothing.
 use Prim.Native.Nat.{ℕ, suc, _+_, _-_, _≤_, _<_}
 use native.Mathlib.Omega.{arith}
 use mathlib.Core.Path.{_≡_, refl, sym, ap, _∙_}
-use mathlib.Core.Logic.{_⊎_, inl, inr, ⊎-elim}
-use mathlib.Core.Bool.{true, false}
 use mathlib.Core.List.{List, [], _∷_, _++_, append-nil}
 use lib.ListN.{length, drop, getD, replicate, length-append, List·getD-append}
 use lib.Seq.{getD-at}
-use borrow.Author.Tests.{lt-ltb, le-ltb}
 use Rattle.lists.specs.Lists.{tabulate, overwrite}
-use Rattle.lists.proofs.Tests.{T-false, test, split}
-use Rattle.lists.proofs.Tables.{length-tabulate, getD-tabulate, tabulate-is}
-use Rattle.lists.proofs.Counts.{sum-suc}
-use Rattle.lists.proofs.Counting.{sum-front}
+use Rattle.lists.proofs.Tables.{tabulate-is}
 use Rattle.study.specs.declared.Minima.{Minima}
 use Rattle.study.specs.declared.Dataset.{Dataset}
-use Rattle.study.specs.Study.{Contents}
-use Rattle.study.specs.Refusals.{accepted, Reason}
-use Rattle.validity.specs.Memory.{State, stateOf, short, isDataset, contentsOf}
-use Rattle.dataset.specs.Answers.{freshAnswer, heldAnswer}
-use Rattle.validity.specs.Validity.{IsDataset}
-use Rattle.validity.proofs.ValidityLaws.{isDataset-T}
-use Rattle.dataset.proofs.Ways.{accepted-held}
-use Rattle.c_api.specs.Api.{Lent, minimaAt, datasetOf, numbersOf, stateIn, over}
-use Rattle.c_api.specs.Records.{cut, datasetBy}
+use Rattle.validity.specs.Memory.{State, stateOf}
+use Rattle.narrowing.specs.Narrowing.{narrowed, narrowMinima, narrowDataset}
+use Rattle.c_api.specs.Api.{Lent, minimaAt, datasetOf, numbersOf, over}
 
 -- ---- read
 
-pub cut-high : (x : ℕ) → 255 < x → 255 ≡ cut x
-unfolding cut
-cut-high x h = rw (lt-ltb 255 x h)
-
-pub cut-low : (x : ℕ) → x ≤ 255 → x ≡ cut x
-unfolding cut
-cut-low x h = rw (le-ltb 255 x h)
-
 -- as the code puts it together
-pub cut-read : (l : List ℕ) {k : ℕ} {bytes : List ℕ} {M : Minima} → k ≡ cut (getD l 0 0) → bytes ≡ tabulate 9 (λ i. cut (getD l (2 + i) 0)) → M ≡ minimaAt 0 bytes
-    → record { k = k; n = getD l 1 0; minima = M; withdrawn = getD l 11 0 } ≡ datasetBy cut l
-unfolding datasetBy minimaAt tabulate
-cut-read l p q e = λ i. record { k = p i; n = getD l 1 0; minima = (e ∙ ap (minimaAt 0) q) i; withdrawn = getD l 11 0 }
+pub narrow-read : (l : List ℕ) {k : ℕ} {bytes : List ℕ} {M : Minima} → k ≡ narrowed (getD l 0 0) → bytes ≡ tabulate 9 (λ i. narrowed (getD l (2 + i) 0))
+    → M ≡ minimaAt 0 bytes → record { k = k; n = getD l 1 0; minima = M; withdrawn = getD l 11 0 } ≡ narrowDataset (datasetOf l)
+unfolding narrowDataset narrowMinima datasetOf minimaAt tabulate
+narrow-read l p q e = λ i. record { k = p i; n = getD l 1 0; minima = (e ∙ ap (minimaAt 0) q) i; withdrawn = getD l 11 0 }
 
 pub bytes-read : (f : ℕ → ℕ) {m : List ℕ} → m ≡ overwrite 9 f (replicate 9 0) → m ≡ tabulate 9 f
 unfolding overwrite
 bytes-read f e = e ∙ append-nil (tabulate 9 f)
 
--- each number that must be a byte is one
-record Bytes (l : List ℕ) : Type 0 where
-  k : getD l 0 0 ≤ 255
-  b0 : getD l 2 0 ≤ 255
-  b : (j : ℕ) → j < 8 → getD l (3 + j) 0 ≤ 255
-
--- so it is in a dataset
-bytes : (f : ℕ → ℕ) → ((x : ℕ) → f x ≤ 120 → x ≤ 255) → (l d g : List ℕ) → IsDataset (stateOf (datasetBy f l) d g) → Bytes l
-unfolding datasetBy
-bytes f small l d g D =
-    let M = D .minima in
-    let b : ℕ → ℕ = λ j. f (getD l (3 + j) 0) in
-    record {
-      k = small (getD l 0 0) (omega (arith, D .k-high));
-      b0 = small (getD l 2 0) (M .high);
-      b = λ j h.
-          small (getD l (3 + j) 0)
-          (omega (arith, M .together, M .high, getD-tabulate 8 b j 0 h, sum-suc j (λ i. getD (tabulate 8 b) i 0), sum-front (λ i. getD (tabulate 8 b) i 0) (suc j) 8 h));
-    }
-
--- and then nothing is cut
-uncut : (l : List ℕ) → Bytes l → datasetBy cut l ≡ datasetOf l
-unfolding datasetBy datasetOf minimaAt
-uncut l B = λ i. record { k = k i; n = getD l 1 0; minima = record { b0 = b0 i; b = b i }; withdrawn = getD l 11 0 }
-  where
-    k : cut (getD l 0 0) ≡ getD l 0 0
-    k = sym (cut-low (getD l 0 0) (B .k))
-
-    b0 : cut (getD l 2 0) ≡ getD l 2 0
-    b0 = sym (cut-low (getD l 2 0) (B .b0))
-
-    own : ℕ → ℕ
-    own j = getD l (3 + j) 0
-
-    b : tabulate 8 (λ j. cut (own j)) ≡ tabulate 8 own
-    b =
-        tabulate-is 8 (λ j. cut (own j)) 0 (tabulate 8 own) (length-tabulate 8 own)
-        (λ j h. sym (cut-low (own j) (B .b j h)) ∙ sym (getD-tabulate 8 own j 0 h))
-
 -- the lent memory with another record
 abbrev pub withRecord : Lent → Dataset → State
 withRecord l r = stateOf r (l .distances) (l .settings)
-
--- what the Rattle call gets
-abbrev pub cutState : Lent → State
-cutState l = withRecord l (datasetBy cut (l .numbers))
-
-module _ (l : Lent) where
-  -- the same, or no dataset either way
-  same : (cutState l ≡ stateIn l) ⊎ ((isDataset (cutState l) ≡ false) × (isDataset (stateIn l) ≡ false))
-  unfolding stateIn datasetBy datasetOf minimaAt
-  same =
-      ⊎-elim (λ t. inl (alike (bytes cut small (l .numbers) (l .distances) (l .settings) (isDataset-T (cutState l) .0 t))))
-      (λ t. ⊎-elim (λ u. inl (alike (bytes (λ x. x) (λ x h. omega arith) (l .numbers) (l .distances) (l .settings) (isDataset-T (stateIn l) .0 u))))
-      (λ u. inr (T-false (isDataset (cutState l)) t, T-false (isDataset (stateIn l)) u)) (test (isDataset (stateIn l))))
-      (test (isDataset (cutState l)))
-    where
-      small : (x : ℕ) → cut x ≤ 120 → x ≤ 255
-      small x h = ⊎-elim (λ a. absurd (omega (arith, cut-high x a))) (λ a. a) (split 255 x)
-
-      alike : Bytes (l .numbers) → cutState l ≡ withRecord l (datasetOf (l .numbers))
-      alike B = ap (withRecord l) (uncut (l .numbers) B)
-
-  pub held-same : (own : Contents → List Reason) → heldAnswer (cutState l) own ≡ heldAnswer (stateIn l) own
-  unfolding heldAnswer freshAnswer short stateIn
-  held-same own = ⊎-elim (λ e. ap (λ s. heldAnswer s own) e) (λ f. rw (f .0, f .1)) same
-
-  pub contents-same : (own : Contents → List Reason) → heldAnswer (stateIn l) own ≡ accepted → contentsOf (cutState l) ≡ contentsOf (stateIn l)
-  contents-same own e =
-      ⊎-elim (λ q. ap contentsOf q)
-      (λ f. let z : true ≡ false = sym (accepted-held (stateIn l) own e .tested) ∙ f .1 in absurd (let y : _≡_ {A = ℕ} 0 1 = cc in omega arith)) same
 
 -- ---- written
 

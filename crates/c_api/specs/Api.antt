@@ -11,12 +11,13 @@ use Rattle.study.specs.declared.BlockRecord.{BlockRecord}
 use Rattle.study.specs.Problem.{blocking}
 use Rattle.study.specs.Study.{Study, problem}
 use Rattle.study.specs.Refusals.{number, seven, Verdict, accepted, refused, settled}
-use Rattle.study.specs.Calls.{centreNumbers, Figures, figures, blockRecord, Judgement, approval, disapproval, judgement}
+use Rattle.study.specs.Calls.{centreNumbers, figures, blockRecord, Judgement, approval, disapproval, judgement}
 use Rattle.file_format.specs.File.{fileOf}
 use Rattle.validity.specs.Memory.{State, stateOf, studyOf, contentsOf}
 use Rattle.dataset.specs.Answers.{openAnswer, openLeaves, minimaAnswer, minimaLeaves, enterAnswer, enterLeaves, withdrawAnswer, withdrawLeaves}
 use Rattle.study_file.specs.Answers.{readAnswer, readLeaves, writeAnswer}
 use Rattle.blocking.specs.Answers.{centresAnswer, blockAnswer, judgeAnswer}
+use Rattle.guarantee.specs.Runs.{figureNumbers}
 
 -- ---- the record and the memory that the caller lends
 
@@ -145,9 +146,6 @@ blockVerdict l p = roomFirst (lacks 12 (l .numbers) || lacks 3 (p .result)) (blo
 unfoldable pub column : (BlockRecord → ℕ) → Study → List ℕ
 column f S = tabulate (figures S .blocks) (λ i. f (blockRecord S i))
 
-abbrev pub figureNumbers : Figures → List ℕ
-figureNumbers F = F .blocks ∷ F .radius ∷ F .widest ∷ []
-
 unfoldable pub blockLeft : Lent → Places → Places
 blockLeft l p =
     let S = studyOf (stateIn l) in
@@ -166,12 +164,12 @@ unfoldable pub judgeVerdict : Lent → List ℕ → List ℕ → Verdict
 judgeVerdict l list result = roomFirst (lacks 12 (l .numbers) || lacks 2 result) (judgeAnswer (stateIn l) list)
 
 -- 1 and the greatest diameter for yes, 0 and 0 for no
-abbrev pub judgementNumbers : Judgement → List ℕ
-judgementNumbers (approval w) = 1 ∷ w ∷ []
-judgementNumbers disapproval = 0 ∷ 0 ∷ []
+abbrev pub judgementPair : Judgement → List ℕ
+judgementPair (approval w) = 1 ∷ w ∷ []
+judgementPair disapproval = 0 ∷ 0 ∷ []
 
 unfoldable pub judgeResult : Lent → List ℕ → List ℕ → List ℕ
-judgeResult l list result = output (judgeVerdict l list result) (judgementNumbers (judgement (studyOf (stateIn l)) list)) result
+judgeResult l list result = output (judgeVerdict l list result) (judgementPair (judgement (studyOf (stateIn l)) list)) result
 
 -- ---- Write, lent a file and 1 number for its length
 

@@ -1,19 +1,31 @@
--- What is proved of the record of 12 numbers; there are no proofs here. `for-numbers` of Proofs.antt proves the record. Assumes nothing.
-use Prim.Native.Nat.{ℕ, _≤_}
+-- What is proved of lists of calls for C; there are no proofs here. `for-c` of proofs/Proofs.antt proves the record. Assumes nothing.
+use Prim.Native.Nat.{_≤_}
 use mathlib.Core.Path.{_≡_}
-use mathlib.Core.List.{List}
+use mathlib.Core.List.{List, flatMap}
+use mathlib.Core.Option.{some}
 use lib.ListN.{length}
-use Rattle.study.specs.declared.Dataset.{Dataset}
-use Rattle.dataset.specs.Answers.{openLeaves, minimaLeaves, enterLeaves, withdrawLeaves}
-use Rattle.study_file.specs.Answers.{readLeaves}
-use Rattle.c_api.specs.Api.{Lent, minimaAt, datasetOf, numbersOf, stateIn, over, openLeft, minimaLeft, enterLeft, withdrawLeft, readLeft}
+use Rattle.study.specs.Study.{Study}
+use Rattle.study.specs.Refusals.{accepted}
+use Rattle.study.specs.Calls.{Figures}
+use Rattle.guarantee.specs.Runs.{figureNumbers, run}
+use Rattle.guarantee.specs.History.{studyAfter}
+use Rattle.guarantee.specs.Theorems.{Guaranteed}
+use Rattle.c_api.specs.Api.{Lent, stateIn, over, Places, blockVerdict, blockLeft}
+use Rattle.c_api.specs.Runs.{CCall, cRun, callsOf}
 
-pub record ForNumbers : Type 0 where
-  pub read-back : (r : Dataset) (l : List ℕ) → length (r .minima .b) ≡ 8 → datasetOf (over (numbersOf r) l) ≡ r
-  -- the next call gets what the last one left, so what is proved of lists of calls holds of the calls for C
-  pub on-open : (l : Lent) (k : ℕ) → 12 ≤ length (l .numbers) → stateIn (openLeft l k) ≡ openLeaves (stateIn l) k
-  pub on-minima : (l : Lent) (minima : List ℕ) → 12 ≤ length (l .numbers) → 9 ≤ length minima
-      → stateIn (minimaLeft l minima) ≡ minimaLeaves (stateIn l) (minimaAt 0 minima)
-  pub on-enter : (l : Lent) (setting : ℕ) (row : List ℕ) → 12 ≤ length (l .numbers) → stateIn (enterLeft l setting row) ≡ enterLeaves (stateIn l) setting row
-  pub on-withdraw : (l : Lent) (t : ℕ) → 12 ≤ length (l .numbers) → stateIn (withdrawLeft l t) ≡ withdrawLeaves (stateIn l) t
-  pub on-read : (l : Lent) (file : List ℕ) → 12 ≤ length (l .numbers) → stateIn (readLeft l file) ≡ readLeaves (stateIn l) file
+-- a run of the calls for C, from any record of 12 numbers or more and any memory, is a run of the calls
+abbrev pub AsRun : Type 0
+AsRun = (l : Lent) (cs : List CCall) → 12 ≤ length (l .numbers) → stateIn (cRun l cs) ≡ run (stateIn l) (flatMap callsOf cs)
+
+-- demand 3 of the Block for C after such a run: where it is not refused, there is a study by the start and the calls, and the guarantee
+-- holds of it, of the figures that stand in the result and of the list
+abbrev pub CDemand3 : Type 0
+CDemand3 =
+    (l : Lent) (cs : List CCall) (p : Places) → 12 ≤ length (l .numbers) → blockVerdict (cRun l cs) p ≡ accepted
+    → let after = blockLeft (cRun l cs) p in
+    (S : Study) × (F : Figures) × (studyAfter (stateIn l) (flatMap callsOf cs) ≡ some S) × (after .result ≡ over (figureNumbers F) (p .result))
+    × Guaranteed S F (after .list)
+
+pub record ForC : Type 0 where
+  pub as-run : AsRun
+  pub demand3 : CDemand3

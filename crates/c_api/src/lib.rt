@@ -1,6 +1,7 @@
 // The calls for C and whoever links C: functions on numbers and slices, each with the whole contract of the Rattle call behind it.
 // A dataset's record is 12 numbers of 16 bits: k, n, b0, b1 .. b8, withdrawals. Each call answers 0, or the refusal's number;
-// for 7 its pair i < j besides, as 7 + 256 i + 65,536 j. include/tides.h declares them.
+// for 7 its pair i < j besides, as 7 + 256 i + 65,536 j. A single number has 32 bits, and is narrowed where the call behind takes a byte:
+// the contracts speak of the number as it is given. include/tides.h declares them.
 use crate::code::answer_code;
 use crate::code::refusal_code;
 use crate::numbers::dataset_of;
@@ -12,6 +13,7 @@ use crate::rows::put_numbers;
 use blocking::block::block_core;
 use blocking::centres::centres_into;
 use blocking::judge::judge;
+use narrowing::narrow;
 use study::Answer;
 use study::Blocked;
 use study::Judged;
@@ -29,7 +31,7 @@ pub extern "C" fn tides_open(
     numbers: &mut [u16],
     distances: &mut [u32],
     settings: &mut [u8],
-    k: u8,
+    k: u32,
 ) -> u32
     ensures code { λ r. ⌜ r ≡ code (openVerdict (lent (now (numbers .entry)) (now (distances .entry)) (now (settings .entry))) k) ⌝ }
     ensures leaves { λ _. ⌜ lent (now (numbers .exit)) (now (distances .exit)) (now (settings .exit)) ≡ openLeft (lent (now (numbers .entry)) (now (distances .entry)) (now (settings .entry))) k ⌝ }
@@ -37,7 +39,7 @@ pub extern "C" fn tides_open(
     if numbers.len() < 12 {
         return 1;
     }
-    let outcome = dataset::open(dataset_of(numbers), distances, settings, k);
+    let outcome = dataset::open(dataset_of(numbers), distances, settings, narrow(k));
     settle(numbers, outcome)
 }
 
@@ -67,7 +69,7 @@ pub extern "C" fn tides_enter(
     numbers: &mut [u16],
     distances: &mut [u32],
     settings: &mut [u8],
-    setting: u8,
+    setting: u32,
     row: &[u32],
 ) -> u32
     ensures code { λ r. ⌜ r ≡ code (enterVerdict (lent (now (numbers .entry)) (now (distances .entry)) (now (settings .entry))) setting (now (row .entry))) ⌝ }
@@ -76,7 +78,13 @@ pub extern "C" fn tides_enter(
     if numbers.len() < 12 {
         return 1;
     }
-    let outcome = dataset::enter(dataset_of(numbers), distances, settings, setting, row);
+    let outcome = dataset::enter(
+        dataset_of(numbers),
+        distances,
+        settings,
+        narrow(setting),
+        row,
+    );
     settle(numbers, outcome)
 }
 
@@ -85,7 +93,7 @@ pub extern "C" fn tides_withdraw(
     numbers: &mut [u16],
     distances: &mut [u32],
     settings: &mut [u8],
-    tide: u8,
+    tide: u32,
 ) -> u32
     ensures code { λ r. ⌜ r ≡ code (withdrawVerdict (lent (now (numbers .entry)) (now (distances .entry)) (now (settings .entry))) tide) ⌝ }
     ensures leaves { λ _. ⌜ lent (now (numbers .exit)) (now (distances .exit)) (now (settings .exit)) ≡ withdrawLeft (lent (now (numbers .entry)) (now (distances .entry)) (now (settings .entry))) tide ⌝ }
@@ -93,7 +101,7 @@ pub extern "C" fn tides_withdraw(
     if numbers.len() < 12 {
         return 1;
     }
-    let outcome = dataset::withdraw(dataset_of(numbers), distances, settings, tide);
+    let outcome = dataset::withdraw(dataset_of(numbers), distances, settings, narrow(tide));
     settle(numbers, outcome)
 }
 

@@ -1,5 +1,6 @@
 // A dataset's record as 12 numbers of 16 bits, read and written.
 use crate::code::answer_code;
+use narrowing::narrow;
 use study::Answer;
 use study::Dataset;
 use study::Minima;
@@ -9,29 +10,19 @@ ghost use Prim.Native.Nat.{ℕ, _+_, _≤_, _<_};
 ghost use lib.ListN.{length, getD};
 ghost use Rattle.lists.specs.Lists.{tabulate};
 ghost use Rattle.study.specs.Refusals.{verdictOf, settled};
-ghost use Rattle.c_api.specs.Api.{minimaAt, numbersOf, over, code};
-ghost use Rattle.c_api.specs.Records.{cut, datasetBy};
+ghost use Rattle.narrowing.specs.Narrowing.{narrowed, narrowDataset};
+ghost use Rattle.c_api.specs.Api.{minimaAt, datasetOf, numbersOf, over, code};
 ghost use Rattle.c_api.specs.Records.{Storable};
 
-// A number that must be a byte. Above 255 it is 255, which no dataset has in its place.
-fn byte(x: u16) -> u8
-    ensures { λ r. ⌜ r ≡ cut x ⌝ }
-{
-    if 255 < x {
-        return 255;
-    }
-    x as u8
-}
-
-// b0, b1 .. b8 of a record.
+// b0, b1 .. b8 of a record, each as a byte.
 fn minima_bytes(numbers: &[u16]) -> [u8; 9]
     requires { ⌜ 12 ≤ length (now numbers) ⌝ }
-    ensures { λ r. ⌜ r ≡ tabulate 9 (λ (i : ℕ). cut (getD (now (numbers .entry)) (2 + i) 0)) ⌝ }
+    ensures { λ r. ⌜ r ≡ tabulate 9 (λ (i : ℕ). narrowed (getD (now (numbers .entry)) (2 + i) 0)) ⌝ }
 {
     let mut bytes = [0u8; 9];
     let mut i: usize = 0;
     while i < 9 {
-        bytes[i] = byte(numbers[2 + i]);
+        bytes[i] = narrow(numbers[2 + i] as u32);
         i += 1;
     }
     bytes
@@ -57,12 +48,12 @@ pub fn minima_of(bytes: &[u8]) -> Minima
 
 pub fn dataset_of(numbers: &[u16]) -> Dataset
     requires { ⌜ 12 ≤ length (now numbers) ⌝ }
-    ensures { λ r. ⌜ r ≡ datasetBy cut (now (numbers .entry)) ⌝ }
+    ensures { λ r. ⌜ r ≡ narrowDataset (datasetOf (now (numbers .entry))) ⌝ }
 {
     let bytes = minima_bytes(numbers);
     let minima = minima_of(&bytes);
     Dataset {
-        k: byte(numbers[0]),
+        k: narrow(numbers[0] as u32),
         n: numbers[1] as usize,
         minima,
         withdrawn: numbers[11],

@@ -12,15 +12,18 @@ use Rattle.study.specs.declared.Minima.{Minima}
 use Rattle.study.specs.declared.Dataset.{Dataset}
 use Rattle.study.specs.declared.Answer.{Answer}
 use Rattle.study.specs.declared.Outcome.{Outcome}
-use Rattle.study.specs.Study.{size}
-use Rattle.study.proofs.CallLaws.{opening-valid, minima-valid, enters, entering-valid}
+use Rattle.study.specs.Study.{Contents, size}
+use Rattle.study.proofs.CallLaws.{opening-valid, minima-valid, entering-valid}
 use Rattle.study.specs.Calls.{openReasons, opening, minimaReasons, settingMinima, enterReasons, entering}
-use Rattle.study.specs.Refusals.{accepted, verdictOf, settled, firstOf}
+use Rattle.study.specs.Refusals.{accepted, verdictOf, settled, Reason, firstOf}
+use Rattle.study.specs.Theorems.{ValidContents}
 use Rattle.validity.specs.Memory.{State, stateOf, short, studyOf, contentsOf, stored}
 use Rattle.validity.proofs.ValidityLaws.{study-size}
-use Rattle.dataset.specs.Answers.{freshAnswer, openAnswer, openLeaves, minimaAnswer, minimaLeaves, enterAnswer, enterLeaves}
+use Rattle.dataset.specs.Answers.{freshAnswer, heldAnswer, openAnswer, openLeaves, minimaAnswer, minimaLeaves, enterAnswer, enterLeaves}
 use Rattle.dataset.specs.Told.{Passed}
 use Rattle.dataset.proofs.Ways.{held-own}
+use Rattle.narrowing.specs.Narrowing.{narrowed, narrowMinima}
+use Rattle.narrowing.proofs.Proofs.{unchanged}
 use Rattle.packing.specs.declared.Packed.{Packed}
 use Rattle.packing.specs.declared.words.Cursor.{Cursor}
 use Rattle.packing.specs.declared.numbers.Given.{Given}
@@ -32,10 +35,8 @@ use Rattle.packing.specs.Words.{Within}
 use Rattle.packing.specs.Packing.{Got, got, numberOf, numbersOf, minimaFrom, openingOf, minimaOf, tideOf, entered}
 use Rattle.packing.specs.Steps.{givenOf, readOf}
 use Rattle.packing.proofs.StepLaws.{number-within, numbers-within}
-use Rattle.packing.specs.Narrowing.{narrowed, narrowMinima}
-use Rattle.packing.proofs.NarrowingLaws.{narrow-small, narrow-open, open-small, narrow-enter, narrow-minima, minima-same}
 use Rattle.packing.specs.Reached.{Reaches, Begins, stoppedAt, afterCall}
-use Rattle.packing.proofs.ReachedLaws.{Answers, call-reaches, call-begins, settled-same, valid-held}
+use Rattle.packing.proofs.ReachedLaws.{Answers, call-reaches, call-begins, valid-held}
 
 -- ---- the answers
 
@@ -44,53 +45,32 @@ module _ {s t : State} {a : Answer} where
       → Answers s a t (firstOf (openReasons k)) (opening k)
   unfolding openAnswer openLeaves freshAnswer
   open-answers k e v l =
-      record {
-        not-short = e;
-        verdict = v ∙ own;
-        leaves = l ∙ ap (λ w. settled w (stored (opening (narrowed k)) s) s) own ∙ settled-same (firstOf (openReasons k)) (opening (narrowed k)) (opening k) s same;
-        valid = opening-valid k;
-      }
-    where
-      own : openAnswer s (narrowed k) ≡ firstOf (openReasons k)
-      own = rw e (ap firstOf (narrow-open k))
+      let N = unchanged s .on-open k in
+      record { not-short = e; verdict = rw e at (v ∙ N .0); leaves = rw e at (l ∙ N .1); valid = opening-valid k }
 
-      same : firstOf (openReasons k) ≡ accepted → opening (narrowed k) ≡ opening k
-      same q = ap opening (narrow-small k (open-small k q))
+  -- a call on a dataset
+  held-answers : (own : Contents → List Reason) (new : Contents) → Passed s → verdictOf a ≡ heldAnswer s own → t ≡ settled (heldAnswer s own) (stored new s) s
+      → (firstOf (own (contentsOf s)) ≡ accepted → ValidContents new) → Answers s a t (firstOf (own (contentsOf s))) new
+  held-answers own new P v l ok =
+      let e = sym (held-own s own (P .not-short) (P .tested)) in
+      record { not-short = P .not-short; verdict = v ∙ e; leaves = l ∙ ap (λ w. settled w (stored new s) s) e; valid = ok }
 
   module _ (P : Passed s) where
     minima-answers : (M : Minima) → verdictOf a ≡ minimaAnswer s (narrowMinima M) → t ≡ minimaLeaves s (narrowMinima M)
         → Answers s a t (firstOf (minimaReasons (contentsOf s .study) M)) (settingMinima M (contentsOf s))
     unfolding minimaAnswer minimaLeaves
     minima-answers M v l =
-        record {
-          not-short = P .not-short;
-          verdict = v ∙ own;
-          leaves = l ∙ ap (λ w. settled w (stored (settingMinima (narrowMinima M) (contentsOf s)) s) s) own
-              ∙ settled-same (firstOf (minimaReasons (contentsOf s .study) M)) (settingMinima (narrowMinima M) (contentsOf s)) (settingMinima M (contentsOf s)) s
-              (λ q. ap (λ N. settingMinima N (contentsOf s)) (minima-same (contentsOf s .study) M q));
-          valid = minima-valid M (contentsOf s) (valid-held P);
-        }
-      where
-        own : minimaAnswer s (narrowMinima M) ≡ firstOf (minimaReasons (contentsOf s .study) M)
-        own = sym (held-own s (λ H. minimaReasons (H .study) (narrowMinima M)) (P .not-short) (P .tested)) ∙ ap firstOf (narrow-minima (contentsOf s .study) M)
+        let N = unchanged s .on-minima M in
+        held-answers (λ H. minimaReasons (H .study) M) (settingMinima M (contentsOf s)) P (v ∙ N .0) (l ∙ N .1)
+        (minima-valid M (contentsOf s) (valid-held P))
 
     enter-answers : (x : ℕ) (row : List ℕ) → verdictOf a ≡ enterAnswer s (narrowed x) row → t ≡ enterLeaves s (narrowed x) row
         → Answers s a t (firstOf (enterReasons (contentsOf s .study) x row)) (entering x row (contentsOf s))
     unfolding enterAnswer enterLeaves
     enter-answers x row v l =
-        record {
-          not-short = P .not-short;
-          verdict = v ∙ own;
-          leaves = l ∙ ap (λ w. settled w (stored (entering (narrowed x) row (contentsOf s)) s) s) own
-              ∙ settled-same (firstOf (enterReasons (contentsOf s .study) x row)) (entering (narrowed x) row (contentsOf s)) (entering x row (contentsOf s)) s
-              (λ q. ap (λ y. entering y row (contentsOf s)) (narrow-small x (omega (arith, enters (contentsOf s .study) x row q .setting-high, valid-held P .study .k-high))));
-          valid = entering-valid x row (contentsOf s) (valid-held P);
-        }
-      where
-        own : enterAnswer s (narrowed x) row ≡ firstOf (enterReasons (contentsOf s .study) x row)
-        own =
-            sym (held-own s (λ H. enterReasons (H .study) (narrowed x) row) (P .not-short) (P .tested))
-            ∙ ap firstOf (narrow-enter (contentsOf s .study) x row (valid-held P .study .k-high))
+        let N = unchanged s .on-enter x row in
+        held-answers (λ H. enterReasons (H .study) x row) (entering x row (contentsOf s)) P (v ∙ N .0) (l ∙ N .1)
+        (entering-valid x row (contentsOf s) (valid-held P))
 
 -- ---- Open
 
@@ -145,8 +125,8 @@ module _ {text : List ℕ} {from : Cursor} {s : State} (w : Within text from) (P
       subst (λ q. Reaches text q (s .distances) (s .settings) (entered (minimaOf text (contentsOf s) from))) (sym k)
       (record { is = rw (minima-numbers e f, h); alive = record { passed = P; within = w } })
 
-  pub minima-goes : {row : Row} (xs : List ℕ) (m : ℕ) {M : Minima} (o : Outcome) {c : Cursor} {q : Reached} → readOf row xs ≡ numbersOf text n from → n ≡ s .dataset .k + 1
-      → row ≡ Many.Read c → M ≡ narrowMinima (minimaFrom (xs ++ drop m (replicate 9 0))) → verdictOf (o .answer) ≡ minimaAnswer s M
+  pub minima-goes : {row : Row} (xs : List ℕ) (m : ℕ) {M : Minima} (o : Outcome) {c : Cursor} {q : Reached} → readOf row xs ≡ numbersOf text n from
+      → n ≡ s .dataset .k + 1 → row ≡ Many.Read c → M ≡ narrowMinima (minimaFrom (xs ++ drop m (replicate 9 0))) → verdictOf (o .answer) ≡ minimaAnswer s M
       → stateOf (o .dataset) (s .distances) (s .settings) ≡ minimaLeaves s M → q ≡ afterCall o c
       → Reaches text q (s .distances) (s .settings) (entered (minimaOf text (contentsOf s) from))
   unfolding minimaOf
@@ -173,9 +153,9 @@ module _ {text : List ℕ} {from : Cursor} {s : State} (w : Within text from) (P
       subst (λ q. Reaches text q (s .distances) (s .settings) (entered (tideOf text (contentsOf s) x from))) (sym k)
       (record { is = rw (tide-numbers e f, h); alive = record { passed = P; within = w } })
 
-  pub tide-goes : {row : Row} (xs : List ℕ) {y : ℕ} {ys d g : List ℕ} (o : Outcome) {c : Cursor} {q : Reached} → readOf row xs ≡ numbersOf text n from → n ≡ s .dataset .n
-      → row ≡ Many.Read c → y ≡ narrowed x → ys ≡ xs → verdictOf (o .answer) ≡ enterAnswer s y ys → stateOf (o .dataset) d g ≡ enterLeaves s y ys → q ≡ afterCall o c
-      → Reaches text q d g (entered (tideOf text (contentsOf s) x from))
+  pub tide-goes : {row : Row} (xs : List ℕ) {y : ℕ} {ys d g : List ℕ} (o : Outcome) {c : Cursor} {q : Reached} → readOf row xs ≡ numbersOf text n from
+      → n ≡ s .dataset .n → row ≡ Many.Read c → y ≡ narrowed x → ys ≡ xs → verdictOf (o .answer) ≡ enterAnswer s y ys
+      → stateOf (o .dataset) d g ≡ enterLeaves s y ys → q ≡ afterCall o c → Reaches text q d g (entered (tideOf text (contentsOf s) x from))
   unfolding tideOf
   tide-goes {row} xs {y} {ys} {d} {g} o {c} {q} e f h i j v l k =
       let read : numbersOf text (size (contentsOf s .study)) from ≡ got xs c = tide-numbers e f ∙ ap (λ r. readOf r xs) h in

@@ -1,7 +1,6 @@
 -- Laws, cited by the proofs of this crate and of those above it.
 pub mod WordLaws
 pub mod StepLaws
-pub mod NarrowingLaws
 pub mod ReachedLaws
 pub mod CallLaws
 pub mod Turns

@@ -1,7 +1,7 @@
 -- What the code's own types say of a turn, and what a call makes of it. Assumes nothing.
 use Prim.Native.Nat.{ℕ}
 use native.Mathlib.Omega.{arith}
-use mathlib.Core.Path.{_≡_, refl, sym, ap, _∙_, subst}
+use mathlib.Core.Path.{_≡_, sym, ap, _∙_, subst}
 use mathlib.Core.Bool.{false}
 use mathlib.Core.List.{List}
 use Rattle.study.specs.declared.Refusal.{Refusal}
@@ -9,7 +9,7 @@ use Rattle.study.specs.declared.Answer.{Answer}
 use Rattle.study.specs.declared.Answer.the-variants.{Done, Refused}
 use Rattle.study.specs.declared.Outcome.{Outcome}
 use Rattle.study.specs.Study.{Contents}
-use Rattle.study.specs.Refusals.{Verdict, accepted, refused, verdictOf, settled}
+use Rattle.study.specs.Refusals.{Verdict, accepted, verdictOf, settled}
 use Rattle.study.specs.Theorems.{ValidContents}
 use Rattle.validity.specs.Memory.{State, stateOf, short, isDataset, contentsOf, stored}
 use Rattle.validity.proofs.Proofs.{for-datasets}
@@ -22,8 +22,6 @@ use Rattle.packing.specs.declared.calls.Step.the-variants as Went
 use Rattle.packing.specs.Words.{Within}
 use Rattle.packing.specs.Packing.{called, going, entered}
 use Rattle.packing.specs.Reached.{stepIs, Reaches, Begins, stoppedAt, stepAfter, afterCall}
-
--- ---- the code's turns
 
 -- ---- after a call
 
@@ -54,7 +52,8 @@ module _ {s t : State} {v : Verdict} {new : Contents} where
 
   answer-is : (a : Answer) (c : Cursor) → Answers s a t v new → stepIs (stepAfter a c) (contentsOf t) c ≡ entered (called v new c)
   answer-is Done c A =
-      ap (λ H. going H c) (ap contentsOf (answer-stored A) ∙ for-datasets .read-back new s (A .valid (sym (A .verdict)))) ∙ ap (λ w. entered (called w new c)) (A .verdict)
+      ap (λ H. going H c) (ap contentsOf (answer-stored A) ∙ for-datasets .read-back new s (A .valid (sym (A .verdict))))
+      ∙ ap (λ w. entered (called w new c)) (A .verdict)
   answer-is (Refused r) c A = ap (λ w. entered (called w new c)) (A .verdict)
 
   -- a refused one leaves what was there
@@ -66,8 +65,8 @@ module _ {s t : State} {v : Verdict} {new : Contents} where
   answer-begins Done c A e = answer-passed A
   answer-begins (Refused r) c A e = absurd (let z : _≡_ {A = ℕ} 0 1 = cc in omega arith)
 
-module _ {text : List ℕ} {s : State} {o : Outcome} {d g : List ℕ} {v : Verdict} {new : Contents} {c : Cursor} (A : Answers s (o .answer) (stateOf (o .dataset) d g) v new)
-    (w : Within text c) where
+module _ {text : List ℕ} {s : State} {o : Outcome} {d g : List ℕ} {v : Verdict} {new : Contents} {c : Cursor}
+    (A : Answers s (o .answer) (stateOf (o .dataset) d g) v new) (w : Within text c) where
   -- a call on a dataset
   pub call-reaches : Passed s → Reaches text (afterCall o c) d g (entered (called v new c))
   call-reaches p = record { is = answer-is (o .answer) c A; alive = record { passed = answer-keeps (o .answer) A p; within = w } }
@@ -75,11 +74,6 @@ module _ {text : List ℕ} {s : State} {o : Outcome} {d g : List ℕ} {v : Verdi
   -- Open
   pub call-begins : Begins text (afterCall o c) d g (called v new c)
   call-begins = record { is = answer-is (o .answer) c A; alive = λ e. record { passed = answer-begins (o .answer) c A e; within = w } }
-
--- the new contents matter where the call is accepted
-pub settled-same : (v : Verdict) (new old : Contents) (s : State) → (v ≡ accepted → new ≡ old) → settled v (stored new s) s ≡ settled v (stored old s) s
-settled-same accepted new old s e = ap (λ H. stored H s) (e refl)
-settled-same (refused r) new old s e = refl
 
 pub valid-held : {s : State} → Passed s → ValidContents (contentsOf s)
 valid-held {s} P = for-datasets .valid s (true-T (isDataset s) (P .tested))

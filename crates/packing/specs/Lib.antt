@@ -3,5 +3,4 @@ pub mod Words
 pub mod Packing
 pub mod Cases
 pub mod Steps
-pub mod Narrowing
 pub mod Reached

@@ -2,7 +2,6 @@
 use crate::Packed;
 use crate::numbers::Given;
 use crate::numbers::Row;
-use crate::numbers::narrow;
 use crate::numbers::number;
 use crate::numbers::read_row;
 use crate::words::Cursor;
@@ -11,6 +10,7 @@ use crate::words::next;
 use dataset::enter;
 use dataset::open;
 use dataset::set_minima;
+use narrowing::narrow;
 use study::Answer;
 use study::Dataset;
 use study::Minima;
@@ -23,7 +23,7 @@ ghost use Rattle.dataset.specs.Told.{Passed};
 ghost use Rattle.packing.specs.Packing.{minimaFrom, openingOf, minimaOf, headOf, tideOf, entered, turnOf, turnsOf, textOf, going};
 ghost use Rattle.packing.specs.Words.{Within};
 ghost use Rattle.packing.specs.Reached.{Reaches, Begins, Finishes, stoppedAt, afterCall};
-ghost use Rattle.packing.specs.Narrowing.{narrowMinima};
+ghost use Rattle.narrowing.specs.Narrowing.{narrowMinima};
 
 // Why no more is read: the text's end, with its line, or what stops it.
 pub enum Over {

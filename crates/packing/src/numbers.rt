@@ -7,7 +7,6 @@ ghost use mathlib.Core.Path.{_≡_};
 ghost use lib.ListN.{length};
 ghost use Rattle.packing.specs.Packing.{numberOf, numbersOf};
 ghost use Rattle.packing.specs.Steps.{givenOf, readOf};
-ghost use Rattle.packing.specs.Narrowing.{narrowed};
 ghost use Rattle.packing.specs.Words.{Within};
 
 pub enum Given {
@@ -57,14 +56,4 @@ pub fn read_row(text: &[u8], from: Cursor, row: &mut [u32]) -> Row
         }
     }
     Row::Read(cursor)
-}
-
-// A number as a byte. No call takes 255, which stands for every greater number.
-pub fn narrow(x: u32) -> u8
-    ensures { λ r. ⌜ r ≡ narrowed x ⌝ }
-{
-    if x < 256 {
-        return x as u8;
-    }
-    255
 }

@@ -32,18 +32,19 @@ returns-3 c =
     let k = c .before .before .before .before .before .before .before in
     let e = k .block-core .ensures in
     let d = k .before .before in
-    block-refused _ _ (record { room = d .before .before .before .if1 .left; enough = d .before .before .if2 .left; held = d .dataset-of .ensures }) (d .before .least .ensures) _ (e .0)
-    (e .1 .1) (c .before .before .answer .given .1) (c .refusal-code .ensures)
+    block-refused _ _ (record { room = d .before .before .before .if1 .left; enough = d .before .before .if2 .left; held = d .dataset-of .ensures })
+    (d .before .least .ensures) _ (e .0) (e .1 .1) (c .before .before .answer .given .1) (c .refusal-code .ensures)
 
 returns-4 : tie.Need-returns-4
 returns-4 c =
-    let k = c .before .before .before .before .before .before .before .before .before .before .before .before .before .before .before .before .before .before .before .before .before in
-    let w = c .before .before .before .before .before .before .before .before .before .before .before .put-columns .ensures in
+    let put = c .before .before .before .before .before .before .before .before .before .before .before in
+    let told = put .before .before .before .before .before in
+    let k = told .before .before .before .before .before in
+    let w = put .put-columns .ensures in
     let e = k .block-core .ensures in
     let d = k .before .before in
-    let done = c .before .before .before .before .before .before .before .before .before .before .before .before .before .before .before .before .answer2 .given .1 in
-    block-done _ _ (record { room = d .before .before .before .if1 .left; enough = d .before .before .if2 .left; held = d .dataset-of .ensures }) (d .before .least .ensures) _ (e .0)
-    (e .1 .1) done (e .1 .0) (w .0) (w .1 .0) (w .1 .1) (c .before .before .put-numbers .ensures)
+    block-done _ _ (record { room = d .before .before .before .if1 .left; enough = d .before .before .if2 .left; held = d .dataset-of .ensures })
+    (d .before .least .ensures) _ (e .0) (e .1 .1) (told .answer2 .given .1) (e .1 .0) (w .0) (w .1 .0) (w .1 .1) (c .before .before .put-numbers .ensures)
 
 pub tides-block-spec : {M : Type 1} → statement M
 tides-block-spec =

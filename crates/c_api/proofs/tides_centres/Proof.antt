@@ -24,7 +24,8 @@ returns-3 c =
     let room = k .before .before .before .before .if1 .left in
     let enough = k .before .before .before .if2 .left in
     let held = k .before .before .dataset-of .ensures in
-    centres-refused _ _ _ _ (record { room = room; enough = enough; held = held }) _ (e .0) (e .1 .0) (e .1 .1) (c .before .enum-told2 .given .1) (c .answer-code .ensures)
+    centres-refused _ _ _ _ (record { room = room; enough = enough; held = held }) _ (e .0) (e .1 .0) (e .1 .1) (c .before .enum-told2 .given .1)
+    (c .answer-code .ensures)
 
 cast-count : tie.Need-cast-count
 cast-count c =

@@ -27,7 +27,8 @@ returns-3 c =
     let s = c .before .before .settle .ensures in
     let room = k .before .before .before .before .before .if1 .left in
     let held = k .before .before .dataset-of .ensures in
-    minima-left (record { room = room; held = held; answer = s .0; written = s .1 }) _ (k .before .before .before .before .if2 .left) (k .before .minima-of .ensures) (k .set-minima .ensures .0) (k .set-minima .ensures .1)
+    minima-left (record { room = room; held = held; answer = s .0; written = s .1 }) _ (k .before .before .before .before .if2 .left)
+    (k .before .minima-of .ensures) (k .set-minima .ensures .0) (k .set-minima .ensures .1)
 
 pub tides-minima-spec : {M : Type 1} → statement M
 tides-minima-spec =

@@ -14,21 +14,23 @@ settle-requires : tie.Need-settle-requires
 unfolding openLeaves
 settle-requires c κs =
     let k = c .before .before .before .before .before in
-    storable _ (open-sound _ _) (k .before .before .before .before .before .if1 .left) (k .«open» .ensures .0) (k .«open» .ensures .1)
+    storable _ (open-sound _ _) (k .before .before .before .before .before .before .if1 .left) (k .«open» .ensures .0) (k .«open» .ensures .1)
 
 returns-2 : tie.Need-returns-2
 returns-2 c =
     let k = c .before .before .before .before .before .before .before .before in
     let s = c .before .before .settle .ensures in
-    let room = k .before .before .before .before .before .if1 .left in
-    let held = k .before .before .before .dataset-of .ensures in
-    open-left (record { room = room; held = held; answer = s .0; written = s .1 }) _ (k .«open» .ensures .0) (k .«open» .ensures .1)
+    let room = k .before .before .before .before .before .before .if1 .left in
+    let held = k .before .before .before .before .dataset-of .ensures in
+    open-left (record { room = room; held = held; answer = s .0; written = s .1 }) _ (k .before .narrow .ensures)
+    (k .«open» .ensures .0) (k .«open» .ensures .1)
 
 pub tides-open-spec : {M : Type 1} → statement M
 tides-open-spec =
     tie.close
     (tie.spec
     returns
+    (λ c κs. search needs)
     (λ c κs. search needs)
     (λ c κs. search needs)
     settle-requires

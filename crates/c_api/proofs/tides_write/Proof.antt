@@ -24,7 +24,8 @@ returns-3 c =
     let room = k .before .before .before .before .if1 .left in
     let enough = k .before .before .before .if2 .left in
     let held = k .before .before .dataset-of .ensures in
-    write-refused _ _ _ (record { room = room; enough = enough; held = held }) _ (k .write .ensures .0) (k .write .ensures .1) (c .before .before .written .given .1) (c .refusal-code .ensures)
+    write-refused _ _ _ (record { room = room; enough = enough; held = held }) _ (k .write .ensures .0) (k .write .ensures .1)
+    (c .before .before .written .given .1) (c .refusal-code .ensures)
 
 returns-4 : tie.Need-returns-4
 returns-4 c =

@@ -12,7 +12,8 @@ use Rattle.c_api.proofs.numbers.put_dataset.Statement.{statement}
 use Rattle.c_api.proofs.numbers.put_dataset.Tie as tie
 
 abbrev Inv-loop : tie.InvT-loop
-Inv-loop numbers₀ dataset i₀ numbers i = (i ≤ 12) × (numbers ≡ overwrite i (λ (j : ℕ). getD (numbersOf dataset) j 0) numbers₀) × (length numbers ≡ length numbers₀)
+Inv-loop numbers₀ dataset i₀ numbers i =
+    (i ≤ 12) × (numbers ≡ overwrite i (λ (j : ℕ). getD (numbersOf dataset) j 0) numbers₀) × (length numbers ≡ length numbers₀)
 
 abbrev μ-loop : tie.MeasureT-loop
 μ-loop numbers₀ dataset i₀ numbers i = 12 - i

@@ -1,5 +1,5 @@
 -- `minima_of` meets its contract: place by place. Assumes nothing.
-use Rattle.packing.specs.Narrowing.{narrowMinima}
+use Rattle.narrowing.specs.Narrowing.{narrowMinima}
 use Rattle.packing.specs.Packing.{minimaFrom}
 use Rattle.lists.specs.Lists.{tabulate}
 use mathlib.Core.List.{[], _∷_}
@@ -9,7 +9,14 @@ use Rattle.packing.proofs.calls.minima_of.Tie as tie
 
 returns : tie.Need-returns
 unfolding narrowMinima minimaFrom tabulate
-returns c = λ i. record { b0 = c .narrow9 .ensures i; b = c .before .before .before .before .before .before .before .before .narrow .ensures i ∷ c .before .before .before .before .before .before .before .narrow2 .ensures i ∷ c .before .before .before .before .before .before .narrow3 .ensures i ∷ c .before .before .before .before .before .narrow4 .ensures i ∷ c .before .before .before .before .narrow5 .ensures i ∷ c .before .before .before .narrow6 .ensures i ∷ c .before .before .narrow7 .ensures i ∷ c .before .narrow8 .ensures i ∷ [] }
+returns c =
+    let k = c .before .before .before .before in
+    λ i. record {
+      b0 = c .narrow9 .ensures i;
+      b = k .before .before .before .before .narrow .ensures i ∷ k .before .before .before .narrow2 .ensures i ∷ k .before .before .narrow3 .ensures i
+          ∷ k .before .narrow4 .ensures i ∷ k .narrow5 .ensures i ∷ c .before .before .before .narrow6 .ensures i ∷ c .before .before .narrow7 .ensures i
+          ∷ c .before .narrow8 .ensures i ∷ [];
+    }
 
 pub minima-of-spec : {M : Type 1} → statement M
 minima-of-spec =

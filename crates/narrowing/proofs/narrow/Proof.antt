@@ -1,9 +1,9 @@
 -- `narrow` meets its contract: below 256, or 255. Assumes nothing.
-use Rattle.packing.specs.Narrowing.{narrowed}
+use Rattle.narrowing.specs.Narrowing.{narrowed}
 use borrow.Author.Tests.{lt-ltb, le-ltb}
 use borrow.Author.Needs.{needs}
-use Rattle.packing.proofs.numbers.narrow.Statement.{statement}
-use Rattle.packing.proofs.numbers.narrow.Tie as tie
+use Rattle.narrowing.proofs.narrow.Statement.{statement}
+use Rattle.narrowing.proofs.narrow.Tie as tie
 
 returns : tie.Need-returns
 unfolding narrowed

@@ -1,0 +1,130 @@
+-- A run of the calls for C is a run of the calls, and so demand 3 holds of the Block after it. Assumes nothing.
+use Prim.Native.Nat.{ℕ, _≤_, _<_}
+use native.Mathlib.Omega.{arith}
+use mathlib.Core.Path.{_≡_, refl, sym, ap, _∙_, subst}
+use mathlib.Core.Logic.{inr, ⊎-elim}
+use mathlib.Core.Bool.{Bool, true, false, _||_}
+use mathlib.Core.List.{List, [], _∷_, _++_, flatMap}
+use lib.ListN.{length, drop, length-append, length-drop}
+use Rattle.lists.specs.Lists.{overwrite}
+use Rattle.lists.proofs.Tests.{split}
+use Rattle.lists.proofs.Tables.{length-tabulate}
+use Rattle.study.specs.Problem.{blocking}
+use Rattle.study.specs.Study.{Study, size, problem}
+use Rattle.study.specs.Refusals.{Verdict, accepted, refused, settled}
+use Rattle.study.specs.Calls.{figures, blockRecord}
+use Rattle.validity.specs.Memory.{State, studyOf, contentsOf}
+use Rattle.dataset.specs.Answers.{minimaAnswer, minimaLeaves, enterAnswer, enterLeaves, withdrawAnswer, withdrawLeaves}
+use Rattle.blocking.specs.Answers.{blockAnswer, blockList}
+use Rattle.guarantee.specs.Runs.{updating, Query, make-blocks, inquiring, figureNumbers, Call, call-ask, answer, after, response, run}
+use Rattle.guarantee.specs.Runs.{output as outputs}
+use Rattle.guarantee.specs.Theorems.{Guaranteed, blocked}
+use Rattle.guarantee.proofs.Proofs.{demand3}
+use Rattle.c_api.specs.Api.{Lent, stateIn, roomFirst, lacks, over, output, left, openLeft, minimaVerdict, minimaLeft, enterLeft, withdrawLeft, readLeft, Places, recordRoom, blockVerdict, blockLeft}
+use Rattle.c_api.specs.Runs.{CCall, c-open, c-read, c-minima, c-enter, c-withdraw, c-centres, c-block, c-judge, c-write, cAfter, cRun, recordsIn, unless, callsOf}
+use Rattle.c_api.specs.Theorems.{AsRun, CDemand3}
+use Rattle.c_api.proofs.CallLaws.{lacks-yes, lacks-no, lacks-one, left-scant, open-carried, minima-carried, enter-carried, withdraw-carried, read-carried}
+use Rattle.c_api.proofs.BlockLaws.{list-output}
+
+-- ---- no call makes the record shorter
+
+left-long : (l : Lent) (v : Verdict) (s : State) → length (l .numbers) ≤ length (left l v s .numbers)
+unfolding left over
+left-long l accepted s = simp (length-append, length-drop) (omega arith)
+left-long l (refused r) s = omega arith
+
+after-long : (l : Lent) (c : CCall) → length (l .numbers) ≤ length (cAfter l c .numbers)
+unfolding cAfter openLeft readLeft minimaLeft enterLeft withdrawLeft
+after-long l (c-open k) = left-long l _ _
+after-long l (c-read file) = left-long l _ _
+after-long l (c-minima minima) = left-long l _ _
+after-long l (c-enter setting row) = left-long l _ _
+after-long l (c-withdraw t) = left-long l _ _
+after-long l (c-centres g list count) = omega arith
+after-long l (c-block p) = omega arith
+after-long l (c-judge list result) = omega arith
+after-long l (c-write file result) = omega arith
+
+-- ---- a call for C is the call
+
+module _ (l : Lent) (room : 12 ≤ length (l .numbers)) where
+  minima-scant : (minima : List ℕ) → length minima < 9 → stateIn (minimaLeft l minima) ≡ stateIn l
+  unfolding minimaLeft minimaVerdict
+  minima-scant minima h = ap stateIn (sym (left-scant l _ _ (lacks-one (l .numbers) minima (inr h)) .1))
+
+  minima-step : (minima : List ℕ) → stateIn (cAfter l (c-minima minima)) ≡ run (stateIn l) (callsOf (c-minima minima))
+  unfolding cAfter callsOf run after updating minimaLeaves minimaAnswer
+  minima-step minima =
+      ⊎-elim (λ h. rw (lacks-yes 9 minima h) (minima-scant minima h)) (λ h. rw (lacks-no 9 minima h) (minima-carried l room minima h))
+      (split (length minima) 9)
+
+  -- a call that only reads
+  asked : (scant : Bool) (q : Query) → stateIn l ≡ run (stateIn l) (unless scant (call-ask q))
+  unfolding run after
+  asked true q = refl
+  asked false q = refl
+
+  step : (c : CCall) → stateIn (cAfter l c) ≡ run (stateIn l) (callsOf c)
+  unfolding cAfter callsOf run after updating enterLeaves enterAnswer withdrawLeaves withdrawAnswer
+  step (c-open k) = open-carried l room k
+  step (c-read file) = read-carried l room file
+  step (c-minima minima) = minima-step minima
+  step (c-enter setting row) = enter-carried l room setting row
+  step (c-withdraw t) = withdraw-carried l room t
+  step (c-centres g list count) = asked (lacks 1 count) _
+  step (c-block p) = asked (lacks 3 (p .result)) _
+  step (c-judge list result) = asked (lacks 2 result) _
+  step (c-write file result) = asked (lacks 1 result) _
+
+run-append : (s : State) (xs ys : List Call) → run s (xs ++ ys) ≡ run (run s xs) ys
+unfolding run
+run-append s [] ys = refl
+run-append s (x ∷ xs) ys = run-append (after s x) xs ys
+
+pub as-run : AsRun
+unfolding cRun run flatMap
+as-run l [] room = refl
+as-run l (c ∷ cs) room =
+    as-run (cAfter l c) cs (omega (arith, after-long l c)) ∙ ap (λ s. run s (flatMap callsOf cs)) (step l room c)
+    ∙ sym (run-append (stateIn l) (callsOf c) (flatMap callsOf cs))
+
+-- ---- the Block after it
+
+-- an accepted call had room
+room-own : (scant : Bool) (own : Verdict) → roomFirst scant own ≡ accepted → own ≡ accepted
+unfolding roomFirst
+room-own true own e = absurd (let z : _≡_ {A = ℕ} 0 1 = cc in omega arith)
+room-own false own e = e
+
+module _ (s : State) (p : Places) (e : blockAnswer s (length (p .list)) (recordRoom p) ≡ accepted) where
+  abbrev S : Study
+  S = studyOf s
+
+  abbrev list : List ℕ
+  list = blocking (problem S) ++ drop (size S) (p .list)
+
+  -- what the caller of the call learns
+  answered : response s (call-ask (make-blocks (p .list) (recordsIn p)))
+      ≡ blocked (figures S) list (overwrite (figures S .blocks) (blockRecord S) (recordsIn p))
+  unfolding response answer outputs inquiring blockAnswer contentsOf
+  answered =
+      let q = make-blocks (p .list) (recordsIn p) in
+      let a : answer s (call-ask q) ≡ accepted = ap (blockAnswer s (length (p .list))) (length-tabulate (recordRoom p) _) ∙ e in
+      λ i. record { verdict = a i; output = settled (a i) (inquiring q .tells (contentsOf s)) (inquiring q .lent) }
+
+  -- the list that it leaves
+  listed : {v : Verdict} → v ≡ accepted → list ≡ output v (blocking (problem S)) (p .list)
+  unfolding blockList
+  listed ok =
+      sym (ap (λ v. settled v list (p .list)) e) ∙ list-output s (p .list) (recordRoom p)
+      ∙ ap (λ v. output v (blocking (problem S)) (p .list)) (e ∙ sym ok)
+
+pub c-demand3 : CDemand3
+unfolding blockVerdict blockLeft output
+c-demand3 l cs p room ok =
+    let s = stateIn (cRun l cs) in
+    let F = figures (studyOf s) in
+    let e = room-own (lacks 12 (cRun l cs .numbers) || lacks 3 (p .result)) (blockAnswer s (length (p .list)) (recordRoom p)) ok in
+    let q = ap (λ t. response t (call-ask (make-blocks (p .list) (recordsIn p)))) (sym (as-run l cs room)) ∙ answered s p e in
+    let D = demand3 .guaranteed (stateIn l) (flatMap callsOf cs) (p .list) (list s p e) (recordsIn p) _ F q in
+    (D .0, F, D .1, ap (λ v. output v (figureNumbers F) (p .result)) ok, subst (Guaranteed (D .0) F) (listed s p e ok) (D .2))

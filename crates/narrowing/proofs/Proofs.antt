@@ -1,0 +1,187 @@
+-- `Unchanged` of Narrowing.antt, proved: no number above 254 is taken by a call, and none stands in a dataset. Assumes nothing.
+use Prim.Native.Nat.{ℕ, suc, _≤_, _<_}
+use native.Mathlib.Omega.{arith}
+use mathlib.Core.Path.{_≡_, refl, sym, ap, _∙_}
+use mathlib.Core.Logic.{_⊎_, inl, inr, ⊎-elim}
+use mathlib.Core.Bool.{Bool, true, false, cond, not, true≢false}
+use mathlib.Core.List.{List, map}
+use lib.Dec.{T}
+use lib.ListN.{length, getD, length-map, List·getD-map}
+use lib.Seq.{ext-getD}
+use borrow.Author.Tests.{lt-ltb, le-ltb}
+use Rattle.lists.specs.Lists.{between}
+use Rattle.lists.proofs.Tests.{true-T, not-not, split, between-T}
+use Rattle.lists.proofs.Scans.{between-high}
+use Rattle.lists.proofs.Counts.{sum-suc}
+use Rattle.lists.proofs.Counting.{sum-front}
+use Rattle.study.specs.declared.Minima.{Minima}
+use Rattle.study.specs.Minima.{MinimaFit}
+use Rattle.study.specs.Study.{Contents, size, validMinima}
+use Rattle.study.specs.Refusals.{number, Verdict, accepted, refused, settled, Reason, firstOf}
+use Rattle.study.specs.Calls.{openReasons, opening, minimaReasons, settingMinima, enterReasons, entering, withdrawReasons, withdrawing}
+use Rattle.study.specs.Theorems.{ValidContents}
+use Rattle.study.proofs.StudyLaws.{validMinima-T}
+use Rattle.study.proofs.CallLaws.{none-holds}
+use Rattle.validity.specs.Memory.{State, short, isDataset, contentsOf, stored}
+use Rattle.validity.specs.Validity.{IsDataset}
+use Rattle.validity.proofs.Proofs.{for-datasets}
+use Rattle.dataset.specs.Answers.{freshAnswer, heldAnswer, openAnswer, openLeaves, minimaAnswer, minimaLeaves, enterAnswer, enterLeaves, withdrawAnswer, withdrawLeaves}
+use Rattle.dataset.proofs.Ways.{accepted-held}
+use Rattle.narrowing.specs.Narrowing.{narrowed, narrowMinima, narrowDataset, narrowState, Unchanged}
+
+-- what either of two tests tells, or that neither passes
+either : {A : Type 0} (a b : Bool) → (T a → A) → (T b → A) → A ⊎ ((a ≡ false) × (b ≡ false))
+either true b f g = inl (f tt)
+either false true f g = inl (g tt)
+either false false f g = inr (refl, refl)
+
+-- ---- a number
+
+narrow-small : (x : ℕ) → x < 256 → narrowed x ≡ x
+unfolding narrowed
+narrow-small x h = rw (lt-ltb x 256 h)
+
+narrow-large : (x : ℕ) → 256 ≤ x → narrowed x ≡ 255
+unfolding narrowed
+narrow-large x h = rw (le-ltb x 256 h)
+
+-- what is below 255 was not cut
+narrow-below : (x : ℕ) → narrowed x < 255 → narrowed x ≡ x
+narrow-below x h = ⊎-elim (λ (l : x < 256). narrow-small x l) (λ (g : 256 ≤ x). omega (arith, narrow-large x g)) (split x 256)
+
+-- a number that must be 1 to n
+module _ (n x : ℕ) (few : n < 255) where
+  between-same : between 1 n (narrowed x) ≡ between 1 n x
+  between-same =
+      ⊎-elim (λ (l : x < 256). ap (between 1 n) (narrow-small x l))
+      (λ (g : 256 ≤ x). between-high 1 n (narrowed x) (omega (arith, narrow-large x g)) ∙ sym (between-high 1 n x (omega arith)))
+      (split x 256)
+
+  -- a number that passes was not cut
+  between-uncut : T (not (not (between 1 n x))) → narrowed x ≡ x
+  between-uncut t = narrow-small x (omega (arith, between-T 1 n x .0 (not-not (between 1 n x) t) .1))
+
+-- ---- minima
+
+-- element j of the narrowed list
+narrow-at : (bs : List ℕ) (j : ℕ) → getD (map narrowed bs) j 0 ≡ narrowed (getD bs j 0)
+narrow-at bs j = ap (getD (map narrowed bs) j) (sym (narrow-small 0 (omega arith))) ∙ List·getD-map narrowed bs j 0
+
+-- no b is above b0
+fit-small : {k : ℕ} {M : Minima} → MinimaFit k M → (j : ℕ) → j < length (M .b) → getD (M .b) j 0 ≤ 120
+fit-small {k} {M} F j h =
+    let b : ℕ → ℕ = λ i. getD (M .b) i 0 in
+    omega (arith, F .eight, F .together, F .high, sum-suc j b, sum-front b (suc j) 8 (omega (arith, F .eight)))
+
+module _ (k : ℕ) (M : Minima) where
+  uncut : narrowed (M .b0) ≡ M .b0 → ((j : ℕ) → j < length (map narrowed (M .b)) → narrowed (getD (M .b) j 0) ≡ getD (M .b) j 0) → narrowMinima M ≡ M
+  unfolding narrowMinima
+  uncut e f = λ i. record { b0 = e i; b = ext-getD 0 (map narrowed (M .b)) (M .b) (length-map (M .b) narrowed) (λ j h. narrow-at (M .b) j ∙ f j h) i }
+
+  -- minima that fit, before or after, were not cut
+  fit-uncut : MinimaFit k M → narrowMinima M ≡ M
+  fit-uncut F =
+      uncut (narrow-small (M .b0) (omega (arith, F .high)))
+      (λ j h. narrow-small (getD (M .b) j 0) (omega (arith, fit-small F j (omega (arith, length-map (M .b) narrowed)))))
+
+  narrow-uncut : MinimaFit k (narrowMinima M) → narrowMinima M ≡ M
+  unfolding narrowMinima
+  narrow-uncut F =
+      uncut (narrow-below (M .b0) (omega (arith, F .high)))
+      (λ j h. narrow-below (getD (M .b) j 0) (omega (arith, fit-small F j h, narrow-at (M .b) j)))
+
+  valid-same : validMinima k (narrowMinima M) ≡ validMinima k M
+  valid-same =
+      ⊎-elim (ap (validMinima k)) (λ n. n .0 ∙ sym (n .1))
+      (either (validMinima k (narrowMinima M)) (validMinima k M) (λ t. narrow-uncut (validMinima-T k (narrowMinima M) .0 t))
+      (λ t. fit-uncut (validMinima-T k M .0 t)))
+
+  valid-uncut : T (not (not (validMinima k M))) → narrowMinima M ≡ M
+  valid-uncut t = fit-uncut (validMinima-T k M .0 (not-not (validMinima k M) t))
+
+-- ---- a call given other arguments: the same reasons, and the same contents where none of them holds
+
+module _ (s : State) where
+  leaves-same : {v w : Verdict} {new new′ : Contents} → w ≡ v → (v ≡ accepted → new′ ≡ new) → settled w (stored new′ s) s ≡ settled v (stored new s) s
+  leaves-same {v} {w} {new} {new′} e f = ap (λ u. settled u (stored new′ s) s) e ∙ by v f
+    where
+      by : (u : Verdict) → (u ≡ accepted → new′ ≡ new) → settled u (stored new′ s) s ≡ settled u (stored new s) s
+      by accepted g = ap (λ H. stored H s) (g refl)
+      by (refused r) g = refl
+
+  module _ {own own′ : Contents → List Reason} {makes makes′ : Contents → Contents} (same : (H : Contents) → ValidContents H → own′ H ≡ own H)
+      (makes-same : (H : Contents) → ValidContents H → firstOf (own H) ≡ accepted → makes′ H ≡ makes H) where
+    valid : isDataset s ≡ true → ValidContents (contentsOf s)
+    valid e = for-datasets .valid s (true-T (isDataset s) e)
+
+    answer-same : heldAnswer s own′ ≡ heldAnswer s own
+    unfolding heldAnswer
+    answer-same = ap (freshAnswer s) (by (isDataset s) refl)
+      where
+        by : (b : Bool) → isDataset s ≡ b
+            → cond b (firstOf (own′ (contentsOf s))) (refused (number 21)) ≡ cond b (firstOf (own (contentsOf s))) (refused (number 21))
+        by true e = ap firstOf (same (contentsOf s) (valid e))
+        by false e = refl
+
+    held-same : (heldAnswer s own′ ≡ heldAnswer s own)
+        × (settled (heldAnswer s own′) (stored (makes′ (contentsOf s)) s) s ≡ settled (heldAnswer s own) (stored (makes (contentsOf s)) s) s)
+    held-same = (
+      answer-same,
+      leaves-same answer-same (λ e. let A = accepted-held s own e in makes-same (contentsOf s) (valid (A .tested)) (A .reasons)),
+    )
+
+  fresh-own : {own : Verdict} → freshAnswer s own ≡ accepted → own ≡ accepted
+  unfolding freshAnswer
+  fresh-own {own} e = by (short s) e
+    where
+      by : (b : Bool) → cond b (refused (number 1)) own ≡ accepted → own ≡ accepted
+      by true h = absurd (let z : _≡_ {A = ℕ} 0 1 = cc in omega arith)
+      by false h = h
+
+  -- ---- the record itself
+
+  record-uncut : narrowed (s .dataset .k) ≡ s .dataset .k → narrowMinima (s .dataset .minima) ≡ s .dataset .minima → narrowState s ≡ s
+  unfolding narrowDataset
+  record-uncut e f =
+      λ i. record {
+        dataset = record { k = e i; n = s .dataset .n; minima = f i; withdrawn = s .dataset .withdrawn };
+        distances = s .distances;
+        settings = s .settings;
+      }
+
+  dataset-uncut : IsDataset s → narrowState s ≡ s
+  dataset-uncut D = record-uncut (narrow-small (s .dataset .k) (omega (arith, D .k-high))) (fit-uncut (s .dataset .k) (s .dataset .minima) (D .minima))
+
+  narrow-dataset-uncut : IsDataset (narrowState s) → narrowState s ≡ s
+  unfolding narrowDataset
+  narrow-dataset-uncut D =
+      record-uncut (narrow-below (s .dataset .k) (omega (arith, D .k-high))) (narrow-uncut (narrowed (s .dataset .k)) (s .dataset .minima) (D .minima))
+
+  record-same : (own : Contents → List Reason) → (heldAnswer (narrowState s) own ≡ heldAnswer s own) × (heldAnswer s own ≡ accepted → narrowState s ≡ s)
+  unfolding heldAnswer freshAnswer short
+  record-same own =
+      ⊎-elim (λ e. (ap (λ t. heldAnswer t own) e, λ a. e))
+      (λ n. (rw (n .0, n .1), λ a. absurd (true≢false (sym (accepted-held s own a .tested) ∙ n .1))))
+      (either (isDataset (narrowState s)) (isDataset s) (λ t. narrow-dataset-uncut (for-datasets .exactly (narrowState s) .0 t))
+      (λ t. dataset-uncut (for-datasets .exactly s .0 t)))
+
+pub unchanged : (s : State) → Unchanged s
+unfolding openAnswer openLeaves openReasons minimaAnswer minimaLeaves minimaReasons enterAnswer enterLeaves enterReasons withdrawAnswer withdrawLeaves
+    withdrawReasons
+unchanged s =
+    record {
+      on-open = λ k.
+          let e : openAnswer s (narrowed k) ≡ openAnswer s k = rw (between-same 8 k (omega arith)) in
+          (e, leaves-same s e (λ a. ap opening (between-uncut 8 k (omega arith) (none-holds (openReasons k) (fresh-own s a) .0))));
+      on-minima = λ M.
+          held-same s (λ H ok. rw (valid-same (H .study .k) M))
+          (λ H ok a. ap (λ N. settingMinima N H) (valid-uncut (H .study .k) M (none-holds (minimaReasons (H .study) M) a .0)));
+      on-enter = λ x row.
+          held-same s (λ H ok. rw (between-same (H .study .k) x (omega (arith, ok .study .k-high))))
+          (λ H ok a. ap (λ y. entering y row H)
+          (between-uncut (H .study .k) x (omega (arith, ok .study .k-high)) (none-holds (enterReasons (H .study) x row) a .1 .1 .0)));
+      on-withdraw = λ t.
+          held-same s (λ H ok. rw (between-same (size (H .study)) t (omega (arith, ok .study .few))))
+          (λ H ok a. ap (λ x. withdrawing x H) (between-uncut (size (H .study)) t (omega (arith, ok .study .few)) (none-holds (withdrawReasons H t) a .0)));
+      on-record = record-same s;
+    }

@@ -1,0 +1,2 @@
+-- Definitions and statements, to be read beside document 01.
+pub mod Narrowing

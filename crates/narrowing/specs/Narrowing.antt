@@ -1,0 +1,37 @@
+-- Numbers given to calls as bytes: 255, which no call takes, stands for every greater number. `Unchanged` says that nothing changes by
+-- it; `unchanged` of proofs/Proofs.antt proves it. Assumes nothing.
+use Prim.Native.Nat.{ℕ}
+use mathlib.Core.Path.{_≡_}
+use mathlib.Core.Bool.{cond}
+use mathlib.Core.List.{List, map}
+use lib.Dec.{ltb}
+use Rattle.study.specs.declared.Minima.{Minima}
+use Rattle.study.specs.declared.Dataset.{Dataset}
+use Rattle.study.specs.Study.{Contents}
+use Rattle.study.specs.Refusals.{accepted, Reason}
+use Rattle.validity.specs.Memory.{State, stateOf}
+use Rattle.dataset.specs.Answers.{heldAnswer, openAnswer, openLeaves, minimaAnswer, minimaLeaves, enterAnswer, enterLeaves, withdrawAnswer, withdrawLeaves}
+
+unfoldable pub narrowed : ℕ → ℕ
+narrowed x = cond (ltb x 256) x 255
+
+unfoldable pub narrowMinima : Minima → Minima
+narrowMinima M = record { b0 = narrowed (M .b0); b = map narrowed (M .b) }
+
+-- a record with its k and its minima narrowed
+unfoldable pub narrowDataset : Dataset → Dataset
+narrowDataset r = record { k = narrowed (r .k); n = r .n; minima = narrowMinima (r .minima); withdrawn = r .withdrawn }
+
+abbrev pub narrowState : State → State
+narrowState s = stateOf (narrowDataset (s .dataset)) (s .distances) (s .settings)
+
+-- for any record and memory: no answer changes, and nothing that a call leaves
+pub record Unchanged (s : State) : Type 0 where
+  pub on-open : (k : ℕ) → (openAnswer s (narrowed k) ≡ openAnswer s k) × (openLeaves s (narrowed k) ≡ openLeaves s k)
+  pub on-minima : (M : Minima) → (minimaAnswer s (narrowMinima M) ≡ minimaAnswer s M) × (minimaLeaves s (narrowMinima M) ≡ minimaLeaves s M)
+  pub on-enter : (setting : ℕ) (row : List ℕ)
+      → (enterAnswer s (narrowed setting) row ≡ enterAnswer s setting row) × (enterLeaves s (narrowed setting) row ≡ enterLeaves s setting row)
+  pub on-withdraw : (t : ℕ) → (withdrawAnswer s (narrowed t) ≡ withdrawAnswer s t) × (withdrawLeaves s (narrowed t) ≡ withdrawLeaves s t)
+  -- any call on a dataset, of the record itself; where it is accepted, the record was within bytes
+  pub on-record : (own : Contents → List Reason)
+      → (heldAnswer (narrowState s) own ≡ heldAnswer s own) × (heldAnswer s own ≡ accepted → narrowState s ≡ s)
