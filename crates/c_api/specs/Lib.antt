@@ -1,4 +1,4 @@
--- Definitions and statements, to be read beside document 01: Api, Runs, Theorems. What functions ask of their callers: Records.
+-- To be read beside document 01: Api, Runs; what is proved of them: Theorems. Records: an inner promise.
 pub mod Api
 pub mod Runs
 pub mod Theorems

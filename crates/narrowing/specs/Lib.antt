@@ -1,2 +1,2 @@
--- Definitions and statements, to be read beside document 01.
+-- Narrowing, to be read: definitions and what is proved of them.
 pub mod Narrowing

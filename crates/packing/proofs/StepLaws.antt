@@ -57,7 +57,8 @@ module _ {text : List ℕ} {from : Cursor} where
   unfolding numbersOf
   row-more {row} {i} {x} {c} {d} {g} e f h l =
       record {
-        is = ap (λ k. numbersOf text k from) (add-one i) ∙ rw (e .is, ← f, h) (ap (λ xs. got xs d) (sym (ap (λ k. take k (set row i x)) (add-one i) ∙ take-suc-set row i x l)));
+        is = ap (λ k. numbersOf text k from) (add-one i)
+            ∙ rw (e .is, ← f, h) (ap (λ xs. got xs d) (sym (ap (λ k. take k (set row i x)) (add-one i) ∙ take-suc-set row i x l)));
         within = number-within (e .within) (sym f ∙ ap givenOf h);
       }
 

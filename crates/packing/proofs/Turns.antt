@@ -36,7 +36,8 @@ module _ (text : List ℕ) (c : Cursor) {w : Word} (e : w ≡ nextOf text c) whe
   turn-goes H h R = record { is = R .is ∙ turn-is H h; alive = R .alive }
 
   module _ {r : Dataset} {d s : List ℕ} (W : Within text c) (P : Passed (stateOf r d s)) where
-    pub turn-ends : {l : ℕ} → w ≡ Next.End l → Reaches text (record { step = Went.Over (Last.End l); dataset = r; cursor = c }) d s (turnOf text (contentsOf (stateOf r d s)) c)
+    pub turn-ends : {l : ℕ} → w ≡ Next.End l
+        → Reaches text (record { step = Went.Over (Last.End l); dataset = r; cursor = c }) d s (turnOf text (contentsOf (stateOf r d s)) c)
     turn-ends h = record { is = turn-is (contentsOf (stateOf r d s)) h; alive = record { passed = P; within = W } }
 
     pub turn-stops : {v : Word} {p : Packed} {q : Reached} → w ≡ v → stopped (toldOf p) ≡ turnFrom text (contentsOf (stateOf r d s)) v → q ≡ stoppedAt p r c
@@ -60,7 +61,8 @@ onward-got : {A : Type 0} (Q : Contents → Type 0) (g : Got A) (f : A → Curso
 onward-got Q (got x c) f q e = q x c refl e
 onward-got Q (stop t) f q e = absurd (let z : _≡_ {A = ℕ} 0 1 = cc in omega arith)
 
-tide-size : (text : List ℕ) (H : Contents) (x : ℕ) (c : Cursor) {K : Contents} {d : Cursor} → tideOf text H x c ≡ got K d → size (K .study) ≡ suc (size (H .study))
+tide-size : (text : List ℕ) (H : Contents) (x : ℕ) (c : Cursor) {K : Contents} {d : Cursor} → tideOf text H x c ≡ got K d
+    → size (K .study) ≡ suc (size (H .study))
 unfolding tideOf entering
 tide-size text H x c =
     onward-got Q (numbersOf text (size (H .study)) c) (λ row e. called (firstOf (enterReasons (H .study) x row)) (entering x row H) e)
@@ -91,7 +93,8 @@ opening-empty text c =
 minima-empty : (text : List ℕ) (H : Contents) (c : Cursor) {K : Contents} {d : Cursor} → Empty H → minimaOf text H c ≡ got K d → Empty K
 unfolding minimaOf settingMinima withMinima
 minima-empty text H c h =
-    onward-got Empty (numbersOf text (suc (H .study .k)) c) (λ xs d. called (firstOf (minimaReasons (H .study) (minimaFrom xs))) (settingMinima (minimaFrom xs) H) d)
+    onward-got Empty (numbersOf text (suc (H .study .k)) c)
+    (λ xs d. called (firstOf (minimaReasons (H .study) (minimaFrom xs))) (settingMinima (minimaFrom xs) H) d)
     (λ xs d g. called-got Empty (firstOf (minimaReasons (H .study) (minimaFrom xs))) (settingMinima (minimaFrom xs) H) d h)
 
 head-empty : (text : List ℕ) {K : Contents} {d : Cursor} → headOf text ≡ got K d → Empty K
@@ -128,7 +131,10 @@ module _ {text : List ℕ} {r : Reached} {d s : List ℕ} where
       → Reaches text q d s (entered (minimaOf text (contentsOf (stateOf (r .dataset) d s)) (r .cursor))) → Begins text q d s (headOf text)
   unfolding headOf
   head-goes {q} B h R =
-      record { is = R .is ∙ sym (ap (λ g. entered (onward g (minimaOf text))) (begins-got (openingOf text (record { at = 0; line = 1 })) B h)); alive = λ k. R .alive }
+      record {
+        is = R .is ∙ sym (ap (λ g. entered (onward g (minimaOf text))) (begins-got (openingOf text (record { at = 0; line = 1 })) B h));
+        alive = λ k. R .alive;
+      }
 
 -- ---- turn after turn
 
@@ -214,5 +220,7 @@ module _ {text : List ℕ} {r : Reached} {d s : List ℕ} (B : Begins text r d s
   text-stops {o} h =
       record {
         is = turns-over text (entered (headOf text)) o (contentsOf (stateOf (r .dataset) d s)) 0 121 (begins-over B h);
-        live = λ l k. absurd (head-lasts (headOf text) l (contentsOf (stateOf (r .dataset) d s)) (sym (ap (λ p. overIs p (contentsOf (stateOf (r .dataset) d s))) k) ∙ begins-over B h));
+        live = λ l k.
+            let H = contentsOf (stateOf (r .dataset) d s) in
+            absurd (head-lasts (headOf text) l H (sym (ap (λ p. overIs p H) k) ∙ begins-over B h));
       }

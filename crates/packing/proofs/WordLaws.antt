@@ -107,7 +107,8 @@ capped-digit x b =
 capped-value : (x : ℕ) (bs : List ℕ) → capped (valueFrom (capped x) bs) ≡ capped (valueFrom x bs)
 unfolding valueFrom
 capped-value x [] =
-    ⊎-elim (λ (h : x < 4294967296). ap capped (capped-small x h)) (λ (h : 4294967296 ≤ x). ap capped (capped-large x h) ∙ capped-large 4294967296 (omega arith) ∙ sym (capped-large x h))
+    ⊎-elim (λ (h : x < 4294967296). ap capped (capped-small x h))
+    (λ (h : 4294967296 ≤ x). ap capped (capped-large x h) ∙ capped-large 4294967296 (omega arith) ∙ sym (capped-large x h))
     (split x 4294967296)
 capped-value x (b ∷ bs) =
     sym (capped-value (withDigit (capped x) b) bs) ∙ ap (λ y. capped (valueFrom y bs)) (capped-digit x b) ∙ capped-value (withDigit x b) bs
@@ -117,7 +118,8 @@ unfolding digit
 digit-low b e = between-T 48 57 b .0 (true-T (between 48 57 b) e) .0
 
 module _ (word : List ℕ) (i : ℕ) where
-  pub digits-more : i < length word → digit (getD word i 0) ≡ true → allOf digit (drop i word) ≡ allOf digit word → allOf digit (drop (i + 1) word) ≡ allOf digit word
+  pub digits-more : i < length word → digit (getD word i 0) ≡ true → allOf digit (drop i word) ≡ allOf digit word
+      → allOf digit (drop (i + 1) word) ≡ allOf digit word
   digits-more h t e = sym (rw (left word i h, t)) ∙ e
 
   pub value-more : (v : ℕ) {w : ℕ} → i < length word → w ≡ capped (withDigit v (getD word i 0)) → capped (valueFrom v (drop i word)) ≡ capped (valueFrom 0 word)
@@ -151,7 +153,10 @@ module _ (word : List ℕ) (i : ℕ) where
     pub numeral-large : 4294967296 ≤ v → Found.TooLarge ≡ numeralOf word
     unfolding numeralOf
     numeral-large h =
-        rw (all-digits, lt-leb (valueFrom 0 word) 4294967295 (⊎-elim (λ (l : valueFrom 0 word < 4294967296). omega (arith, capped-large v h, value-is, capped-small (valueFrom 0 word) l)) (λ (g : 4294967296 ≤ valueFrom 0 word). omega arith) (split (valueFrom 0 word) 4294967296)))
+        let large : 4294967295 < valueFrom 0 word =
+        ⊎-elim (λ (l : valueFrom 0 word < 4294967296). omega (arith, capped-large v h, value-is, capped-small (valueFrom 0 word) l))
+        (λ (g : 4294967296 ≤ valueFrom 0 word). omega arith) (split (valueFrom 0 word) 4294967296) in
+        rw (all-digits, lt-leb (valueFrom 0 word) 4294967295 large)
 
 -- ---- the next word
 
@@ -198,7 +203,8 @@ module _ (text : List ℕ) (c : Cursor) {start : Cursor} (e : start ≡ startOf 
     unfolding nextOf wordAt
     next-word =
         rw (← e, ne-eqb (length (wordOf (drop (start .at) text))) 0 (λ z. h (omega arith)))
-        (ap (wordFrom start (end - start .at)) (g ∙ ap numeralOf (ap (λ n. take n (drop (start .at) text)) long ∙ word-front (drop (start .at) text))) ∙ ap (λ n. wordFrom start n (numeralOf (wordOf (drop (start .at) text)))) long)
+        (ap (wordFrom start (end - start .at)) (g ∙ ap numeralOf (ap (λ n. take n (drop (start .at) text)) long ∙ word-front (drop (start .at) text)))
+        ∙ ap (λ n. wordFrom start n (numeralOf (wordOf (drop (start .at) text)))) long)
       where
         long : end - start .at ≡ length (wordOf (drop (start .at) text))
         long = omega arith
@@ -232,7 +238,8 @@ word-within {text} {start} {d} {x} w e = by (eqb n 0) (numeralOf (wordOf (drop (
     n : ℕ
     n = length (wordOf (drop (start .at) text))
 
-    by : (t : Bool) (f : Numeral) → cond t (Next.End (start .line)) (wordFrom start (length (wordOf (drop (start .at) text))) f) ≡ Next.Number x d → Within text d
+    by : (t : Bool) (f : Numeral) → cond t (Next.End (start .line)) (wordFrom start (length (wordOf (drop (start .at) text))) f) ≡ Next.Number x d
+        → Within text d
     by true f h = absurd (let z : _≡_ {A = ℕ} 0 1 = cc in omega arith)
     by false (Found.Number y) h =
         let q : record { at = start .at + length (wordOf (drop (start .at) text)); line = start .line } ≡ d = cc in

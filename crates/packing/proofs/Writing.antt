@@ -46,7 +46,9 @@ module _ {s : State} (P : Passed s) where
   unfolding writeReply
   write-reply room = ap (λ v. replied v (length (fileOf (contentsOf s)))) (write-verdict room) ∙ by (ltb room (length (fileOf (contentsOf s))))
     where
-      by : (t : Bool) → replied (cond t (refused (number 1)) accepted) (length (fileOf (contentsOf s))) ≡ cond t (refusal (number 1)) (value (length (fileOf (contentsOf s))))
+      by : (t : Bool)
+          → replied (cond t (refused (number 1)) accepted) (length (fileOf (contentsOf s)))
+          ≡ cond t (refusal (number 1)) (value (length (fileOf (contentsOf s))))
       by true = refl
       by false = refl
 
@@ -66,7 +68,8 @@ module _ {end : Finished} {d s : List ℕ} {l : ℕ} (L : Live end d s) (e : end
   finished-ended : ended (contentsOf (stateOf (end .dataset) d s)) l ≡ finishedOf end d s
   finished-ended = sym (ap (λ o. overIs o (contentsOf (stateOf (end .dataset) d s))) e)
 
-  pub write-told : (w : Written) {p : Packed} (room : ℕ) → writtenOf w ≡ writeReply (stateOf (end .dataset) d s) room → p ≡ packedBy l w → toldOf p ≡ answered (finishedOf end d s) room
+  pub write-told : (w : Written) {p : Packed} (room : ℕ) → writtenOf w ≡ writeReply (stateOf (end .dataset) d s) room → p ≡ packedBy l w
+      → toldOf p ≡ answered (finishedOf end d s) room
   write-told w room f h =
       let n = length (fileOf (contentsOf (stateOf (end .dataset) d s))) in
       ap toldOf h ∙ told-written w l (ltb room n) n (f ∙ write-reply (L l e) room) ∙ ap (λ t. answered t room) finished-ended

@@ -1,4 +1,4 @@
--- Statements, to be read: Words, Packing, Cases. Inner promises, which only contracts of private functions cite: Steps, Narrowing, Reached.
+-- Statements, to be read: Words, Packing, Cases. Inner promises, which only contracts of private functions cite: Steps, Reached.
 pub mod Words
 pub mod Packing
 pub mod Cases

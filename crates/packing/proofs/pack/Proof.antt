@@ -6,10 +6,21 @@ use Rattle.packing.proofs.pack.Statement.{statement}
 use Rattle.packing.proofs.pack.Tie as tie
 
 returns : tie.Need-returns
-returns c = (pack-long (c .before .before .before .before .args .text .now) (length (c .before .before .before .before .args .file .now)) (c .before .if1 .taken) (c .whole-lines .ensures), pack-long-leaves (c .before .before .before .before .args .text .now) (c .before .before .before .before .args .file .now) (c .before .if1 .taken))
+returns c =
+    let start = c .before .before .before .before in (
+      pack-long (start .args .text .now) (length (start .args .file .now)) (c .before .if1 .taken) (c .whole-lines .ensures),
+      pack-long-leaves (start .args .text .now) (start .args .file .now) (c .before .if1 .taken),
+    )
 
 returns-2 : tie.Need-returns-2
-returns-2 c = (pack-told (c .before .before .before .before .before .before .before .before .before .before .before .before .before .before .args .text .now) (c .before .before .before .before .before .before .before .before .read-text .ensures) (c .before .before .before .before .before .before .before .before .before .before .before .if1 .left) (length (c .before .before .before .before .before .before .before .before .before .before .before .before .before .before .args .file .now)) (c .before .before .write-study .ensures .0), pack-left (c .before .before .before .before .before .before .before .before .before .before .before .before .before .before .args .text .now) (c .before .before .before .before .before .before .before .before .read-text .ensures) (c .before .before .before .before .before .before .before .before .before .before .before .if1 .left) (c .before .before .before .before .before .before .before .before .before .before .before .before .before .before .args .file .now) (c .before .before .write-study .ensures .1))
+returns-2 c =
+    let k = c .before .before in
+    let h = k .before .before .before .before .before .before in
+    let g = h .before .before .before in
+    let start = g .before .before .before in (
+      pack-told (start .args .text .now) (h .read-text .ensures) (g .if1 .left) (length (start .args .file .now)) (k .write-study .ensures .0),
+      pack-left (start .args .text .now) (h .read-text .ensures) (g .if1 .left) (start .args .file .now) (k .write-study .ensures .1),
+    )
 
 pub pack-spec : {M : Type 1} → statement M
 pack-spec =

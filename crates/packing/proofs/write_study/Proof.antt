@@ -6,10 +6,22 @@ use Rattle.packing.proofs.write_study.Statement.{statement}
 use Rattle.packing.proofs.write_study.Tie as tie
 
 returns-2 : tie.Need-returns-2
-returns-2 c = (write-told (c .before .before .before .before .before .before .before .before .before .before .before .before .before .before .pre) (c .before .before .before .before .before .before .before .before .over2 .given .1) (c .before .before .before .before .before .write .result) _ (c .before .before .before .before .before .write .ensures .0) (sym (ap (packedBy _) (c .before .reply .given .1))), write-left (c .before .before .before .before .before .before .before .before .before .before .before .before .before .before .pre) (c .before .before .before .before .before .before .before .before .over2 .given .1) _ (c .before .before .before .before .before .write .ensures .1))
+returns-2 c =
+    let k = c .before .before .before .before .before in
+    let h = k .before .before .before in
+    let start = h .before .before .before .before .before .before in (
+      write-told (start .pre) (h .over2 .given .1) (k .write .result) _ (k .write .ensures .0) (sym (ap (packedBy _) (c .before .reply .given .1))),
+      write-left (start .pre) (h .over2 .given .1) _ (k .write .ensures .1),
+    )
 
 returns-3 : tie.Need-returns-3
-returns-3 c = (write-told (c .before .before .before .before .before .before .before .before .before .before .before .before .before .before .pre) (c .before .before .before .before .before .before .before .before .over2 .given .1) (c .before .before .before .before .before .write .result) _ (c .before .before .before .before .before .write .ensures .0) (sym (ap (packedBy _) (c .before .reply2 .given .1))), write-left (c .before .before .before .before .before .before .before .before .before .before .before .before .before .before .pre) (c .before .before .before .before .before .before .before .before .over2 .given .1) _ (c .before .before .before .before .before .write .ensures .1))
+returns-3 c =
+    let k = c .before .before .before .before .before in
+    let h = k .before .before .before in
+    let start = h .before .before .before .before .before .before in (
+      write-told (start .pre) (h .over2 .given .1) (k .write .result) _ (k .write .ensures .0) (sym (ap (packedBy _) (c .before .reply2 .given .1))),
+      write-left (start .pre) (h .over2 .given .1) _ (k .write .ensures .1),
+    )
 
 pub write-study-spec : {M : Type 1} → statement M
 write-study-spec =

@@ -8,10 +8,16 @@ returns : tie.Need-returns
 returns c = head-stops (c .before .before .before .before .before .before .read-open .ensures) (c .enum-told2 .given .1)
 
 read-minima-requires : tie.Need-read-minima-requires
-read-minima-requires c κs = let a = c .before .before .before .before .before .before .before .before .before .before .read-open .ensures .alive (c .before .before .before .before .enum-told .given .1) in (a .within, a .passed)
+read-minima-requires c κs =
+    let k = c .before .before .before .before in
+    let h = k .before .before .before .before .before .before in
+    let a = h .read-open .ensures .alive (k .enum-told .given .1) in (a .within, a .passed)
 
 returns-2 : tie.Need-returns-2
-returns-2 c = head-goes (c .before .before .before .before .before .before .before .before .before .before .before .read-open .ensures) (c .before .before .before .before .before .enum-told .given .1) (c .read-minima .ensures)
+returns-2 c =
+    let k = c .before .before .before .before .before in
+    let h = k .before .before .before .before .before .before in
+    head-goes (h .read-open .ensures) (k .enum-told .given .1) (c .read-minima .ensures)
 
 pub read-head-spec : {M : Type 1} → statement M
 read-head-spec =

@@ -6,7 +6,9 @@ use Rattle.packing.proofs.calls.read_text.Statement.{statement}
 use Rattle.packing.proofs.calls.read_text.Tie as tie
 
 read-tides-requires : tie.Need-read-tides-requires
-read-tides-requires c κs = let m = text-begins (c .before .before .before .before .before .before .before .before .before .before .before .read-head .ensures) (c .before .before .before .enum-told .given .1) in ((m .within, m .passed, omega arith), m .turns)
+read-tides-requires c κs =
+    let k = c .before .before .before .before .before .before .before .before .before .before .before in
+    let m = text-begins (k .read-head .ensures) (c .before .before .before .enum-told .given .1) in ((m .within, m .passed, omega arith), m .turns)
 
 returns : tie.Need-returns
 returns c = text-stops (c .before .before .before .before .before .before .before .before .before .read-head .ensures) (c .before .step .given .1)

@@ -9,16 +9,33 @@ use Rattle.packing.proofs.calls.read_tide.Statement.{statement}
 use Rattle.packing.proofs.calls.read_tide.Tie as tie
 
 slice-aggregate-read-row : tie.Need-slice-aggregate-read-row
-slice-aggregate-read-row c = sym (length-take-le (c .before .before .before .before .before .args .dataset .n) (c .before .before .before .before .before .args .row .now) (omega (arith, c .before .before .before .before .before .pre .1 .dataset .few, c .before .before .before .before .before .pre .2)))
+slice-aggregate-read-row c =
+    let start = c .before .before .before .before .before in
+    sym (length-take-le (start .args .dataset .n) (start .args .row .now) (omega (arith, start .pre .1 .dataset .few, start .pre .2)))
 
 slice-aggregate-enter : tie.Need-slice-aggregate-enter
 slice-aggregate-enter c = sym (length-take-le _ _ (omega arith))
 
 returns : tie.Need-returns
-returns c = tide-stops (c .before .before .before .before .before .before .before .before .before .before .before .before .pre .0) (c .before .before .before .before .before .before .before .before .before .before .before .before .pre .1) (c .before .before .before .before .before .before .before .before .before .before .before .before .args .setting) (c .before .before .before .before .before .before .read-row .last .1 .1 .0) (c .before .before .before .before .before .before .read-row .ensures) (length-take-le (c .before .before .before .before .before .before .before .before .before .before .before .before .args .dataset .n) (c .before .before .before .before .before .before .before .before .before .before .before .before .args .row .now) (omega (arith, c .before .before .before .before .before .before .before .before .before .before .before .before .pre .1 .dataset .few, c .before .before .before .before .before .before .before .before .before .before .before .before .pre .2))) (c .before .before .read .given .1) (c .stopped .ensures)
+returns c =
+    let k = c .before .before .before .before .before .before in
+    let start = k .before .before .before .before .before .before in
+    tide-stops (start .pre .0) (start .pre .1) (start .args .setting) (k .read-row .last .1 .1 .0) (k .read-row .ensures)
+    (length-take-le (start .args .dataset .n) (start .args .row .now) (omega (arith, start .pre .1 .dataset .few, start .pre .2)))
+    (c .before .before .read .given .1) (c .stopped .ensures)
 
 returns-2 : tie.Need-returns-2
-returns-2 c = tide-goes (c .before .before .before .before .before .before .before .before .before .before .before .before .before .before .before .before .before .before .before .before .before .pre .0) (c .before .before .before .before .before .before .before .before .before .before .before .before .before .before .before .before .before .before .before .before .before .pre .1) (c .before .before .before .before .before .before .before .before .before .before .before .before .before .before .before .before .before .before .before .before .before .args .setting) (c .before .before .before .before .before .before .before .before .before .before .before .before .before .before .before .read-row .last .1 .1 .0) (c .before .before .before .before .before .enter .result) (c .before .before .before .before .before .before .before .before .before .before .before .before .before .before .before .read-row .ensures) (length-take-le (c .before .before .before .before .before .before .before .before .before .before .before .before .before .before .before .before .before .before .before .before .before .args .dataset .n) (c .before .before .before .before .before .before .before .before .before .before .before .before .before .before .before .before .before .before .before .before .before .args .row .now) (omega (arith, c .before .before .before .before .before .before .before .before .before .before .before .before .before .before .before .before .before .before .before .before .before .pre .1 .dataset .few, c .before .before .before .before .before .before .before .before .before .before .before .before .before .before .before .before .before .before .before .before .before .pre .2))) (c .before .before .before .before .before .before .before .before .before .before .before .read2 .given .1) (c .before .before .before .before .before .before .before .narrow .ensures) (take-at (c .before .before .before .before .before .before .before .before .before .before .before .before .before .before .before .read-row .last .1 .1 .0) (drop (c .before .before .before .before .before .before .before .before .before .before .before .before .before .before .before .before .before .before .before .before .before .args .dataset .n) (c .before .before .before .before .before .before .before .before .before .before .before .before .before .before .before .before .before .before .before .before .before .args .row .now)) (c .before .before .before .before .before .before .before .before .before .before .before .before .before .before .before .before .before .before .before .before .before .args .dataset .n) (omega (arith, c .before .before .before .before .before .before .before .before .before .before .before .before .before .before .before .read-row .kept, length-take-le (c .before .before .before .before .before .before .before .before .before .before .before .before .before .before .before .before .before .before .before .before .before .args .dataset .n) (c .before .before .before .before .before .before .before .before .before .before .before .before .before .before .before .before .before .before .before .before .before .args .row .now) (omega (arith, c .before .before .before .before .before .before .before .before .before .before .before .before .before .before .before .before .before .before .before .before .before .pre .1 .dataset .few, c .before .before .before .before .before .before .before .before .before .before .before .before .before .before .before .before .before .before .before .before .before .pre .2))))) (c .before .before .before .before .before .enter .ensures .0) (c .before .before .before .before .before .enter .ensures .1) (c .called .ensures)
+returns-2 c =
+    let k = c .before .before .before .before .before in
+    let h = k .before .before .before .before .before .before in
+    let g = h .before .before .before .before in
+    let start = g .before .before .before .before .before .before in
+    let long = length-take-le (start .args .dataset .n) (start .args .row .now) (omega (arith, start .pre .1 .dataset .few, start .pre .2)) in
+    let row = g .read-row .last .1 .1 .0 in
+    tide-goes (start .pre .0) (start .pre .1) (start .args .setting) row (k .enter .result) (g .read-row .ensures) long
+    (h .read2 .given .1) (k .before .before .narrow .ensures)
+    (take-at row (drop (start .args .dataset .n) (start .args .row .now)) (start .args .dataset .n) (omega (arith, g .read-row .kept, long)))
+    (k .enter .ensures .0) (k .enter .ensures .1) (c .called .ensures)
 
 pub read-tide-spec : {M : Type 1} → statement M
 read-tide-spec =

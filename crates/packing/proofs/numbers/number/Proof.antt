@@ -6,16 +6,24 @@ use Rattle.packing.proofs.numbers.number.Statement.{statement}
 use Rattle.packing.proofs.numbers.number.Tie as tie
 
 returns : tie.Need-returns
-returns c = number-is (c .before .before .before .before .before .args .text .now) (c .before .before .before .before .before .args .from) (c .before .before .before .next .ensures) (c .before .word .given .1) refl
+returns c =
+    let start = c .before .before .before .before .before in
+    number-is (start .args .text .now) (start .args .from) (c .before .before .before .next .ensures) (c .before .word .given .1) refl
 
 returns-2 : tie.Need-returns-2
-returns-2 c = number-is (c .before .before .before .before .before .args .text .now) (c .before .before .before .before .before .args .from) (c .before .before .before .next .ensures) (c .before .word2 .given .1) refl
+returns-2 c =
+    let start = c .before .before .before .before .before in
+    number-is (start .args .text .now) (start .args .from) (c .before .before .before .next .ensures) (c .before .word2 .given .1) refl
 
 returns-3 : tie.Need-returns-3
-returns-3 c = number-is (c .before .before .before .before .before .args .text .now) (c .before .before .before .before .before .args .from) (c .before .before .before .next .ensures) (c .before .word3 .given .1) refl
+returns-3 c =
+    let start = c .before .before .before .before .before in
+    number-is (start .args .text .now) (start .args .from) (c .before .before .before .next .ensures) (c .before .word3 .given .1) refl
 
 returns-4 : tie.Need-returns-4
-returns-4 c = number-is (c .before .before .before .before .before .args .text .now) (c .before .before .before .before .before .args .from) (c .before .before .before .next .ensures) (c .before .word4 .given .1) refl
+returns-4 c =
+    let start = c .before .before .before .before .before in
+    number-is (start .args .text .now) (start .args .from) (c .before .before .before .next .ensures) (c .before .word4 .given .1) refl
 
 pub number-spec : {M : Type 1} → statement M
 number-spec =

@@ -24,13 +24,21 @@ same-length : tie.Need-same-length Inv-loop μ-loop
 same-length c = c .before .before .before .before .before .loop .inv .1
 
 returns : tie.Need-returns Inv-loop μ-loop
-returns c = row-stops _ (c .before .before .before .before .before .loop .inv .2) (c .before .before .before .number .ensures) (c .before .given .given .1) (omega arith)
+returns c =
+    let k = c .before .before .before .before .before in
+    row-stops _ (k .loop .inv .2) (c .before .before .before .number .ensures) (c .before .given .given .1) (omega arith)
 
 loop-less : tie.Need-loop-less Inv-loop μ-loop
 loop-less c = simp length-set (omega arith)
 
 loop-again : tie.Need-loop-again Inv-loop μ-loop
-loop-again c = (simp length-set (omega arith), simp length-set (c .before .before .before .before .before .loop .inv .1), row-more (c .before .before .before .before .before .loop .inv .2) (c .before .before .before .number .ensures) (c .before .given2 .given .1) (omega arith))
+loop-again c =
+    let k = c .before .before .before .before .before in (
+      simp length-set (omega arith),
+      simp length-set (k .loop .inv .1),
+      row-more (k .loop .inv .2) (c .before .before .before .number .ensures)
+          (c .before .given2 .given .1) (omega arith),
+    )
 
 same-length-2 : tie.Need-same-length-2 Inv-loop μ-loop
 same-length-2 c = c .before .loop .inv .1

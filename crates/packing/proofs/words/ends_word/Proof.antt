@@ -18,11 +18,25 @@ returns-3 c = rw (ne-eqb _ 32 (c .before .before .if1 .left), ne-eqb _ 9 (c .bef
 
 returns-4 : tie.Need-returns-4
 unfolding endsWord
-returns-4 c = rw (ne-eqb _ 32 (c .before .before .before .if1 .left), ne-eqb _ 9 (c .before .before .if2 .left), ne-eqb _ 10 (c .before .if3 .left), eq-eqb _ 13 (c .if4 .taken))
+returns-4 c =
+    rw (
+      ne-eqb _ 32 (c .before .before .before .if1 .left),
+      ne-eqb _ 9 (c .before .before .if2 .left),
+      ne-eqb _ 10 (c .before .if3 .left),
+      eq-eqb _ 13
+          (c .if4 .taken),
+    )
 
 returns-5 : tie.Need-returns-5
 unfolding endsWord
-returns-5 c = rw (ne-eqb _ 32 (c .before .before .before .if1 .left), ne-eqb _ 9 (c .before .before .if2 .left), ne-eqb _ 10 (c .before .if3 .left), ne-eqb _ 13 (c .if4 .left))
+returns-5 c =
+    rw (
+      ne-eqb _ 32 (c .before .before .before .if1 .left),
+      ne-eqb _ 9 (c .before .before .if2 .left),
+      ne-eqb _ 10 (c .before .if3 .left),
+      ne-eqb _ 13
+          (c .if4 .left),
+    )
 
 pub ends-word-spec : {M : Type 1} → statement M
 ends-word-spec = tie.close (tie.spec returns returns-2 returns-3 returns-4 returns-5)

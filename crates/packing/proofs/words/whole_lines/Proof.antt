@@ -22,7 +22,14 @@ add-lines : tie.Need-add-lines Inv-loop μ-loop
 add-lines c = omega (arith, newline-small (getD (c .before .before .before .before .before .args .text .now) (c .before .before .before .loop .i) 0))
 
 loop-again : tie.Need-loop-again Inv-loop μ-loop
-loop-again c = (omega arith, omega (arith, newline-small (getD (c .before .before .before .before .before .args .text .now) (c .before .before .before .loop .i) 0)), lines-more (c .before .before .before .before .before .args .text .now) (c .before .before .before .loop .lines) (c .before .before .before .loop .i) (c .before .before .loop-test .taken) (c .newline .ensures) (c .before .before .before .loop .inv .2))
+loop-again c =
+    let k = c .before .before .before in
+    let start = k .before .before in (
+      omega arith,
+      omega (arith, newline-small (getD (start .args .text .now) (k .loop .i) 0)),
+      lines-more (start .args .text .now) (k .loop .lines)
+          (k .loop .i) (c .before .before .loop-test .taken) (c .newline .ensures) (k .loop .inv .2),
+    )
 
 returns : tie.Need-returns Inv-loop μ-loop
 returns c = lines-all (c .before .before .before .args .text .now) (c .before .loop .lines) (c .before .loop .i) (omega arith) (c .before .loop .inv .2)

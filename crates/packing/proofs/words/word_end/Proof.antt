@@ -19,10 +19,16 @@ loop-holds : tie.Need-loop-holds Inv-loop μ-loop
 loop-holds c = (c .before .pre, omega arith, refl)
 
 returns : tie.Need-returns Inv-loop μ-loop
-returns c = let w = word-ends (c .before .before .before .before .before .before .args .text .now) (c .before .before .before .before .loop .end) (c .before .before .before .loop-test .taken) (sym (c .before .ends-word .ensures) ∙ c .if1 .taken) in (omega arith, omega arith)
+returns c =
+    let k = c .before .before .before .before in
+    let w = word-ends (k .before .before .args .text .now) (k .loop .end) (c .before .before .before .loop-test .taken)
+    (sym (c .before .ends-word .ensures) ∙ c .if1 .taken) in (omega arith, omega arith)
 
 loop-again : tie.Need-loop-again Inv-loop μ-loop
-loop-again c = let w = word-more (c .before .before .before .before .before .before .args .text .now) (c .before .before .before .before .loop .end) (c .before .before .before .loop-test .taken) (sym (c .before .ends-word .ensures) ∙ c .if1 .left) in (omega arith, omega arith, omega arith)
+loop-again c =
+    let k = c .before .before .before .before in
+    let w = word-more (k .before .before .args .text .now) (k .loop .end) (c .before .before .before .loop-test .taken)
+    (sym (c .before .ends-word .ensures) ∙ c .if1 .left) in (omega arith, omega arith, omega arith)
 
 returns-2 : tie.Need-returns-2 Inv-loop μ-loop
 returns-2 c = let w = word-none (c .before .before .before .args .text .now) (c .before .loop .end) (omega arith) in (omega arith, omega arith)
