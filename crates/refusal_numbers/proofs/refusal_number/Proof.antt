@@ -1,7 +1,7 @@
 -- Every number fits a byte. Assumes nothing.
 use Prim.Native.Nat.{_<_}
 use native.Mathlib.Omega.{arith}
-use mathlib.Core.Path.{_≡_, sym, ap, _∙_}
+use mathlib.Core.Path.{sym, ap, _∙_}
 use Rattle.study.specs.declared.Refusal.{Refusal}
 use Rattle.study.specs.declared.Refusal.the-variants as Because
 use Rattle.study.specs.Refusals.{numbered, verdictOf}
