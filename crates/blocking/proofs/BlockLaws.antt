@@ -9,9 +9,10 @@ use mathlib.Core.List.{List, _++_}
 use lib.Dec.{T, leb, eqb, leb→le}
 use lib.ListN.{length, getD, drop}
 use borrow.Author.Tests.{le-leb, lt-leb, eq-eqb, ne-eqb}
-use Rattle.lists.specs.Lists.{at, countBelow, overwrite}
+use Rattle.lists.specs.Lists.{countBelow, overwrite}
 use Rattle.lists.proofs.Tests.{not-not, T-left, T-right, split}
 use Rattle.lists.proofs.Tables.{overwrite-none, overwrite-ext, getD-overwrite}
+use Rattle.study.specs.Limits.{cell}
 use Rattle.study.specs.declared.Minima.{Minima}
 use Rattle.study.specs.declared.Refusal.{Refusal}
 use Rattle.study.specs.declared.Answer.{Answer}
@@ -22,17 +23,17 @@ use Rattle.study.specs.Refusals.{number, numbered, Verdict, accepted, refused, 
 use Rattle.study.specs.Calls.{blockReasons, Figures, figures, blockRecord}
 use Rattle.study.proofs.CallLaws.{none-holds}
 use Rattle.promise.specs.Promise.{meeting, Able}
-use Rattle.radii.specs.Posed.{posed, ball, Sized, Proper}
-use Rattle.blocks.specs.Core.{Blocks}
+use Rattle.radius_theory.specs.Arrays.{arrayProblem, ball, SizedArrays, ValidArrays}
+use Rattle.blocking_core.specs.Core.{Blocks}
 use Rattle.validity.specs.Memory.{State, studyOf, contentsOf}
 use Rattle.validity.proofs.ValidityLaws.{study-size}
-use Rattle.dataset.proofs.Ways.{held-own, accepted-held, passed-by}
-use Rattle.dataset.specs.Told.{Passed}
+use Rattle.dataset.proofs.AnswerLaws.{held-own, accepted-held, passed-by}
+use Rattle.dataset.specs.Accepted.{Passed}
 use Rattle.blocking.specs.declared.block.BlockRows.{BlockRows}
 use Rattle.blocking.specs.Answers.{blockAnswer, blockReply, blockList, blockRecords}
-use Rattle.blocking.proofs.Linked.{linked, sized, proper, meets-same}
+use Rattle.blocking.proofs.ProblemOfArrays.{problem-of-arrays, sized-arrays, valid-arrays, meets-same}
 use Rattle.blocking.specs.Rows.{rowAt, RowsOf}
-use Rattle.blocking.specs.Told.{BlockTold}
+use Rattle.blocking.specs.Accepted.{BlockAccepted}
 
 module _ (s : State) (list room : ℕ) where
   abbrev n : ℕ
@@ -62,10 +63,10 @@ module _ (s : State) (list room : ℕ) where
       past-24 = ne-eqb (size S) 0 (λ e. omega (arith, study-size s))
 
       whole-is : sufficient S (λ t. true) ≡ whole
-      unfolding posed problem meeting
+      unfolding arrayProblem problem meeting
       whole-is =
-          ap (λ (Q : Problem). Q .enough (λ t. true)) (linked s (P .dataset))
-          ∙ meets-same M n (λ t k. refl) (λ t k. sym (le-leb (at (s .distances) 0 t) 1048575 (P .dataset .near 0 t (omega arith) k)))
+          ap (λ (Q : Problem). Q .enough (λ t. true)) (problem-of-arrays s (P .dataset))
+          ∙ meets-same M n (λ t k. refl) (λ t k. sym (le-leb (cell (s .distances) 0 t) 1048575 (P .dataset .distance-high 0 t (omega arith) k)))
 
       module _ {r : Bool} (e : r ≡ whole) where
         pub block-25 : r ≡ false → refused (number 25) ≡ blockAnswer s list room
@@ -90,9 +91,9 @@ module _ (s : State) (list room : ℕ) where
               block-own accepted
               (rw (past-24, whole-is ∙ sym e ∙ f, le-leb (size S) list (omega (arith, study-size s)), le-leb (size S) room (omega (arith, study-size s))))
 
-  pub block-told : {a : Answer} → a ≡ Done → verdictOf a ≡ blockAnswer s list room → BlockTold s list room
+  pub block-accepted : {a : Answer} → a ≡ Done → verdictOf a ≡ blockAnswer s list room → BlockAccepted s list room
   unfolding blockAnswer contentsOf blockReasons
-  block-told e f =
+  block-accepted e f =
       let q : accepted ≡ blockAnswer s list room = sym (ap verdictOf e) ∙ f in
       let h = accepted-held s (λ H. blockReasons (H .study) list room) (sym q) in
       let w = none-holds (blockReasons S list room) (h .reasons) in
@@ -126,7 +127,7 @@ module _ (s : State) (list room : ℕ) where
               ∙ ap (λ v. settled v (overwrite (figures S .blocks) (blockRecord S) l) l) (refusing ∙ ap (blockAnswer s list) (sym k));
         }
 
-  module _ (A : BlockTold s list room) where
+  module _ (A : BlockAccepted s list room) where
     abbrev d : List ℕ
     d = s .distances
 
@@ -134,16 +135,16 @@ module _ (s : State) (list room : ℕ) where
     g = s .settings
 
     abbrev P : Problem
-    P = posed d n (meeting M n g)
+    P = arrayProblem d n (meeting M n g)
 
-    pub told-sized : Sized (Able M n g) d n
-    told-sized = sized s (A .passed .dataset) (A .passed .long)
+    pub accepted-sized : SizedArrays (Able M n g) d n
+    accepted-sized = sized-arrays s (A .passed .dataset) (A .passed .long)
 
-    pub told-proper : Proper d n (meeting M n g)
-    told-proper = proper s (A .passed .dataset) (A .enough)
+    pub accepted-valid-arrays : ValidArrays d n (meeting M n g)
+    accepted-valid-arrays = valid-arrays s (A .passed .dataset) (A .enough)
 
     same : problem S ≡ P
-    same = linked s (A .passed .dataset)
+    same = problem-of-arrays s (A .passed .dataset)
 
     module _ {c r w : ℕ} {cs sizes diameters : List ℕ} (B : Blocks d n (meeting M n g) c r w cs sizes diameters) where
       figures-are : record { blocks = c; radius = r; widest = w } ≡ figures S
@@ -164,7 +165,7 @@ module _ (s : State) (list room : ℕ) where
         rows = record { count = c; centres = numbers; tides = sizes; diameters = diameters }
 
         row-is : (i : ℕ) → i < c → rowAt rows i ≡ blockRecord S i
-        unfolding blockRecord posed
+        unfolding blockRecord arrayProblem
         row-is i l =
             subst
             (λ (Q : Problem). rowAt rows i
@@ -192,12 +193,12 @@ module _ (s : State) (list room : ℕ) where
             }
 
 -- the list
-pub block-list : (s : State) (old : List ℕ) (room : ℕ) {new : List ℕ} → BlockTold s (length old) room
-    → new ≡ blocking (posed (s .distances) (s .dataset .n) (meeting (s .dataset .minima) (s .dataset .n) (s .settings))) ++ drop (s .dataset .n) old → new ≡ blockList s old room
+pub block-list : (s : State) (old : List ℕ) (room : ℕ) {new : List ℕ} → BlockAccepted s (length old) room
+    → new ≡ blocking (arrayProblem (s .distances) (s .dataset .n) (meeting (s .dataset .minima) (s .dataset .n) (s .settings))) ++ drop (s .dataset .n) old → new ≡ blockList s old room
 unfolding blockList
 block-list s old room A e =
     e
-    ∙ ap₂ (λ (Q : Problem) (k : ℕ). blocking Q ++ drop k old) (sym (linked s (A .passed .dataset))) (sym (study-size s))
+    ∙ ap₂ (λ (Q : Problem) (k : ℕ). blocking Q ++ drop k old) (sym (problem-of-arrays s (A .passed .dataset))) (sym (study-size s))
     ∙ ap (λ v. settled v (blocking (problem (studyOf s)) ++ drop (size (studyOf s)) old) old) (A .answer)
 
 pub block-list-stays : (s : State) (list : List ℕ) (room : ℕ) {a : Answer} {x : Refusal} → a ≡ Refused x → verdictOf a ≡ blockAnswer s (length list) room

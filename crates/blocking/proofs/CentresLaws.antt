@@ -20,16 +20,16 @@ use Rattle.study.specs.Study.{Study, size}
 use Rattle.study.specs.Refusals.{number, numbered, Verdict, accepted, refused, verdictOf, settled, firstOf}
 use Rattle.study.specs.Calls.{centresReasons, centreNumbers}
 use Rattle.study.proofs.CallLaws.{none-holds}
-use Rattle.radii.specs.Posed.{within, posed}
-use Rattle.radius.specs.Front.{CentresAt}
-use Rattle.radius.proofs.FrontLaws.{front-at}
+use Rattle.radius_theory.specs.Arrays.{within, arrayProblem}
+use Rattle.radius_search.specs.Front.{CentresAt}
+use Rattle.radius_search.proofs.FrontLaws.{front-at}
 use Rattle.validity.specs.Memory.{State, studyOf, contentsOf}
 use Rattle.validity.proofs.ValidityLaws.{study-size}
-use Rattle.dataset.proofs.Ways.{held-own, accepted-held, passed-by}
-use Rattle.dataset.specs.Told.{Passed}
+use Rattle.dataset.proofs.AnswerLaws.{held-own, accepted-held, passed-by}
+use Rattle.dataset.specs.Accepted.{Passed}
 use Rattle.blocking.specs.Answers.{centresAnswer, centresFront, centresLeaves}
-use Rattle.blocking.proofs.Linked.{linked}
-use Rattle.blocking.specs.Told.{CentresTold}
+use Rattle.blocking.proofs.ProblemOfArrays.{problem-of-arrays}
+use Rattle.blocking.specs.Accepted.{CentresAccepted}
 
 module _ (s : State) (list : List ℕ) where
   abbrev n : ℕ
@@ -59,9 +59,9 @@ module _ (s : State) (list : List ℕ) where
       unfolding centresReasons firstOf
       centres-done h = centres-own accepted (rw (past-24, le-leb (size S) (length list) (omega (arith, study-size s))))
 
-  pub centres-told : {a : Answer} → a ≡ Done → verdictOf a ≡ centresAnswer s list → CentresTold s list
+  pub centres-accepted : {a : Answer} → a ≡ Done → verdictOf a ≡ centresAnswer s list → CentresAccepted s list
   unfolding centresAnswer contentsOf centresReasons
-  centres-told e f =
+  centres-accepted e f =
       let q : accepted ≡ centresAnswer s list = sym (ap verdictOf e) ∙ f in
       let h = accepted-held s (λ H. centresReasons (H .study) (length list)) (sym q) in
       let w = none-holds (centresReasons S (length list)) (h .reasons) in
@@ -90,15 +90,15 @@ module _ (s : State) (list : List ℕ) where
         part : take count new ≡ centresFront s g list
         part = ap₂ (λ (c : ℕ) l. take c l) e f ∙ take-append-seam (centresFront s g list) (drop (length (centresFront s g list)) list)
 
-    module _ (A : CentresTold s list) where
+    module _ (A : CentresAccepted s list) where
       abbrev found : List ℕ
       found = centresAmong (within (s .distances) n) g n
 
       front-is : centresFront s g list ≡ map suc found
-      unfolding centresFront centreNumbers centres posed
+      unfolding centresFront centreNumbers centres arrayProblem
       front-is =
           ap (λ v. settled v (centreNumbers S g) []) (sym (A .answer))
-          ∙ ap (λ (P : Problem). map suc (centres P g)) (linked s (A .passed .dataset))
+          ∙ ap (λ (P : Problem). map suc (centres P g)) (problem-of-arrays s (A .passed .dataset))
 
       -- the centres found, written as numbers from 1
       pub centres-filled : {count : ℕ} {cs new : List ℕ} → CentresAt (s .distances) n g count cs → new ≡ overwrite count (λ i. getD cs i 0 + 1) list

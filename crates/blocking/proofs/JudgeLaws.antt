@@ -19,16 +19,16 @@ use Rattle.study.specs.Refusals.{number, numbered, Verdict, accepted, refused, 
 use Rattle.study.specs.Calls.{judgeReasons, approved, approval, disapproval, judgement}
 use Rattle.study.proofs.CallLaws.{none-holds}
 use Rattle.promise.specs.Promise.{meeting}
-use Rattle.radii.specs.Posed.{posed}
+use Rattle.radius_theory.specs.Arrays.{arrayProblem}
 use Rattle.validity.specs.Memory.{State, studyOf, contentsOf}
 use Rattle.validity.proofs.ValidityLaws.{study-size}
-use Rattle.dataset.proofs.Ways.{held-own, accepted-held, passed-by}
-use Rattle.dataset.specs.Told.{Passed}
+use Rattle.dataset.proofs.AnswerLaws.{held-own, accepted-held, passed-by}
+use Rattle.dataset.specs.Accepted.{Passed}
 use Rattle.blocking.specs.Answers.{judgeAnswer, judgeReply}
-use Rattle.blocking.proofs.Linked.{linked, sized}
-use Rattle.blocks.specs.Measured.{widestOf}
-use Rattle.blocks.proofs.MeasuredLaws.{widest-diameter}
-use Rattle.blocking.specs.Told.{Listed}
+use Rattle.blocking.proofs.ProblemOfArrays.{problem-of-arrays, sized-arrays}
+use Rattle.blocking_core.specs.Measured.{widestOf}
+use Rattle.blocking_core.proofs.MeasuredLaws.{widest-diameter}
+use Rattle.blocking.specs.Accepted.{JudgedArrays}
 
 module _ (s : State) (list : List ℕ) where
   abbrev n : ℕ
@@ -59,14 +59,14 @@ module _ (s : State) (list : List ℕ) where
       judge-done h = judge-own accepted (rw (past-24, eq-eqb (length list) (size S) (h ∙ sym (study-size s))))
 
   -- what an accepted call tells
-  pub record JudgeTold : Type 0 where
+  pub record JudgeAccepted : Type 0 where
     pub passed : Passed s
     pub long : length list ≡ n
     pub answer : accepted ≡ judgeAnswer s list
 
-  pub judge-told : {a : Answer} → a ≡ Done → verdictOf a ≡ judgeAnswer s list → JudgeTold
+  pub judge-accepted : {a : Answer} → a ≡ Done → verdictOf a ≡ judgeAnswer s list → JudgeAccepted
   unfolding judgeAnswer contentsOf judgeReasons
-  judge-told e f =
+  judge-accepted e f =
       let q : accepted ≡ judgeAnswer s list = sym (ap verdictOf e) ∙ f in
       let h = accepted-held s (λ H. judgeReasons (H .study) list) (sym q) in
       let w = none-holds (judgeReasons S list) (h .reasons) in
@@ -80,13 +80,13 @@ module _ (s : State) (list : List ℕ) where
   unfolding judgeReply
   judge-refused {a} {x} e f = ap (λ v. replied v (judgement S list)) (sym (ap verdictOf e) ∙ f)
 
-  module _ (A : JudgeTold) where
+  module _ (A : JudgeAccepted) where
     abbrev M : Minima
     M = s .dataset .minima
 
-    pub listed : Listed (s .settings) n list
-    listed =
-        let z = sized s (A .passed .dataset) (A .passed .long) in
+    pub judged-arrays : JudgedArrays (s .settings) n list
+    judged-arrays =
+        let z = sized-arrays s (A .passed .dataset) (A .passed .long) in
         record { few = z .few; settings-long = z .able .settings-long; setting-high = z .able .setting-high; list-long = omega (arith, A .long) }
 
     -- the two tests that the code makes
@@ -97,9 +97,9 @@ module _ (s : State) (list : List ℕ) where
     sufficient = every n (λ u. meets M n (λ t. getD (s .settings) t 0) (block (labels list) (labels list u)))
 
     approved-is : approved S list ≡ numbers && sufficient
-    unfolding approved feasible posed meeting
+    unfolding approved feasible arrayProblem meeting
     approved-is =
-        ap₂ (λ (k : ℕ) (P : Problem). every k (λ t. between 1 255 (labels list t)) && feasible P (labels list)) (study-size s) (linked s (A .passed .dataset))
+        ap₂ (λ (k : ℕ) (P : Problem). every k (λ t. between 1 255 (labels list t)) && feasible P (labels list)) (study-size s) (problem-of-arrays s (A .passed .dataset))
 
     judged : (b : Bool) → numbers && sufficient ≡ b → value (cond b (approval (greatestDiameter (problem S) (labels list))) disapproval) ≡ judgeReply s list
     unfolding judgeReply judgement
@@ -117,5 +117,5 @@ module _ (s : State) (list : List ℕ) where
         → value (approval w) ≡ judgeReply s list
     judge-yes d c e f h =
         ap (λ z. value (approval z)) (h ∙ widest-diameter (s .distances) n (meeting M n (s .settings)) (labels list)
-        ∙ ap (λ (P : Problem). greatestDiameter P (labels list)) (sym (linked s (A .passed .dataset))))
+        ∙ ap (λ (P : Problem). greatestDiameter P (labels list)) (sym (problem-of-arrays s (A .passed .dataset))))
         ∙ judged true (rw (sym d ∙ c, sym e ∙ f))

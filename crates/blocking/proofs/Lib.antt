@@ -1,7 +1,7 @@
 pub mod Arguments
 pub mod ArrayLent
 pub mod Walks
-pub mod Linked
+pub mod ProblemOfArrays
 pub mod CentresLaws
 pub mod BlockLaws
 pub mod JudgeLaws

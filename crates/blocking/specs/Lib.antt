@@ -2,4 +2,4 @@
 -- functions cite: Told.
 pub mod Answers
 pub mod Rows
-pub mod Told
+pub mod Accepted

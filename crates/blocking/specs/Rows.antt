@@ -4,6 +4,7 @@ use mathlib.Core.Path.{_≡_}
 use mathlib.Core.List.{List}
 use lib.ListN.{length, getD, replicate}
 use Rattle.lists.specs.Lists.{overwrite}
+use Rattle.study.specs.Limits.{maxTides}
 use Rattle.study.specs.declared.BlockRecord.{BlockRecord}
 use Rattle.validity.specs.Memory.{State}
 use Rattle.blocking.specs.declared.block.BlockRows.{BlockRows}
@@ -18,12 +19,12 @@ abbrev pub noRecord : BlockRecord
 noRecord = record { centre = 0; tides = 0; diameter = 0 }
 
 unfoldable pub noRecords : List BlockRecord
-noRecords = replicate 120 noRecord
+noRecords = replicate maxTides noRecord
 
 -- the rows that Block hands back, lent a list and records of these lengths. Their count and the first `count` places of each are settled,
 -- since `records` holds of any l; the places past them are free, and stand in no record
 pub record RowsOf (s : State) (list room : ℕ) (rows : BlockRows) : Type 0 where
   pub fits : rows .count ≤ room
-  pub few : rows .count ≤ 120
+  pub few : rows .count ≤ maxTides
   -- put into the records, they are what Block leaves
   pub records : (l : List BlockRecord) → length l ≡ room → overwrite (rows .count) (rowAt rows) l ≡ blockRecords s list l

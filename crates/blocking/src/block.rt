@@ -1,10 +1,12 @@
 // Block: the core, by plain rows of numbers.
 use crate::computing::compute;
-use radius::bound::ball_meets;
+use radius_search::bound::ball_meets;
 use study::Answer;
 use study::Blocked;
 use study::Dataset;
 use study::Refusal;
+use study::MAX_TIDES;
+use study::MAX_DISTANCE;
 ghost use mathlib.Core.Path.{_≡_};
 ghost use lib.ListN.{length};
 ghost use Rattle.study.specs.Refusals.{verdictOf};
@@ -17,9 +19,9 @@ ghost use Rattle.blocking.specs.Rows.{RowsOf};
 // refusal. The places past it are free: they may hold any numbers, and no record is made of them.
 pub struct BlockRows {
     pub count: usize,
-    pub centres: [u8; 120],
-    pub tides: [u8; 120],
-    pub diameters: [u32; 120],
+    pub centres: [u8; MAX_TIDES],
+    pub tides: [u8; MAX_TIDES],
+    pub diameters: [u32; MAX_TIDES],
 }
 
 // Block's answer, and the rows of its blocks; there are none on a refusal.
@@ -47,7 +49,7 @@ fn block_answer(
         return Answer::Refused(Refusal::NoTides);
     }
     // every tide is at most 1,048,575 from the first
-    if !ball_meets(distances, settings, n, dataset.minima, 0, 1048575) {
+    if !ball_meets(distances, settings, n, dataset.minima, 0, MAX_DISTANCE) {
         return Answer::Refused(Refusal::TooFewTides);
     }
     if list < n {
@@ -79,9 +81,9 @@ pub fn block_core(
             answer: Blocked::Refused(why),
             rows: BlockRows {
                 count: 0,
-                centres: [0; 120],
-                tides: [0; 120],
-                diameters: [0; 120],
+                centres: [0; MAX_TIDES],
+                tides: [0; MAX_TIDES],
+                diameters: [0; MAX_TIDES],
             },
         };
     }

@@ -1,13 +1,13 @@
 // Centres at a radius.
 use crate::front::fill_front;
-use refusal_numbers::refusal_number;
+use study::refusals::refusal_number;
 use study::Answer;
 use study::Dataset;
 use study::Refusal;
 ghost use mathlib.Core.Path.{_≡_};
 ghost use lib.ListN.{length};
 ghost use Rattle.study.specs.Refusals.{verdictOf};
-ghost use Rattle.refusal_numbers.specs.Numbers.{refusalNumber};
+ghost use Rattle.study.specs.Numbers.{refusalNumber};
 ghost use Rattle.validity.specs.Memory.{stateOf};
 ghost use Rattle.blocking.specs.Answers.{centresAnswer, centresFront, centresLeaves};
 

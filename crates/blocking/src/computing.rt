@@ -2,15 +2,16 @@
 use crate::block::BlockRows;
 use crate::block::Computed;
 use crate::front::put_centres;
-use blocks::core::block_rows;
+use blocking_core::core::block_rows;
 use study::Blocked;
 use study::Dataset;
+use study::MAX_TIDES;
 ghost use mathlib.Core.Path.{_≡_};
 ghost use lib.ListN.{length};
 ghost use Rattle.study.specs.Calls.{blockedOf};
 ghost use Rattle.validity.specs.Memory.{stateOf};
 ghost use Rattle.blocking.specs.Answers.{blockReply, blockList};
-ghost use Rattle.blocking.specs.Told.{BlockTold};
+ghost use Rattle.blocking.specs.Accepted.{BlockAccepted};
 ghost use Rattle.blocking.specs.Rows.{RowsOf};
 
 pub fn compute(
@@ -20,7 +21,7 @@ pub fn compute(
     list: &mut [u8],
     room: usize,
 ) -> Computed
-    requires { ⌜ BlockTold (stateOf dataset (now distances) (now settings)) (length (now list)) room ⌝ }
+    requires { ⌜ BlockAccepted (stateOf dataset (now distances) (now settings)) (length (now list)) room ⌝ }
     ensures { λ r. ⌜ blockedOf (r .answer) ≡ blockReply (stateOf dataset (now (distances .entry)) (now (settings .entry))) (length (now (list .entry))) room ⌝ }
     ensures { λ r. ⌜ RowsOf (stateOf dataset (now (distances .entry)) (now (settings .entry))) (length (now (list .entry))) room (r .rows) ⌝ }
     ensures { λ _. ⌜ now (list .exit) ≡ blockList (stateOf dataset (now (distances .entry)) (now (settings .entry))) (now (list .entry)) room ⌝ }
@@ -29,7 +30,7 @@ pub fn compute(
     let rows = block_rows(distances, settings, n, dataset.minima, list);
     let count = rows.count;
     let centres = rows.centres;
-    let mut numbers: [u8; 120] = [0; 120];
+    let mut numbers: [u8; MAX_TIDES] = [0; MAX_TIDES];
     put_centres(&centres, count, &mut numbers);
     let tides = rows.sizes;
     let diameters = rows.diameters;

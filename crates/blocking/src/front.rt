@@ -1,18 +1,20 @@
 // What an accepted Centres writes.
-use radius::centres::find_centres;
+use radius_search::centres::find_centres;
 use study::Dataset;
+use study::MAX_TIDES;
 ghost use mathlib.Core.Path.{_≡_};
 ghost use Prim.Native.Nat.{ℕ, _+_, _<_, _≤_};
 ghost use lib.ListN.{length, getD};
 ghost use Rattle.lists.specs.Lists.{overwrite};
+ghost use Rattle.study.specs.Limits.{maxTides};
 ghost use Rattle.validity.specs.Memory.{stateOf};
 ghost use Rattle.blocking.specs.Answers.{centresFront, centresLeaves};
-ghost use Rattle.blocking.specs.Told.{CentresTold};
+ghost use Rattle.blocking.specs.Accepted.{CentresAccepted};
 
 // Writes the first count centres to the front of the list, as tide numbers from 1.
-pub fn put_centres(centres: &[usize; 120], count: usize, list: &mut [u8])
-    requires { ⌜ (length (now centres) ≡ 120) × (count ≤ 120) × (count ≤ length (now list)) ⌝ }
-    requires { ⌜ ((i : ℕ) → i < count → getD (now centres) i 0 < 120) ⌝ }
+pub fn put_centres(centres: &[usize; MAX_TIDES], count: usize, list: &mut [u8])
+    requires { ⌜ (length (now centres) ≡ maxTides) × (count ≤ maxTides) × (count ≤ length (now list)) ⌝ }
+    requires { ⌜ ((i : ℕ) → i < count → getD (now centres) i 0 < maxTides) ⌝ }
     ensures { λ _. ⌜ now (list .exit) ≡ overwrite count (λ (i : ℕ). getD (now (centres .entry)) i 0 + 1) (now (list .entry)) ⌝ }
 {
     let mut i = 0;
@@ -30,12 +32,12 @@ pub fn fill_front(
     g: u32,
     list: &mut [u8],
 ) -> usize
-    requires { ⌜ CentresTold (stateOf dataset (now distances) (now settings)) (now list) ⌝ }
+    requires { ⌜ CentresAccepted (stateOf dataset (now distances) (now settings)) (now list) ⌝ }
     ensures { λ r. ⌜ r ≡ length (centresFront (stateOf dataset (now (distances .entry)) (now (settings .entry))) g (now (list .entry))) ⌝ }
     ensures { λ _. ⌜ now (list .exit) ≡ centresLeaves (stateOf dataset (now (distances .entry)) (now (settings .entry))) g (now (list .entry)) ⌝ }
 {
     let n = dataset.n;
-    let mut centres: [usize; 120] = [0; 120];
+    let mut centres: [usize; MAX_TIDES] = [0; MAX_TIDES];
     let count = find_centres(distances, n, g, &mut centres);
     put_centres(&centres, count, list);
     count

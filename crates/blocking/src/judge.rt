@@ -1,7 +1,7 @@
 // Judge: whether a list of block numbers made by anyone is feasible.
 use crate::judging::blocks_meet;
 use crate::judging::numbers_valid;
-use blocks::measure::widest;
+use blocking_core::measure::widest;
 use study::Answer;
 use study::Dataset;
 use study::Judged;

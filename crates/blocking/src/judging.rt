@@ -1,6 +1,6 @@
 // What Judge looks at in a list: its numbers, and the tides under each of them.
-use radius::counts::counts_meet;
-use radius::counts::wide;
+use radius_search::counts::counts_meet;
+use radius_search::counts::wide;
 use study::Minima;
 ghost use mathlib.Core.Path.{_≡_};
 ghost use Prim.Native.Nat.{ℕ, _≤_};
@@ -9,8 +9,8 @@ ghost use lib.ListN.{length, getD, replicate};
 ghost use Rattle.lists.specs.Lists.{bit, between, every};
 ghost use Rattle.study.specs.Problem.{block, labels};
 ghost use Rattle.study.specs.Study.{meets};
-ghost use Rattle.radius.specs.Tally.{Tallied};
-ghost use Rattle.blocking.specs.Told.{Listed};
+ghost use Rattle.radius_search.specs.Tally.{Tallied};
+ghost use Rattle.blocking.specs.Accepted.{JudgedArrays};
 
 fn valid_number(x: u8) -> bool
     ensures { λ r. ⌜ r ≡ between 1 255 x ⌝ }
@@ -45,7 +45,7 @@ fn same(block: u8, other: u8) -> usize
 
 // Counts the tides under a number, and by their settings.
 fn count_block(settings: &[u8], n: usize, list: &[u8], number: u8, counts: &mut [usize; 9]) -> usize
-    requires { ⌜ Listed (now settings) n (now list) ⌝ }
+    requires { ⌜ JudgedArrays (now settings) n (now list) ⌝ }
     requires { ⌜ now counts ≡ replicate 9 0 ⌝ }
     ensures { λ r. ⌜ Tallied (now (settings .entry)) (block (labels (now (list .entry))) number) n r (now (counts .exit)) ⌝ }
 {
@@ -63,7 +63,7 @@ fn count_block(settings: &[u8], n: usize, list: &[u8], number: u8, counts: &mut 
 
 // Whether the tides under a number meet the minima.
 fn block_meets(settings: &[u8], n: usize, minima: Minima, list: &[u8], number: u8) -> bool
-    requires { ⌜ Listed (now settings) n (now list) ⌝ }
+    requires { ⌜ JudgedArrays (now settings) n (now list) ⌝ }
     ensures { λ r. ⌜ r ≡ meets minima n (λ (t : ℕ). getD (now (settings .entry)) t 0) (block (labels (now (list .entry))) number) ⌝ }
 {
     let mut counts: [usize; 9] = [0; 9];
@@ -73,7 +73,7 @@ fn block_meets(settings: &[u8], n: usize, minima: Minima, list: &[u8], number: u
 
 // Whether the tides under each number used meet the minima.
 pub fn blocks_meet(settings: &[u8], n: usize, minima: Minima, list: &[u8]) -> bool
-    requires { ⌜ Listed (now settings) n (now list) ⌝ }
+    requires { ⌜ JudgedArrays (now settings) n (now list) ⌝ }
     ensures { λ r. ⌜ r
         ≡ every n (λ (u : ℕ). meets minima n (λ (t : ℕ). getD (now (settings .entry)) t 0)
         (block (labels (now (list .entry))) (labels (now (list .entry)) u))) ⌝ }

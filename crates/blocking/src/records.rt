@@ -4,8 +4,10 @@ use crate::storing::put_records;
 use study::BlockRecord;
 use study::Blocked;
 use study::Dataset;
+use study::MAX_TIDES;
 ghost use mathlib.Core.Path.{_≡_};
 ghost use lib.ListN.{length};
+ghost use Rattle.study.specs.Limits.{maxTides};
 ghost use Rattle.study.specs.Calls.{blockedOf};
 ghost use Rattle.validity.specs.Memory.{stateOf};
 ghost use Rattle.blocking.specs.Answers.{blockReply, blockList, blockRecords};
@@ -35,7 +37,7 @@ pub fn block(
 // Block's answer and records by value, for callers that lend no records.
 pub struct Blocking {
     pub answer: Blocked,
-    pub records: [BlockRecord; 120],
+    pub records: [BlockRecord; MAX_TIDES],
 }
 
 // Block with its records in a local array.
@@ -46,8 +48,8 @@ pub fn block_by_value(
     list: &mut [u8],
 ) -> Blocking
     ensures answer { λ r. ⌜ blockedOf (r .answer)
-        ≡ blockReply (stateOf dataset (now (distances .entry)) (now (settings .entry))) (length (now (list .entry))) 120 ⌝ }
-    ensures list { λ _. ⌜ now (list .exit) ≡ blockList (stateOf dataset (now (distances .entry)) (now (settings .entry))) (now (list .entry)) 120 ⌝ }
+        ≡ blockReply (stateOf dataset (now (distances .entry)) (now (settings .entry))) (length (now (list .entry))) maxTides ⌝ }
+    ensures list { λ _. ⌜ now (list .exit) ≡ blockList (stateOf dataset (now (distances .entry)) (now (settings .entry))) (now (list .entry)) maxTides ⌝ }
     ensures records { λ r. ⌜ r .records
         ≡ blockRecords (stateOf dataset (now (distances .entry)) (now (settings .entry))) (length (now (list .entry))) noRecords ⌝ }
 {
@@ -56,7 +58,7 @@ pub fn block_by_value(
         tides: 0,
         diameter: 0,
     };
-    let mut records = [none; 120];
+    let mut records = [none; MAX_TIDES];
     let answer = block(dataset, distances, settings, list, &mut records);
     Blocking { answer, records }
 }

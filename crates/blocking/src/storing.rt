@@ -5,11 +5,12 @@ ghost use mathlib.Core.Path.{_≡_};
 ghost use Prim.Native.Nat.{_<_, _≤_};
 ghost use lib.ListN.{length};
 ghost use Rattle.lists.specs.Lists.{overwrite};
+ghost use Rattle.study.specs.Limits.{maxTides};
 ghost use Rattle.blocking.specs.Rows.{rowAt};
 
 // The record of one block.
 fn row_at(rows: BlockRows, i: usize) -> BlockRecord
-    requires { ⌜ i < 120 ⌝ }
+    requires { ⌜ i < maxTides ⌝ }
     ensures { λ r. ⌜ r ≡ rowAt rows i ⌝ }
 {
     BlockRecord {
@@ -21,7 +22,7 @@ fn row_at(rows: BlockRows, i: usize) -> BlockRecord
 
 // Stores the records of all blocks; the later places stay.
 pub fn put_records(records: &mut [BlockRecord], rows: BlockRows)
-    requires { ⌜ (rows .count ≤ length (now records)) × (rows .count ≤ 120) ⌝ }
+    requires { ⌜ (rows .count ≤ length (now records)) × (rows .count ≤ maxTides) ⌝ }
     ensures { λ _. ⌜ now (records .exit) ≡ overwrite (rows .count) (rowAt rows) (now (records .entry)) ⌝ }
 {
     let count = rows.count;

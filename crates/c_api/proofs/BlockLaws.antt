@@ -22,7 +22,7 @@ use Rattle.study.proofs.CallLaws.{none-holds}
 use Rattle.study.proofs.Proofs.{for-problem, for-study}
 use Rattle.validity.specs.Memory.{State, isDataset, studyOf, contentsOf}
 use Rattle.validity.proofs.Proofs.{for-datasets}
-use Rattle.dataset.proofs.Ways.{accepted-held}
+use Rattle.dataset.proofs.AnswerLaws.{accepted-held}
 use Rattle.blocking.specs.declared.block.BlockRows.{BlockRows}
 use Rattle.blocking.specs.Answers.{blockAnswer, blockReply, blockList, blockRecords}
 use Rattle.blocking.specs.Rows.{rowAt, noRecord, RowsOf}
@@ -32,7 +32,7 @@ use Rattle.c_api.proofs.RecordLaws.{withRecord, front-written}
 use Rattle.c_api.specs.Records.{Narrow}
 use Rattle.c_api.proofs.CodeLaws.{small, held-narrow}
 use Rattle.c_api.proofs.CallLaws.{lacks-one}
-use Rattle.c_api.proofs.OutputLaws.{reply-refused, reply-value, output-as, code-scant, output-scant, Reads, code-own, output-own}
+use Rattle.c_api.proofs.OutputLaws.{reply-refused, reply-value, output-as, code-tooShort, output-tooShort, Reads, code-own, output-own}
 
 -- ---- the list
 
@@ -46,7 +46,7 @@ module _ (s : State) (list : List ℕ) (room : ℕ) where
       let A = accepted-held s (λ H. blockReasons (H .study) (length list) room) e in
       let w = none-holds (blockReasons S (length list) room) (A .reasons) in
       let ok = for-datasets .valid s (true-T (isDataset s) (A .tested)) .study in
-      for-problem (problem S) (for-study S ok .lawful) .singled (not-not (sufficient S (λ t. true)) (w .1 .0)) .assignment .long
+      for-problem (problem S) (for-study S ok .lawful) .canonical (not-not (sufficient S (λ t. true)) (w .1 .0)) .assignment .long
 
   pub list-output : blockList s list room ≡ output (blockAnswer s (length list) room) (blocking (problem S)) list
   unfolding blockList output over
@@ -147,13 +147,13 @@ places-are : {p q : Places} → p .list ≡ q .list → p .centres ≡ q .centre
 places-are a b c d e = λ i. record { list = a i; centres = b i; sizes = c i; diameters = d i; result = e i }
 
 module _ (l : Lent) (p : Places) where
-  pub block-scant : (length (l .numbers) < 12) ⊎ (length (p .result) < 3) → (1 ≡ code (blockVerdict l p)) × (p ≡ blockLeft l p)
+  pub block-tooShort : (length (l .numbers) < 12) ⊎ (length (p .result) < 3) → (1 ≡ code (blockVerdict l p)) × (p ≡ blockLeft l p)
   unfolding blockVerdict blockLeft
-  block-scant h =
+  block-tooShort h =
       let e = lacks-one (l .numbers) (p .result) h in (
-        code-scant _ e,
-        places-are (output-scant _ e _ (p .list)) (output-scant _ e _ (p .centres)) (output-scant _ e _ (p .sizes)) (output-scant _ e _ (p .diameters))
-            (output-scant _ e _ (p .result)),
+        code-tooShort _ e,
+        places-are (output-tooShort _ e _ (p .list)) (output-tooShort _ e _ (p .centres)) (output-tooShort _ e _ (p .sizes)) (output-tooShort _ e _ (p .diameters))
+            (output-tooShort _ e _ (p .result)),
       )
 
   abbrev own : Contents → List Reason

@@ -26,7 +26,7 @@ use Rattle.file_format.proofs.DecodedLaws.{decoded-size}
 use Rattle.validity.specs.Memory.{State, stateOf, short, isDataset, contentsOf, recordOf, stored}
 use Rattle.dataset.specs.Answers.{freshAnswer, heldAnswer, openAnswer, openLeaves, minimaAnswer, minimaLeaves, enterAnswer, enterLeaves, withdrawAnswer, withdrawLeaves}
 use Rattle.validity.proofs.Proofs.{for-datasets}
-use Rattle.dataset.proofs.Ways.{accepted-held}
+use Rattle.dataset.proofs.AnswerLaws.{accepted-held}
 use Rattle.narrowing.specs.Narrowing.{narrowed, narrowDataset}
 use Rattle.narrowing.proofs.Proofs.{unchanged}
 use Rattle.study_file.specs.Answers.{readAnswer, readLeaves}
@@ -156,27 +156,27 @@ module _ (l : Lent) {r : Dataset} (e : r ≡ narrowDataset (datasetOf (l .number
 -- ---- what stands afterwards
 
 -- a list of fixed size is too short
-pub left-scant : (l : Lent) {scant : Bool} (v : Verdict) (s : State) → scant ≡ true → (1 ≡ code (roomFirst scant v)) × (l ≡ left l (roomFirst scant v) s)
+pub left-tooShort : (l : Lent) {tooShort : Bool} (v : Verdict) (s : State) → tooShort ≡ true → (1 ≡ code (roomFirst tooShort v)) × (l ≡ left l (roomFirst tooShort v) s)
 unfolding roomFirst left
-left-scant l v s e = (rw e, rw e)
+left-tooShort l v s e = (rw e, rw e)
 
 -- a call got the record in l as o and made r of it; its verdict w gave the code c and the numbers m
-pub record Settled (l : Lent) (o r : Dataset) (w : Verdict) (c : ℕ) (m : List ℕ) : Type 0 where
+pub record Stored (l : Lent) (o r : Dataset) (w : Verdict) (c : ℕ) (m : List ℕ) : Type 0 where
   pub room : 12 ≤ length (l .numbers)
   pub held : o ≡ narrowDataset (datasetOf (l .numbers))
   pub answer : c ≡ code w
   pub written : m ≡ settled w (over (numbersOf r) (l .numbers)) (l .numbers)
 
-module _ {l : Lent} {o r : Dataset} {w : Verdict} {c : ℕ} {m : List ℕ} (D : Settled l o r w c m) where
+module _ {l : Lent} {o r : Dataset} {w : Verdict} {c : ℕ} {m : List ℕ} (D : Stored l o r w c m) where
   abbrev whole : lacks 12 (l .numbers) ≡ false
   whole = lacks-no 12 (l .numbers) (D .room)
 
   module _ {d g : List ℕ} where
-    left-own : {scant : Bool} {v v′ : Verdict} {H H′ : Contents} → scant ≡ false → Same v′ v H′ H → w ≡ v′
+    left-own : {tooShort : Bool} {v v′ : Verdict} {H H′ : Contents} → tooShort ≡ false → Same v′ v H′ H → w ≡ v′
         → stateOf r d g ≡ settled v′ (stored H′ (withRecord l o)) (withRecord l o)
-        → (c ≡ code (roomFirst scant v)) × (lent m d g ≡ left l (roomFirst scant v) (settled v (stored H (stateIn l)) (stateIn l)))
+        → (c ≡ code (roomFirst tooShort v)) × (lent m d g ≡ left l (roomFirst tooShort v) (settled v (stored H (stateIn l)) (stateIn l)))
     unfolding roomFirst left stored stateIn
-    left-own {scant} {v} {v′} {H} {H′} e S p q =
+    left-own {tooShort} {v} {v′} {H} {H′} e S p q =
         let u : w ≡ v = p ∙ S .verdict in
         rw e (
           D .answer ∙ ap code u,
@@ -231,10 +231,10 @@ module _ {l : Lent} {o r : Dataset} {w : Verdict} {c : ℕ} {m : List ℕ} (D : 
 
 -- ---- the next call gets what the last one left
 
-left-state : (l : Lent) {scant : Bool} {v : Verdict} {H : Contents} → scant ≡ false → Sound v H
-    → stateIn (left l (roomFirst scant v) (settled v (stored H (stateIn l)) (stateIn l))) ≡ settled v (stored H (stateIn l)) (stateIn l)
+left-state : (l : Lent) {tooShort : Bool} {v : Verdict} {H : Contents} → tooShort ≡ false → Sound v H
+    → stateIn (left l (roomFirst tooShort v) (settled v (stored H (stateIn l)) (stateIn l))) ≡ settled v (stored H (stateIn l)) (stateIn l)
 unfolding roomFirst left stateIn stored recordOf
-left-state l {scant} {v} {H} e S = rw e (by v (S .valid))
+left-state l {tooShort} {v} {H} e S = rw e (by v (S .valid))
   where
     by : (w : Verdict) → (w ≡ accepted → ValidContents H)
         → stateIn (left l w (settled w (stored H (stateIn l)) (stateIn l))) ≡ settled w (stored H (stateIn l)) (stateIn l)

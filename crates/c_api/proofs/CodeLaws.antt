@@ -9,10 +9,10 @@ use Rattle.lists.specs.Lists.{_among_, iota, filter}
 use Rattle.lists.proofs.Members.{filter-mem, map-mem, flatMap-mem, range-mem}
 use Rattle.study.specs.Study.{Contents}
 use Rattle.study.specs.Refusals.{Numbered, number, Verdict, refused, Reason, firstOf}
-use Rattle.refusal_numbers.specs.declared.Number.{Number}
-use Rattle.refusal_numbers.specs.declared.Number.the-variants.{Seven}
-use Rattle.refusal_numbers.specs.Numbers.{saidBy}
-use Rattle.study.specs.Calls.{triangle, Pair, breaking, firstPair}
+use Rattle.study.specs.declared.refusals.Number.{Number}
+use Rattle.study.specs.declared.refusals.Number.the-variants.{Seven}
+use Rattle.study.specs.Numbers.{saidBy}
+use Rattle.study.specs.Calls.{triangle, Pair, violations, firstViolation}
 use Rattle.validity.specs.Memory.{State, short, isDataset, contentsOf}
 use Rattle.dataset.specs.Answers.{freshAnswer, heldAnswer}
 use Rattle.c_api.specs.Api.{code}
@@ -64,8 +64,8 @@ module _ (dist : ℕ → ℕ → ℕ) (n : ℕ) (new : ℕ → ℕ) (few : n ≤
   abbrev upper : ℕ → List ℕ
   upper i = iota (suc i) (n - suc i)
 
-  inside : (p : Pair) → p among breaking dist n new → (p .lower < n) × (p .upper < n)
-  unfolding breaking
+  inside : (p : Pair) → p among violations dist n new → (p .lower < n) × (p .upper < n)
+  unfolding violations
   inside p m =
       let r = flatMap-mem (λ i. map (λ j. record { lower = i; upper = j }) (filter (broken? i) (upper i))) (iota 0 n) m in
       let q = map-mem (λ j. record { lower = r .0; upper = j }) (filter (broken? (r .0)) (upper (r .0))) (r .2) in
@@ -74,10 +74,10 @@ module _ (dist : ℕ → ℕ → ℕ) (n : ℕ) (new : ℕ → ℕ) (few : n ≤
       let b = range-mem (suc (r .0)) (n - suc (r .0)) (k .0) in
       subst (λ (z : Pair). (z .lower < n) × (z .upper < n)) (sym (q .2)) (omega (arith, a .1), omega (arith, a .1, b .0, b .1))
 
-  pub pair-narrow : Narrow (refused (firstPair (breaking dist n new)))
-  pair-narrow = first (breaking dist n new) inside
+  pub pair-narrow : Narrow (refused (firstViolation (violations dist n new)))
+  pair-narrow = first (violations dist n new) inside
     where
-      first : (ps : List Pair) → ((p : Pair) → p among ps → (p .lower < n) × (p .upper < n)) → Narrow (refused (firstPair ps))
+      first : (ps : List Pair) → ((p : Pair) → p among ps → (p .lower < n) × (p .upper < n)) → Narrow (refused (firstViolation ps))
       first [] f = small tt
       first (p ∷ ps) f = let h = f p (here refl) in record { fits = omega (arith, h .0, h .1) }
 

@@ -18,13 +18,13 @@ use Rattle.study.specs.Calls.{centresReasons, centreNumbers}
 use Rattle.study.specs.Theorems.{ValidContents}
 use Rattle.file_format.specs.File.{fileOf, byteLength}
 use Rattle.file_format.proofs.Proofs.{files}
-use Rattle.radius.proofs.FrontLaws.{centres-few}
+use Rattle.radius_search.proofs.FrontLaws.{centres-few}
 use Rattle.validity.specs.Memory.{State, isDataset, studyOf, contentsOf}
 use Rattle.dataset.specs.Answers.{heldAnswer}
 use Rattle.validity.proofs.Proofs.{for-datasets}
-use Rattle.dataset.proofs.Ways.{accepted-held}
+use Rattle.dataset.proofs.AnswerLaws.{accepted-held}
 use Rattle.study_file.specs.declared.Written.{Written}
-use Rattle.study_file.specs.declared.Written.the-variants as Outcome
+use Rattle.study_file.specs.declared.Written.the-variants as Writes
 use Rattle.study_file.specs.Answers.{writeReasons, writeAnswer, writtenOf, writeReply, writeLeaves}
 use Rattle.study_file.proofs.Lengths.{length-sum}
 use Rattle.blocking.specs.Answers.{centresAnswer, centresFront, centresLeaves}
@@ -58,14 +58,14 @@ first-set n [] h = absurd (omega arith)
 first-set n (x ∷ xs) h = refl
 
 -- a list of fixed size is too short: 1, and nothing is written
-module _ {scant : Bool} (v : Verdict) (e : scant ≡ true) where
-  pub code-scant : 1 ≡ code (roomFirst scant v)
+module _ {tooShort : Bool} (v : Verdict) (e : tooShort ≡ true) where
+  pub code-tooShort : 1 ≡ code (roomFirst tooShort v)
   unfolding roomFirst
-  code-scant = rw e
+  code-tooShort = rw e
 
-  pub output-scant : (xs old : List ℕ) → old ≡ output (roomFirst scant v) xs old
+  pub output-tooShort : (xs old : List ℕ) → old ≡ output (roomFirst tooShort v) xs old
   unfolding roomFirst output
-  output-scant xs old = rw e
+  output-tooShort xs old = rw e
 
 -- r is the record in l as the code holds it, and a list of fixed size has its m places
 pub record Reads (l : Lent) (r : Dataset) (m : ℕ) (fixed : List ℕ) : Type 0 where
@@ -146,10 +146,10 @@ module _ (list : List ℕ) (s : State) where
           )
 
 module _ (l : Lent) (g : ℕ) (list count : List ℕ) where
-  pub centres-scant : (length (l .numbers) < 12) ⊎ (length count < 1)
+  pub centres-tooShort : (length (l .numbers) < 12) ⊎ (length count < 1)
       → (1 ≡ code (centresVerdict l list count)) × ((list ≡ centresList l g list count) × (count ≡ centresCount l g list count))
   unfolding centresVerdict centresList centresCount
-  centres-scant h = let e = lacks-one (l .numbers) count h in (code-scant _ e, (output-scant _ e _ list, output-scant _ e _ count))
+  centres-tooShort h = let e = lacks-one (l .numbers) count h in (code-tooShort _ e, (output-tooShort _ e _ list, output-tooShort _ e _ count))
 
   abbrev own : Contents → List Reason
   own H = centresReasons (H .study) (length list)
@@ -190,26 +190,26 @@ module _ (room : ℕ) (s : State) where
       omega (arith, files .file-length (contentsOf s) ok)
 
   module _ (w : Written) (p : writtenOf w ≡ writeReply s room) where
-    write-why : {why : Refusal} → w ≡ Outcome.Refused why → writeAnswer s room ≡ refused (numbered why)
+    write-why : {why : Refusal} → w ≡ Writes.Refused why → writeAnswer s room ≡ refused (numbered why)
     unfolding writeReply
     write-why e = reply-refused (writeAnswer s room) (length (fileOf (contentsOf s))) (sym (ap writtenOf e) ∙ p)
 
-    pub why-narrow : {why : Refusal} → w ≡ Outcome.Refused why → Narrow (refused (numbered why))
+    pub why-narrow : {why : Refusal} → w ≡ Writes.Refused why → Narrow (refused (numbered why))
     unfolding writeAnswer writeReasons
     why-narrow e = subst Narrow (write-why e) (held-narrow s (λ H. writeReasons H room) (λ _. (small tt, tt)))
 
-    write-size : {n : ℕ} → w ≡ Outcome.Done n → (writeAnswer s room ≡ accepted) × (n ≡ length (fileOf (contentsOf s)))
+    write-size : {n : ℕ} → w ≡ Writes.Done n → (writeAnswer s room ≡ accepted) × (n ≡ length (fileOf (contentsOf s)))
     unfolding writeReply
     write-size e = reply-value (writeAnswer s room) (length (fileOf (contentsOf s))) (sym (ap writtenOf e) ∙ p)
 
-    pub size-fits : {n : ℕ} → w ≡ Outcome.Done n → n < 4294967296
+    pub size-fits : {n : ℕ} → w ≡ Writes.Done n → n < 4294967296
     size-fits e = let q = write-size e in omega (arith, q .1, length-fits (q .0))
 
 module _ (l : Lent) (file result : List ℕ) where
-  pub write-scant : (length (l .numbers) < 12) ⊎ (length result < 1)
+  pub write-tooShort : (length (l .numbers) < 12) ⊎ (length result < 1)
       → (1 ≡ code (writeVerdict l file result)) × ((file ≡ writeFile l file result) × (result ≡ writeLength l file result))
   unfolding writeVerdict writeFile writeLength
-  write-scant h = let e = lacks-one (l .numbers) result h in (code-scant _ e, (output-scant _ e _ file, output-scant _ e _ result))
+  write-tooShort h = let e = lacks-one (l .numbers) result h in (code-tooShort _ e, (output-tooShort _ e _ file, output-tooShort _ e _ result))
 
   abbrev writes : Contents → List Reason
   writes H = writeReasons H (length file)
@@ -224,14 +224,14 @@ module _ (l : Lent) (file result : List ℕ) where
     abbrev lengths : Contents → List ℕ
     lengths H = length (fileOf H) ∷ []
 
-    pub write-refused : {why : Refusal} {c : ℕ} → w ≡ Outcome.Refused why → c ≡ code (refused (numbered why))
+    pub write-refused : {why : Refusal} {c : ℕ} → w ≡ Writes.Refused why → c ≡ code (refused (numbered why))
         → (c ≡ code (writeVerdict l file result)) × ((new ≡ writeFile l file result) × (result ≡ writeLength l file result))
     unfolding writeVerdict writeLength writeAnswer output
     write-refused e f =
         let y = write-why (length file) (withRecord l r) w p e in
         (f ∙ code-own R writes y, (filed, output-own R writes lengths result (output-as _ result y refl)))
 
-    pub write-done : {n : ℕ} → w ≡ Outcome.Done n
+    pub write-done : {n : ℕ} → w ≡ Writes.Done n
         → (0 ≡ code (writeVerdict l file result)) × ((new ≡ writeFile l file result) × (set result 0 n ≡ writeLength l file result))
     unfolding writeVerdict writeLength writeAnswer output
     write-done {n} e =

@@ -23,7 +23,7 @@ use Rattle.guarantee.proofs.Proofs.{demand3}
 use Rattle.c_api.specs.Api.{Lent, stateIn, roomFirst, lacks, over, output, left, openLeft, minimaVerdict, minimaLeft, enterLeft, withdrawLeft, readLeft, Places, recordRoom, blockVerdict, blockLeft}
 use Rattle.c_api.specs.Runs.{CCall, c-open, c-read, c-minima, c-enter, c-withdraw, c-centres, c-block, c-judge, c-write, cAfter, cRun, recordsIn, unless, callsOf}
 use Rattle.c_api.specs.Theorems.{AsRun, CDemand3}
-use Rattle.c_api.proofs.CallLaws.{lacks-yes, lacks-no, lacks-one, left-scant, open-carried, minima-carried, enter-carried, withdraw-carried, read-carried}
+use Rattle.c_api.proofs.CallLaws.{lacks-yes, lacks-no, lacks-one, left-tooShort, open-carried, minima-carried, enter-carried, withdraw-carried, read-carried}
 use Rattle.c_api.proofs.BlockLaws.{list-output}
 
 -- ---- no call makes the record shorter
@@ -48,18 +48,18 @@ after-long l (c-write file result) = omega arith
 -- ---- a call for C is the call
 
 module _ (l : Lent) (room : 12 ≤ length (l .numbers)) where
-  minima-scant : (minima : List ℕ) → length minima < 9 → stateIn (minimaLeft l minima) ≡ stateIn l
+  minima-tooShort : (minima : List ℕ) → length minima < 9 → stateIn (minimaLeft l minima) ≡ stateIn l
   unfolding minimaLeft minimaVerdict
-  minima-scant minima h = ap stateIn (sym (left-scant l _ _ (lacks-one (l .numbers) minima (inr h)) .1))
+  minima-tooShort minima h = ap stateIn (sym (left-tooShort l _ _ (lacks-one (l .numbers) minima (inr h)) .1))
 
   minima-step : (minima : List ℕ) → stateIn (cAfter l (c-minima minima)) ≡ run (stateIn l) (callsOf (c-minima minima))
   unfolding cAfter callsOf run after updating minimaLeaves minimaAnswer
   minima-step minima =
-      ⊎-elim (λ h. rw (lacks-yes 9 minima h) (minima-scant minima h)) (λ h. rw (lacks-no 9 minima h) (minima-carried l room minima h))
+      ⊎-elim (λ h. rw (lacks-yes 9 minima h) (minima-tooShort minima h)) (λ h. rw (lacks-no 9 minima h) (minima-carried l room minima h))
       (split (length minima) 9)
 
   -- a call that only reads
-  asked : (scant : Bool) (q : Query) → stateIn l ≡ run (stateIn l) (unless scant (call-ask q))
+  asked : (tooShort : Bool) (q : Query) → stateIn l ≡ run (stateIn l) (unless tooShort (call-ask q))
   unfolding run after
   asked true q = refl
   asked false q = refl
@@ -91,7 +91,7 @@ as-run l (c ∷ cs) room =
 -- ---- the Block after it
 
 -- an accepted call had room
-room-own : (scant : Bool) (own : Verdict) → roomFirst scant own ≡ accepted → own ≡ accepted
+room-own : (tooShort : Bool) (own : Verdict) → roomFirst tooShort own ≡ accepted → own ≡ accepted
 unfolding roomFirst
 room-own true own e = absurd (let z : _≡_ {A = ℕ} 0 1 = cc in omega arith)
 room-own false own e = e

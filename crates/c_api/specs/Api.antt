@@ -53,7 +53,7 @@ code (refused (seven i j)) = 7 + 256 * i + 65536 * j
 
 -- a list of fixed size that is too short is reason 1 and comes first; then the verdict of the call
 unfoldable pub roomFirst : Bool → Verdict → Verdict
-roomFirst scant own = cond scant (refused (number 1)) own
+roomFirst tooShort own = cond tooShort (refused (number 1)) own
 
 unfoldable pub lacks : ℕ → List ℕ → Bool
 lacks n l = ltb (length l) n

@@ -47,7 +47,7 @@ recordsIn p = tabulate (recordRoom p) (λ i. record { centre = getD (p .centres)
 
 -- none where a list of fixed size is too short: then the call for C is refused 1
 abbrev pub unless : Bool → Call → List Call
-unless scant c = cond scant [] (c ∷ [])
+unless tooShort c = cond tooShort [] (c ∷ [])
 
 -- the call that a call for C is
 unfoldable pub callsOf : CCall → List Call

@@ -1,6 +1,6 @@
 // The number that a call answers.
-use refusal_numbers::Number;
-use refusal_numbers::numbered;
+use study::refusals::Number;
+use study::refusals::numbered;
 use study::Answer;
 use study::Refusal;
 ghost use mathlib.Core.Path.{_≡_};

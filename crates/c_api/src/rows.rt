@@ -4,6 +4,7 @@ ghost use mathlib.Core.Path.{_≡_};
 ghost use Prim.Native.Nat.{ℕ, _≤_, min};
 ghost use lib.ListN.{length, getD};
 ghost use Rattle.lists.specs.Lists.{overwrite};
+ghost use Rattle.study.specs.Limits.{maxTides};
 
 fn put_bytes(row: &[u8], count: usize, list: &mut [u8])
     requires { ⌜ (count ≤ length (now row)) × (count ≤ length (now list)) ⌝ }
@@ -51,7 +52,7 @@ pub fn put_columns(
     sizes: &mut [u8],
     diameters: &mut [u32],
 )
-    requires { ⌜ (count ≤ 120) × (count ≤ length (now centres)) × (count ≤ length (now sizes)) × (count ≤ length (now diameters)) ⌝ }
+    requires { ⌜ (count ≤ maxTides) × (count ≤ length (now centres)) × (count ≤ length (now sizes)) × (count ≤ length (now diameters)) ⌝ }
     ensures centres { λ _. ⌜ now (centres .exit) ≡ overwrite count (λ (i : ℕ). getD (rows .centres) i 0) (now (centres .entry)) ⌝ }
     ensures sizes { λ _. ⌜ now (sizes .exit) ≡ overwrite count (λ (i : ℕ). getD (rows .tides) i 0) (now (sizes .entry)) ⌝ }
     ensures diameters { λ _. ⌜ now (diameters .exit) ≡ overwrite count (λ (i : ℕ). getD (rows .diameters) i 0) (now (diameters .entry)) ⌝ }

@@ -1,2 +1,2 @@
 -- Laws, cited by the proofs of this crate and of those above it.
-pub mod Ways
+pub mod AnswerLaws

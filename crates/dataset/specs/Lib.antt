@@ -1,3 +1,3 @@
 -- Answers, to be read beside document 01. Told: inner promises.
 pub mod Answers
-pub mod Told
+pub mod Accepted

@@ -2,28 +2,32 @@
 use study::Answer;
 use study::Dataset;
 use study::Minima;
+use study::MAX_K;
 use study::Outcome;
 use study::Refusal;
-use three_tide::Found;
+use triangle::Violation;
+use study::MAX_TIDES;
+use study::TABLE_SIZE;
+use study::MAX_WITHDRAWALS;
 ghost use mathlib.Core.Path.{_≡_};
 ghost use mathlib.Core.List.{[]};
 ghost use Rattle.study.specs.Refusals.{verdictOf};
 ghost use Rattle.validity.specs.Memory.{stateOf};
 ghost use Rattle.dataset.specs.Answers.{heldAnswer, openAnswer, openLeaves, minimaAnswer, minimaLeaves, enterAnswer, enterLeaves, withdrawAnswer, withdrawLeaves};
-ghost use Rattle.dataset.specs.Told.{Passed, EnterTold, WithdrawTold};
+ghost use Rattle.dataset.specs.Accepted.{Passed, EnterAccepted, WithdrawAccepted};
 
 // The dataset becomes empty, whatever it was.
 pub fn open(dataset: Dataset, distances: &mut [u32], settings: &mut [u8], k: u8) -> Outcome
     ensures answer { λ r. ⌜ verdictOf (r .answer) ≡ openAnswer (stateOf dataset (now (distances .entry)) (now (settings .entry))) k ⌝ }
     ensures leaves { λ r. ⌜ stateOf (r .dataset) (now (distances .exit)) (now (settings .exit)) ≡ openLeaves (stateOf dataset (now (distances .entry)) (now (settings .entry))) k ⌝ }
 {
-    if distances.len() < 14400 {
+    if distances.len() < TABLE_SIZE {
         return Outcome {
             answer: Answer::Refused(Refusal::ShortMemory),
             dataset,
         };
     }
-    if settings.len() < 120 {
+    if settings.len() < MAX_TIDES {
         return Outcome {
             answer: Answer::Refused(Refusal::ShortMemory),
             dataset,
@@ -35,7 +39,7 @@ pub fn open(dataset: Dataset, distances: &mut [u32], settings: &mut [u8], k: u8)
             dataset,
         };
     }
-    if 8 < k {
+    if MAX_K < k {
         return Outcome {
             answer: Answer::Refused(Refusal::SettingCount),
             dataset,
@@ -60,10 +64,10 @@ pub fn open(dataset: Dataset, distances: &mut [u32], settings: &mut [u8], k: u8)
 pub fn check(dataset: Dataset, distances: &[u32], settings: &[u8]) -> Answer
     ensures { λ r. ⌜ verdictOf r ≡ heldAnswer (stateOf dataset (now (distances .entry)) (now (settings .entry))) (λ _. []) ⌝ }
 {
-    if distances.len() < 14400 {
+    if distances.len() < TABLE_SIZE {
         return Answer::Refused(Refusal::ShortMemory);
     }
-    if settings.len() < 120 {
+    if settings.len() < MAX_TIDES {
         return Answer::Refused(Refusal::ShortMemory);
     }
     if validity::is_dataset(dataset, distances, settings) {
@@ -112,7 +116,7 @@ fn enter_answer(
 {
     let k = dataset.k;
     let n = dataset.n;
-    if 120 <= n {
+    if MAX_TIDES <= n {
         return Answer::Refused(Refusal::Full);
     }
     if row.len() != n {
@@ -124,13 +128,13 @@ fn enter_answer(
     if k < setting {
         return Answer::Refused(Refusal::Setting);
     }
-    if !validity::near(row) {
+    if !validity::row_in_range(row) {
         return Answer::Refused(Refusal::Distance);
     }
-    let found = three_tide::first_broken(distances, row);
+    let found = triangle::first_violation(distances, row);
     match found {
-        Found::Pair(i, j) => Answer::Refused(Refusal::ThreeTideRule(i, j)),
-        Found::Nothing => Answer::Done,
+        Violation::Pair(i, j) => Answer::Refused(Refusal::TriangleInequality(i, j)),
+        Violation::Nothing => Answer::Done,
     }
 }
 
@@ -142,7 +146,7 @@ fn add_tide(
     setting: u8,
     row: &[u32],
 ) -> Dataset
-    requires { ⌜ EnterTold (stateOf dataset (now distances) (now settings)) setting (now row) ⌝ }
+    requires { ⌜ EnterAccepted (stateOf dataset (now distances) (now settings)) setting (now row) ⌝ }
     ensures { λ r. ⌜ stateOf r (now (distances .exit)) (now (settings .exit)) ≡ enterLeaves (stateOf dataset (now (distances .entry)) (now (settings .entry))) setting (now (row .entry)) ⌝ }
 {
     let n = dataset.n;
@@ -200,7 +204,7 @@ fn withdraw_answer(dataset: Dataset, distances: &[u32], settings: &[u8], tide: u
     if n < number {
         return Answer::Refused(Refusal::NoSuchTide);
     }
-    if 65535 <= count {
+    if MAX_WITHDRAWALS <= count {
         return Answer::Refused(Refusal::WithdrawalLimit);
     }
     Answer::Done
@@ -208,7 +212,7 @@ fn withdraw_answer(dataset: Dataset, distances: &[u32], settings: &[u8], tide: u
 
 // What an accepted Withdraw makes of record and memory.
 fn remove_tide(dataset: Dataset, distances: &mut [u32], settings: &mut [u8], tide: u8) -> Dataset
-    requires { ⌜ WithdrawTold (stateOf dataset (now distances) (now settings)) tide ⌝ }
+    requires { ⌜ WithdrawAccepted (stateOf dataset (now distances) (now settings)) tide ⌝ }
     ensures { λ r. ⌜ stateOf r (now (distances .exit)) (now (settings .exit)) ≡ withdrawLeaves (stateOf dataset (now (distances .entry)) (now (settings .entry))) tide ⌝ }
 {
     let m = tide as usize - 1;

@@ -7,18 +7,18 @@ use Rattle.study.specs.Problem.{centresAmong, centres, centreOf, choices, block
 use Rattle.study.specs.Problem.{radius, blocking, diameter, greatestDiameter, feasible}
 use Rattle.study.specs.Study.{Study, tide, distance, meets, sufficient, problem, validMinima, Valid}
 use Rattle.study.specs.Refusals.{Verdict, accepted, firstOf}
-use Rattle.study.specs.Calls.{opened, opening, triangle, breaking, enterReasons, entered, entering}
+use Rattle.study.specs.Calls.{opened, opening, triangle, violations, enterReasons, entered, entering}
 use Rattle.study.specs.Calls.{blockReasons, figures, blockRecord, judgeReasons, approved, judgement}
 use Rattle.file_format.specs.Bits.{binary, allBits, pack, packed}
 use Rattle.file_format.specs.File.{tideFields, fields, fileOf, bitLength, byteLength}
 use Rattle.file_format.specs.File.{tideAt, minimaAt, decoded, headReasons, tideReasons, readReasons}
-use Rattle.file_format.proofs.Accepted.{accepted-valid}
+use Rattle.file_format.proofs.AcceptedLaws.{accepted-valid}
 use Rattle.file_format.specs.Cases.{tideOn, line, plain, fresh, reply, case1, case2, case3, case4, case7, one-tide, cases, WorkedCases}
 use Rattle.file_format.specs.Cases.{studyIn, studies, ValidStudies, order, InOrder}
 
 pub worked-cases : WorkedCases
 unfolding cases case1 case2 case3 case4 case7 one-tide plain line tideOn reply firstOf
-    blockReasons figures blockRecord enterReasons entering entered judgeReasons judgement approved opening opened triangle breaking
+    blockReasons figures blockRecord enterReasons entering entered judgeReasons judgement approved opening opened triangle violations
     centresAmong centres centreOf choices block labels allSufficient assignments assignable candidates radius blocking
     diameter greatestDiameter feasible tide distance meets sufficient problem validMinima
     readReasons headReasons tideReasons decoded minimaAt tideAt byteLength bitLength fileOf fields tideFields packed pack allBits binary
@@ -40,7 +40,7 @@ all-valid (R ∷ Rs) e q S (there m) = all-valid Rs (cc) (cc) S m
 accepts : map answer studies ≡ map (λ (S : Study). accepted) studies
 unfolding studies studyIn cases case1 case2 case3 case4 case7 one-tide plain line tideOn opening opened firstOf
     readReasons headReasons tideReasons decoded minimaAt tideAt byteLength bitLength fileOf fields tideFields packed pack allBits binary
-    triangle breaking distance tide validMinima every sumBelow tabulate flatMap
+    triangle violations distance tide validMinima every sumBelow tabulate flatMap
 accepts = refl
 
 gives-back : map back studies ≡ studies
@@ -54,5 +54,5 @@ valid-studies = all-valid studies accepts gives-back
 pub in-order : InOrder
 unfolding order reply firstOf
     readReasons headReasons tideReasons decoded minimaAt tideAt byteLength bitLength binary
-    triangle breaking distance tide validMinima every sumBelow tabulate flatMap
+    triangle violations distance tide validMinima every sumBelow tabulate flatMap
 in-order = refl

@@ -1,4 +1,4 @@
--- Distances by the rows of a study, and the three-tide rule tide by tide. Assumes nothing.
+-- Distances by the rows of a study, and the triangle rule tide by tide. Assumes nothing.
 use Prim.Native.Nat.{ℕ, _≤_, _<_}
 use native.Mathlib.Omega.{arith}
 use mathlib.Core.Path.{_≡_, _∙_, subst}
@@ -8,10 +8,10 @@ use lib.Arith.{le→nltb}
 use lib.ListN.{getD}
 use Rattle.lists.specs.Lists.{isEmpty}
 use Rattle.lists.proofs.Tests.{split, cond-yes, cond-no}
-use Rattle.study.specs.Study.{Study, size, tide, distance, ThreeTideRule}
-use Rattle.study.specs.Calls.{breaking}
+use Rattle.study.specs.Study.{Study, size, tide, distance, TriangleInequality}
+use Rattle.study.specs.Calls.{violations}
 use Rattle.study.proofs.StudyLaws.{distance-both-ways, distance-itself}
-use Rattle.study.proofs.TriangleLaws.{unbroken, unbroken-of, ordered-rule, rule-triangle}
+use Rattle.study.proofs.TriangleLaws.{obeyed, obeyed-of, ordered-triangle, triangle-of}
 
 module _ (S : Study) where
   -- the later tide's row holds the distance
@@ -20,20 +20,20 @@ module _ (S : Study) where
   distance-row t i l = cond-no (ltb t i) _ _ (le→nltb t i (omega arith)) ∙ cond-yes (ltb i t) _ _ (lt→ltb i t l)
 
   -- a bound of the rows is one of the distances
-  pub distance-near : (b : ℕ) → ((t i : ℕ) → t < size S → i < t → getD (tide S t .row) i 0 ≤ b)
+  pub distance-most : (b : ℕ) → ((t i : ℕ) → t < size S → i < t → getD (tide S t .row) i 0 ≤ b)
       → (t u : ℕ) → t < size S → u < size S → distance S t u ≤ b
-  distance-near b f t u p q =
+  distance-most b f t u p q =
       ⊎-elim (λ l. omega (arith, distance-both-ways S t u, distance-row u t l, f u t q l))
       (λ l. ⊎-elim (λ m. omega (arith, distance-row t u m, f t u p m))
       (λ m. let e : t ≡ u = omega arith in subst (λ z. distance S t z ≤ b) e (omega (arith, distance-itself S t))) (split u t))
       (split t u)
 
   -- the rule holds exactly when no tide breaks it with two tides before it
-  pub rule-T : ThreeTideRule S ↔ ((t : ℕ) → t < size S → T (isEmpty (breaking (distance S) t (distance S t))))
+  pub rule-T : TriangleInequality S ↔ ((t : ℕ) → t < size S → T (isEmpty (violations (distance S) t (distance S t))))
   rule-T =
       let turn = distance-both-ways S in (
-        λ O t l. unbroken-of (distance S) t (distance S t) (λ i j a b.
-            rw (turn t i, turn t j) (rule-triangle (distance S) turn (size S) O i j t (omega arith) (omega arith) l)),
-        λ f. ordered-rule (distance S) turn (distance-itself S) (size S) (λ i j l a b c.
-            rw (turn i l, turn j l) (unbroken (distance S) l (distance S l) (f l c) i j a b)),
+        λ O t l. obeyed-of (distance S) t (distance S t) (λ i j a b.
+            rw (turn t i, turn t j) (triangle-of (distance S) turn (size S) O i j t (omega arith) (omega arith) l)),
+        λ f. ordered-triangle (distance S) turn (distance-itself S) (size S) (λ i j l a b c.
+            rw (turn i l, turn j l) (obeyed (distance S) l (distance S l) (f l c) i j a b)),
       )

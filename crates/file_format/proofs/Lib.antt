@@ -6,7 +6,7 @@ pub mod DistanceLaws
 pub mod DecodedLaws
 pub mod ReasonLaws
 pub mod ReadLaws
-pub mod Written
-pub mod Accepted
+pub mod WrittenLaws
+pub mod AcceptedLaws
 pub mod Proofs
 pub mod CasesProof

@@ -2,8 +2,8 @@
 use mathlib.Core.Path.{refl}
 use Rattle.file_format.specs.File.{bitLength, byteLength}
 use Rattle.file_format.specs.Theorems.{Files}
-use Rattle.file_format.proofs.Written.{file-bytes, file-length, file-accepted, decoded-file}
-use Rattle.file_format.proofs.Accepted.{accepted-valid, accepted-file}
+use Rattle.file_format.proofs.WrittenLaws.{file-bytes, file-length, file-accepted, decoded-file}
+use Rattle.file_format.proofs.AcceptedLaws.{accepted-valid, accepted-file}
 
 pub files : Files
 unfolding bitLength byteLength

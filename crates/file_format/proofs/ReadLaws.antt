@@ -12,7 +12,7 @@ use Rattle.lists.specs.Lists.{between, iota, isEmpty}
 use Rattle.lists.proofs.Tests.{not-not, split, eq→eqb, between-T}
 use Rattle.study.specs.Study.{Study, size, tide, distance, validMinima}
 use Rattle.study.specs.Refusals.{Numbered, number, accepted, refused, Reason, firstOf}
-use Rattle.study.specs.Calls.{Pair, breaking, firstPair}
+use Rattle.study.specs.Calls.{Pair, violations, firstViolation}
 use Rattle.study.proofs.CallLaws.{none-holds}
 use Rattle.file_format.specs.Bits.{bitsAt}
 use Rattle.file_format.specs.File.{bitLength, byteLength, minimaAt, decoded, headReasons, tideReasons, readReasons}
@@ -71,15 +71,15 @@ head-T s = (
     fill : ℕ
     fill = bitsAt s (bitLength k n) (8 * length s - bitLength k n)
 
--- the pairs of earlier tides with which tide t breaks the three-tide rule
+-- the pairs of earlier tides with which tide t breaks the triangle rule
 abbrev pub broken : Study → ℕ → List Pair
-broken S t = breaking (distance S) t (distance S t)
+broken S t = violations (distance S) t (distance S t)
 
 -- none of tide t holds
 pub record Fits (S : Study) (t : ℕ) : Type 0 where
   pub low : 1 ≤ tide S t .setting
   pub high : tide S t .setting ≤ S .k
-  pub unbroken : T (isEmpty (broken S t))
+  pub obeyed : T (isEmpty (broken S t))
 
 pub fits-T : (S : Study) (t : ℕ) → (firstOf (tideReasons S t) ≡ accepted) ↔ Fits S t
 unfolding tideReasons
@@ -88,8 +88,8 @@ fits-T S t =
     let both = between-T 1 (S .k) (tide S t .setting) in (
       λ e. let h = none-holds (tideReasons S t) e in
           let b = both .0 (not-not set (h .0)) in
-          record { low = b .0; high = b .1; unbroken = not-not (isEmpty (broken S t)) (h .1 .0) },
-      λ f. holds-none (tideReasons S t) (not-not-of set (both .1 (f .low, f .high)), (not-not-of (isEmpty (broken S t)) (f .unbroken), tt)),
+          record { low = b .0; high = b .1; obeyed = not-not (isEmpty (broken S t)) (h .1 .0) },
+      λ f. holds-none (tideReasons S t) (not-not-of set (both .1 (f .low, f .high)), (not-not-of (isEmpty (broken S t)) (f .obeyed), tt)),
     )
 
 -- ---- the whole list
@@ -138,13 +138,13 @@ module _ (s : List ℕ) where
     refused-five h = refused-tide (refused-at (tideReasons S t) 0 tt (not-T set? (λ x. omega (arith, between-T 1 (S .k) (tide S t .setting) .0 x))))
 
     pub refused-seven : tide (decoded s .study) t .setting ≤ decoded s .study .k → T (not (isEmpty (broken (decoded s .study) t)))
-        → firstOf (readReasons s) ≡ refused (firstPair (broken (decoded s .study) t))
+        → firstOf (readReasons s) ≡ refused (firstViolation (broken (decoded s .study) t))
     unfolding tideReasons
     refused-seven h b = refused-tide (refused-at (tideReasons S t) 1 (not-not-of set? (set h), tt) b)
 
     pub clear-more : tide (decoded s .study) t .setting ≤ decoded s .study .k → T (isEmpty (broken (decoded s .study) t)) → Clear s (t + 1)
     clear-more h b =
-        let e = fits-T S t .1 (record { low = omega (arith, decoded-setting s t held); high = h; unbroken = b }) in
+        let e = fits-T S t .1 (record { low = omega (arith, decoded-setting s t held); high = h; obeyed = b }) in
         record {
           head = c .head;
           tides = λ u l. ⊎-elim (c .tides u) (λ k. let q : t ≡ u = omega arith in subst (λ z. firstOf (tideReasons S z) ≡ accepted) q e) (split u t);

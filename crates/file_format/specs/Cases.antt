@@ -54,17 +54,17 @@ pub data Question : Type 0 where
   write : Contents → Question
   read : List ℕ → Question
 
-pub data Found : Type 0 where
+pub data CaseValue : Type 0 where
   -- Block's figures, list and records
-  blocked : Figures → List ℕ → List BlockRecord → Found
-  is : Bool → Found
-  judged : Judgement → Found
+  blocked : Figures → List ℕ → List BlockRecord → CaseValue
+  is : Bool → CaseValue
+  judged : Judgement → CaseValue
   -- what is held after Enter or Read
-  holds : Contents → Found
-  file : List ℕ → Found
+  holds : Contents → CaseValue
+  file : List ℕ → CaseValue
 
 -- the first reason of the call that holds, or what the call answers and leaves
-unfoldable pub reply : Question → Reply Found
+unfoldable pub reply : Question → Reply CaseValue
 reply (block-of S) =
     replied (firstOf (blockReasons S (size S) (size S)))
     (blocked (figures S) (blocking (problem S)) (tabulate (figures S .blocks) (blockRecord S)))
@@ -74,17 +74,17 @@ reply (enter S setting row) = replied (firstOf (enterReasons S setting row)) (ho
 reply (write H) = value (file (fileOf H))
 reply (read s) = replied (firstOf (readReasons s)) (holds (decoded s))
 
-pub record Case : Type 0 where
+pub record WorkedCase : Type 0 where
   pub asked : Question
-  pub given : Reply Found
+  pub given : Reply CaseValue
 
 infix 10 _gives_
-abbrev pub _gives_ : Question → Reply Found → Case
+abbrev pub _gives_ : Question → Reply CaseValue → WorkedCase
 q gives r = record { asked = q; given = r }
 
 -- each question gets the reply that stands beside it
-abbrev pub AsGiven : List Case → Type 0
-AsGiven cs = map (λ (c : Case). reply (c .asked)) cs ≡ map (λ (c : Case). c .given) cs
+abbrev pub AsGiven : List WorkedCase → Type 0
+AsGiven cs = map (λ (c : WorkedCase). reply (c .asked)) cs ≡ map (λ (c : WorkedCase). c .given) cs
 
 -- block count, radius (document 01: reach), greatest diameter (widest)
 abbrev pub figuresOf : ℕ → ℕ → ℕ → Figures
@@ -116,7 +116,7 @@ case7 = plain 1 (0 ∷ 3 ∷ [])
 unfoldable pub one-tide : Study
 one-tide = plain 1 (0 ∷ [])
 
-unfoldable pub cases : List Case
+unfoldable pub cases : List WorkedCase
 cases =
     -- 1: at 3 there is no filling; at 4 there is one again
     (block-of case1 gives value (blocked (figuresOf 2 2 4) (1 ∷ 2 ∷ 1 ∷ 1 ∷ 2 ∷ 2 ∷ []) (recordOf 1 3 2 ∷ recordOf 2 3 4 ∷ [])))
@@ -164,7 +164,7 @@ studyIn (write H) = H .study ∷ []
 studyIn (read s) = []
 
 unfoldable pub studies : List Study
-studies = flatMap (λ (c : Case). studyIn (c .asked)) cases
+studies = flatMap (λ (c : WorkedCase). studyIn (c .asked)) cases
 
 abbrev pub ValidStudies : Type 0
 ValidStudies = (S : Study) → S among studies → Valid S
@@ -172,7 +172,7 @@ ValidStudies = (S : Study) → S among studies → Valid S
 -- ---- the order of Read's reasons
 
 -- two reasons at once: the earlier one counts
-unfoldable pub order : List Case
+unfoldable pub order : List WorkedCase
 order =
     -- 8, not 9: one byte, mark wrong
     (read (0x00 ∷ []) gives refusal (number 8))

@@ -6,10 +6,11 @@ use mathlib.Core.List.{List, [], _∷_, _++_, map, flatMap}
 use lib.Dec.{ltb, eqb}
 use lib.ListN.{length, take, replicate}
 use Rattle.lists.specs.Lists.{between, iota, tabulate, isEmpty}
+use Rattle.study.specs.Limits.{maxTides}
 use Rattle.study.specs.declared.Minima.{Minima}
 use Rattle.study.specs.Study.{Tide, Study, Contents, size, tide, distance, validMinima}
 use Rattle.study.specs.Refusals.{number, Reason, _⇒_}
-use Rattle.study.specs.Calls.{breaking, firstPair}
+use Rattle.study.specs.Calls.{violations, firstViolation}
 use Rattle.file_format.specs.Bits.{bitsAt, Field, field, allBits, packed}
 
 -- ---- the file of given contents
@@ -72,19 +73,19 @@ headReasons s =
     let end = bitLength k n in
     (ltb (length s) 6 ⇒ number 8)
     ∷ (not (eqb (bitsAt s 0 8) 0x54) ⇒ number 9)
-    ∷ (ltb 120 n ⇒ number 10)
+    ∷ (ltb maxTides n ⇒ number 10)
     ∷ (not (between 1 8 k) ⇒ number 2)
     ∷ (not (eqb (length s) (byteLength k n)) ⇒ number 8)
     ∷ (not (validMinima k (minimaAt s k)) ⇒ number 3)
     ∷ (not (eqb (bitsAt s end (8 * length s - end)) 0) ⇒ number 11)
     ∷ []
 
--- of tide t: its setting, and the first pair of earlier tides with which it breaks the three-tide rule
+-- of tide t: its setting, and the first pair of earlier tides with which it breaks the triangle rule
 unfoldable pub tideReasons : Study → ℕ → List Reason
 tideReasons S t =
-    let broken = breaking (distance S) t (distance S t) in
+    let broken = violations (distance S) t (distance S t) in
     (not (between 1 (S .k) (tide S t .setting)) ⇒ number 5)
-    ∷ (not (isEmpty broken) ⇒ firstPair broken)
+    ∷ (not (isEmpty broken) ⇒ firstViolation broken)
     ∷ []
 
 unfoldable pub readReasons : List ℕ → List Reason

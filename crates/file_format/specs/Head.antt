@@ -4,6 +4,7 @@ use mathlib.Core.Path.{_≡_}
 use mathlib.Core.List.{List}
 use lib.Dec.{T}
 use lib.ListN.{length}
+use Rattle.study.specs.Limits.{maxTides}
 use Rattle.study.specs.Study.{validMinima}
 use Rattle.study.specs.Refusals.{accepted, firstOf}
 use Rattle.file_format.specs.Bits.{bitsAt}
@@ -13,7 +14,7 @@ use Rattle.file_format.specs.File.{bitLength, byteLength, minimaAt, deco
 pub record Head (s : List ℕ) : Type 0 where
   pub six : 6 ≤ length s
   pub mark : bitsAt s 0 8 ≡ 0x54
-  pub few : bitsAt s 8 7 ≤ 120
+  pub few : bitsAt s 8 7 ≤ maxTides
   pub k-low : 1 ≤ bitsAt s 15 4
   pub k-high : bitsAt s 15 4 ≤ 8
   pub long : length s ≡ byteLength (bitsAt s 15 4) (bitsAt s 8 7)

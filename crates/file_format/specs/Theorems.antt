@@ -3,6 +3,7 @@ use Prim.Native.Nat.{ℕ, _<_}
 use mathlib.Core.Path.{_≡_}
 use mathlib.Core.List.{List}
 use lib.ListN.{length, getD}
+use Rattle.study.specs.Limits.{maxTides}
 use Rattle.study.specs.Study.{Contents, size}
 use Rattle.study.specs.Refusals.{accepted, firstOf}
 use Rattle.study.specs.Theorems.{ValidContents}
@@ -16,7 +17,7 @@ pub record Files : Type 0 where
   pub bytes : (H : Contents) → ValidContents H → Bytes (fileOf H)
   pub file-length : (H : Contents) → ValidContents H → length (fileOf H) ≡ byteLength (H .study .k) (size (H .study))
   -- the greatest file has 17,908 bytes
-  pub greatest : byteLength 8 120 ≡ 17908
+  pub greatest : byteLength 8 maxTides ≡ 17908
   -- reading the file of valid contents gives them back
   pub accepts : (H : Contents) → ValidContents H → firstOf (readReasons (fileOf H)) ≡ accepted
   pub gives : (H : Contents) → ValidContents H → decoded (fileOf H) ≡ H

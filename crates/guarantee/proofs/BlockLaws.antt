@@ -18,7 +18,7 @@ use Rattle.study.specs.Problem.{Problem, centres, block, labels, radius, blocki
 use Rattle.study.specs.Study.{Study, Contents, size, tide, sufficient, problem, Valid}
 use Rattle.study.specs.Refusals.{number, accepted, refused, settled, firstOf}
 use Rattle.study.specs.Calls.{blockReasons, Figures, figures, blockRecord}
-use Rattle.study.specs.Theorems.{Lawful, Singled, ValidContents}
+use Rattle.study.specs.Theorems.{Lawful, Canonical, ValidContents}
 use Rattle.study.proofs.ProblemLaws.{greatestDiameter-is, greatestDiameter-same}
 use Rattle.study.proofs.Approximation.{assignment-feasible}
 use Rattle.study.proofs.StudyLaws.{meets-T, validMinima-T}
@@ -26,7 +26,7 @@ use Rattle.study.proofs.CallLaws.{none-holds}
 use Rattle.study.proofs.Proofs.{for-problem, for-study}
 use Rattle.guarantee.specs.Runs.{make-blocks, Output, Inquiry, inquiring, call-ask, Response}
 use Rattle.guarantee.specs.History.{ownVerdict, verdict, outputs, learnt}
-use Rattle.guarantee.specs.Theorems.{Guaranteed, SingledOut, blocked}
+use Rattle.guarantee.specs.Theorems.{Guaranteed, CanonicalBlock, blocked}
 
 -- ---- a valid study whose tides together are sufficient
 
@@ -42,16 +42,16 @@ module _ (S : Study) (ok : Valid S) (enough : T (sufficient S (λ t. true))) whe
   lawful : Lawful P
   lawful = for-study S ok .lawful
 
-  singled : Singled P
+  canonical : Canonical P
   unfolding problem
-  singled = for-problem P lawful .singled enough
+  canonical = for-problem P lawful .canonical enough
 
   -- each block has a tide, since b0 is at least 1
   occupied : (m : ℕ) → 1 ≤ m → m ≤ length (centres P (radius P)) → (t : ℕ) × (t < size S) × (labels (blocking P) t ≡ m)
   unfolding problem sufficient block
   occupied m a b =
       let p = block (labels (blocking P)) m in
-      let w = meets-T (S .minima) (size S) (λ t. tide S t .setting) p .0 (singled .assignment .enough m a b) .whole in
+      let w = meets-T (S .minima) (size S) (λ t. tide S t .setting) p .0 (canonical .assignment .enough m a b) .whole in
       let N = nth-is p (size S) 0 (omega (arith, validMinima-T (S .k) (S .minima) .0 (ok .minima) .low)) in
       (nth p (size S) 0, N .below, eqb→eq _ m (N .pass))
 
@@ -62,7 +62,7 @@ module _ (S : Study) (ok : Valid S) (enough : T (sufficient S (λ t. true))) whe
 
     long : length (blocking P) ≡ size S
     unfolding problem
-    long = singled .assignment .long
+    long = canonical .assignment .long
 
     same-labels : (t : ℕ) → t < size S → labels (blocking P) t ≡ labels list t
     unfolding labels
@@ -70,16 +70,16 @@ module _ (S : Study) (ok : Valid S) (enough : T (sufficient S (λ t. true))) whe
 
     low : (t : ℕ) → t < size S → 1 ≤ labels list t
     unfolding problem
-    low t l = omega (arith, same-labels t l, singled .assignment .low t l)
+    low t l = omega (arith, same-labels t l, canonical .assignment .low t l)
 
     high : (t : ℕ) → t < size S → labels list t ≤ length (centres P (radius P))
     unfolding problem
-    high t l = omega (arith, same-labels t l, singled .assignment .high t l)
+    high t l = omega (arith, same-labels t l, canonical .assignment .high t l)
 
     guaranteed : Guaranteed S (figures S) list
     unfolding figures problem
     guaranteed =
-        let f = assignment-feasible P (radius P) (blocking P) (singled .assignment) in
+        let f = assignment-feasible P (radius P) (blocking P) (canonical .assignment) in
         let w = greatestDiameter-same P (labels (blocking P)) (labels list) same-labels in
         record {
           long = omega (arith, length-append (blocking P) past, long);
@@ -160,8 +160,8 @@ module _ (H : Contents) (ok : ValidContents H) where
         subst (λ G. Guaranteed S G list) figures-are
         (subst (Guaranteed S (figures S)) list-is (guaranteed S (ok .study) ample (drop (size S) list₀)))
 
-    pub block-singled : SingledOut S F list₀ list records₀ records
+    pub block-canonical : CanonicalBlock S F list₀ list records₀ records
     unfolding figures
-    block-singled =
-        subst (λ G. SingledOut S G list₀ list records₀ records) figures-are
-        (record { radius = refl; blocks = refl; widest = refl; list-is = sym list-is; records-are = sym records-are; singled = singled S (ok .study) ample })
+    block-canonical =
+        subst (λ G. CanonicalBlock S G list₀ list records₀ records) figures-are
+        (record { radius = refl; blocks = refl; widest = refl; list-is = sym list-is; records-are = sym records-are; canonical = canonical S (ok .study) ample })

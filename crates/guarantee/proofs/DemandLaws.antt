@@ -19,7 +19,7 @@ use Rattle.file_format.specs.Theorems.{Bytes}
 use Rattle.validity.specs.Memory.{State, short, isDataset, studyOf, contentsOf, stored}
 use Rattle.validity.proofs.Proofs.{for-datasets}
 use Rattle.dataset.specs.Answers.{freshAnswer, heldAnswer, openAnswer, openLeaves, minimaAnswer, minimaLeaves, enterAnswer, enterLeaves, withdrawAnswer, withdrawLeaves}
-use Rattle.dataset.proofs.Ways.{Accepted, accepted-held, held-own}
+use Rattle.dataset.proofs.AnswerLaws.{Accepted, accepted-held, held-own}
 use Rattle.study_file.specs.Answers.{readAnswer, readLeaves, writeReasons, writeAnswer, writeReply, writeLeaves}
 use Rattle.study_file.proofs.Proofs.{for-files}
 use Rattle.blocking.specs.Answers.{centresAnswer, centresFront, centresLeaves, blockAnswer, blockReply, blockList, blockRecords, judgeAnswer, judgeReply}
@@ -84,9 +84,9 @@ module _ (s : State) where
       let v = centresAnswer s list in
       let front = centreNumbers S g in
       let Q = inquiring (find-centres g list) in
-      let told = Q .tells (contentsOf s) in (
-        part-settled (λ (o : Output). o .lists) v told (Q .lent) ∙ sym (part-settled (λ (l : List ℕ). (l ++ drop (length l) list) ∷ []) v front []),
-        part-settled (λ (o : Output). o .numbers) v told (Q .lent) ∙ counted v front,
+      let toldOutput = Q .tells (contentsOf s) in (
+        part-settled (λ (o : Output). o .lists) v toldOutput (Q .lent) ∙ sym (part-settled (λ (l : List ℕ). (l ++ drop (length l) list) ∷ []) v front []),
+        part-settled (λ (o : Output). o .numbers) v toldOutput (Q .lent) ∙ counted v front,
       )
     where
       counted : (v : Verdict) (front : List ℕ) → settled v (length front ∷ []) [] ≡ settled v (length (settled v front []) ∷ []) []
@@ -107,11 +107,11 @@ module _ (s : State) where
         on-block = λ list records.
             let v = blockAnswer s (length list) (length records) in
             let Q = inquiring (make-blocks list records) in
-            let told = Q .tells (contentsOf s) in (
+            let toldOutput = Q .tells (contentsOf s) in (
               refl,
-              part-settled (λ (o : Output). o .numbers) v told (Q .lent) ∙ numbers-settled figureNumbers v (figures S),
-              part-settled (λ (o : Output). o .lists) v told (Q .lent) ∙ sym (part-settled (λ l. l ∷ []) v (blocking (problem S) ++ drop (size S) list) list),
-              part-settled (λ (o : Output). o .records) v told (Q .lent),
+              part-settled (λ (o : Output). o .numbers) v toldOutput (Q .lent) ∙ numbers-settled figureNumbers v (figures S),
+              part-settled (λ (o : Output). o .lists) v toldOutput (Q .lent) ∙ sym (part-settled (λ l. l ∷ []) v (blocking (problem S) ++ drop (size S) list) list),
+              part-settled (λ (o : Output). o .records) v toldOutput (Q .lent),
             );
         on-judge = λ list.
             let v = judgeAnswer s list in
@@ -120,11 +120,11 @@ module _ (s : State) where
         on-write = λ bytes.
             let v = writeAnswer s (length bytes) in
             let Q = inquiring (write-file bytes) in
-            let told = Q .tells (contentsOf s) in
+            let toldOutput = Q .tells (contentsOf s) in
             let file = fileOf (contentsOf s) in (
               refl,
-              part-settled (λ (o : Output). o .numbers) v told (Q .lent) ∙ numbers-settled (λ n. n ∷ []) v (length file),
-              part-settled (λ (o : Output). o .lists) v told (Q .lent) ∙ sym (part-settled (λ l. l ∷ []) v (file ++ drop (length file) bytes) bytes),
+              part-settled (λ (o : Output). o .numbers) v toldOutput (Q .lent) ∙ numbers-settled (λ n. n ∷ []) v (length file),
+              part-settled (λ (o : Output). o .lists) v toldOutput (Q .lent) ∙ sym (part-settled (λ l. l ∷ []) v (file ++ drop (length file) bytes) bytes),
             );
       }
 

@@ -17,10 +17,10 @@ use Rattle.file_format.proofs.Proofs.{files}
 use Rattle.validity.specs.Memory.{State, short, isDataset, contentsOf, stored}
 use Rattle.dataset.specs.Answers.{freshAnswer, heldAnswer, openAnswer, openLeaves}
 use Rattle.validity.proofs.Proofs.{for-datasets}
-use Rattle.dataset.proofs.Ways.{accepted-held}
+use Rattle.dataset.proofs.AnswerLaws.{accepted-held}
 use Rattle.study_file.specs.Answers.{readAnswer, readLeaves}
 use Rattle.guarantee.specs.Runs.{Change, set-minima, enter, withdraw, updating, Inquiry, inquiring, Call, call-open, call-read, call-change, call-ask, answer, after, output, Response, response, run}
-use Rattle.guarantee.specs.History.{held, onHeld, ownVerdict, verdict, changing, changed, step, following, contentsAfter, told, outputs, learnt}
+use Rattle.guarantee.specs.History.{held, onHeld, ownVerdict, verdict, changing, changed, step, following, contentsAfter, toldOutput, outputs, learnt}
 
 -- ---- what is held
 
@@ -74,12 +74,12 @@ answer-is s (call-ask q) = answer-held s (inquiring q .own)
 -- ---- what a call that only reads tells
 
 -- an accepted call tells of what is held; of a refused one everything lent stays
-told-held : (s : State) (Q : Inquiry) → settled (heldAnswer s (Q .own)) (Q .tells (contentsOf s)) (Q .lent) ≡ told (heldAnswer s (Q .own)) Q (held s)
+told-held : (s : State) (Q : Inquiry) → settled (heldAnswer s (Q .own)) (Q .tells (contentsOf s)) (Q .lent) ≡ toldOutput (heldAnswer s (Q .own)) Q (held s)
 unfolding heldAnswer freshAnswer held
 told-held s Q = by (short s) (isDataset s)
   where
     by : (a b : Bool) → let v = cond a (refused (number 1)) (cond b (firstOf (Q .own (contentsOf s))) (refused (number 21))) in
-        settled v (Q .tells (contentsOf s)) (Q .lent) ≡ told v Q (cond a none (cond b (some (contentsOf s)) none))
+        settled v (Q .tells (contentsOf s)) (Q .lent) ≡ toldOutput v Q (cond a none (cond b (some (contentsOf s)) none))
     by true b = refl
     by false true = refl
     by false false = refl
@@ -89,7 +89,7 @@ unfolding output outputs answer
 output-is s (call-open k) = refl
 output-is s (call-read file) = refl
 output-is s (call-change c) = refl
-output-is s (call-ask q) = told-held s (inquiring q) ∙ ap (λ v. told v (inquiring q) (held s)) (answer-is s (call-ask q))
+output-is s (call-ask q) = told-held s (inquiring q) ∙ ap (λ v. toldOutput v (inquiring q) (held s)) (answer-is s (call-ask q))
 
 response-is : (s : State) (c : Call) → response s c ≡ learnt (short s) (held s) c
 unfolding response learnt

@@ -24,7 +24,7 @@ use Rattle.file_format.specs.File.{decoded}
 use Rattle.validity.specs.Memory.{State, short}
 use Rattle.guarantee.specs.Runs.{Change, set-minima, enter, withdraw, updating, Call, call-open, call-read, call-change, call-ask, answer, run}
 use Rattle.guarantee.specs.History.{held, onHeld, ownVerdict, verdict, changing, changed, step, following, contentsAfter}
-use Rattle.guarantee.specs.Ledger.{Arrival, Ledger, nobody, named, nameOf, fileLedger, emptyLedger, withArrival, withGone, noting, noted, noteAll, begun, ledgerAfter, Exactly}
+use Rattle.guarantee.specs.Ledger.{Arrival, Ledger, noArrival, named, nameOf, fileLedger, emptyLedger, withArrival, withGone, noting, noted, noteAll, begun, ledgerAfter, Exactly}
 use Rattle.guarantee.specs.Theorems.{Anew}
 use Rattle.guarantee.proofs.Follows.{past-short, holds, answers}
 use Rattle.guarantee.proofs.Names.{stays, arrived, remaining-count, name-nth, nth-name}
@@ -52,8 +52,8 @@ module _ (S : Study) where
   file-name t l = nth-name F t t (record { below = omega (arith, file-arrived); pass = tt; rank = count-all t })
 
   file-named : (t : ℕ) → t < size S → named F (nameOf F t) ≡ arrival (tide S t)
-  unfolding named fileLedger tide noTide nobody
-  file-named t l = ap (λ m. getD (map arrival (S .tides)) m nobody) (file-name t l) ∙ List·getD-map arrival (S .tides) t noTide
+  unfolding named fileLedger tide noTide noArrival
+  file-named t l = ap (λ m. getD (map arrival (S .tides)) m noArrival) (file-name t l) ∙ List·getD-map arrival (S .tides) t noTide
 
   file-matches : Matches S F
   unfolding fileLedger distance
@@ -114,17 +114,17 @@ module _ (S : Study) (L : Ledger) (s : ℕ) (row : List ℕ) (K : Matches S L) w
 
   named-old : (t : ℕ) → t < n → named A (nameOf A t) ≡ named L (nameOf L t)
   unfolding named withArrival
-  named-old t l = ap (named A) (name-old t l) ∙ List·getD-append (L .arrivals) (_ ∷ []) nobody (nameOf L t) (name-held S L (K .exact) t l .below)
+  named-old t l = ap (named A) (name-old t l) ∙ List·getD-append (L .arrivals) (_ ∷ []) noArrival (nameOf L t) (name-held S L (K .exact) t l .below)
 
   setting-new : named A (nameOf A n) .setting ≡ s
   unfolding named withArrival
-  setting-new = ap (λ (x : Arrival). x .setting) (ap (named A) name-new ∙ getD-append-seam (L .arrivals) _ [] nobody)
+  setting-new = ap (λ (x : Arrival). x .setting) (ap (named A) name-new ∙ getD-append-seam (L .arrivals) _ [] noArrival)
 
   -- the row holds the distances from those that remain, in order
   far-new : (u : ℕ) → u < n → named A (nameOf A n) .far (nameOf L u) ≡ getD row u 0
   unfolding named withArrival
   far-new u l =
-      ap (λ (x : Arrival). x .far (nameOf L u)) (ap (named A) name-new ∙ getD-append-seam (L .arrivals) _ [] nobody)
+      ap (λ (x : Arrival). x .far (nameOf L u)) (ap (named A) name-new ∙ getD-append-seam (L .arrivals) _ [] noArrival)
       ∙ ap (λ z. getD row z 0) (name-held S L (K .exact) u l .rank)
 
   abbrev SameSetting : ℕ → Type 0

@@ -15,10 +15,10 @@ use Rattle.study.specs.Theorems.{ValidContents}
 use Rattle.validity.specs.Memory.{State, short}
 use Rattle.guarantee.specs.Runs.{make-blocks, inquiring, Call, call-ask, answer, after, Response, response, run}
 use Rattle.guarantee.specs.History.{ownVerdict, verdict, contentsAfter, studyIn, studyAfter, learnt}
-use Rattle.guarantee.specs.Theorems.{Guaranteed, SingledOut, blocked, Demand1, Demand2, Demand3}
+use Rattle.guarantee.specs.Theorems.{Guaranteed, CanonicalBlock, blocked, Demand1, Demand2, Demand3}
 use Rattle.guarantee.proofs.Follows.{held-some, holds-valid, holds, as-short, settles}
 use Rattle.guarantee.proofs.LedgerLaws.{exactly, anew}
-use Rattle.guarantee.proofs.BlockLaws.{block-25, block-guaranteed, block-singled}
+use Rattle.guarantee.proofs.BlockLaws.{block-25, block-guaranteed, block-canonical}
 use Rattle.guarantee.proofs.DemandLaws.{first, unchanged, unwritten, as-contracts, files-and-datasets}
 
 -- the study is that of the contents
@@ -101,13 +101,13 @@ module _ (start : State) (calls : List Call) where
         by (some H) e =
             (H .study, ap studyIn e, block-guaranteed H (valid-after H e) list₀ list records₀ records F (sym (learns-some list₀ records₀ H e) ∙ q))
 
-    single : (S : Study) → studyAfter start calls ≡ some S → SingledOut S F list₀ list records₀ records
+    single : (S : Study) → studyAfter start calls ≡ some S → CanonicalBlock S F list₀ list records₀ records
     unfolding studyAfter
     single S e =
         let K = studied (contentsAfter start calls) S e in
         let H = K .contents in
-        subst (λ R. SingledOut R F list₀ list records₀ records) (K .study)
-        (block-singled H (valid-after H (K .is)) list₀ list records₀ records F (sym (learns-some list₀ records₀ H (K .is)) ∙ q))
+        subst (λ R. CanonicalBlock R F list₀ list records₀ records) (K .study)
+        (block-canonical H (valid-after H (K .is)) list₀ list records₀ records F (sym (learns-some list₀ records₀ H (K .is)) ∙ q))
 
 pub demand1 : Demand1
 unfolding after

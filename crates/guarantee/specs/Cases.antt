@@ -5,6 +5,7 @@ use mathlib.Core.Bool.{Bool, true, false}
 use mathlib.Core.List.{List, [], _∷_, map}
 use mathlib.Core.Option.{Option, none, some}
 use lib.ListN.{replicate}
+use Rattle.study.specs.Limits.{maxTides, maxWithdrawals}
 use Rattle.study.specs.declared.Minima.{Minima}
 use Rattle.study.specs.declared.BlockRecord.{BlockRecord}
 use Rattle.study.specs.Study.{Tide, Contents, noTide}
@@ -29,7 +30,7 @@ abbrev pub records : ℕ → List BlockRecord
 records n = replicate n (record { centre = 0; tides = 0; diameter = 0 })
 
 -- a call, and the verdict that it must get
-pub record Case : Type 0 where
+pub record ReasonCase : Type 0 where
   -- whether the memory is too short
   pub tooShort : Bool
   pub held : Option Contents
@@ -37,11 +38,11 @@ pub record Case : Type 0 where
   pub gives : Verdict
 
 -- in memory that is long enough, refused by a number alone
-abbrev pub case : Option Contents → Call → ℕ → Case
+abbrev pub case : Option Contents → Call → ℕ → ReasonCase
 case h c n = record { tooShort = false; held = h; call = c; gives = refused (number n) }
 
 -- two reasons at once, and which one counts
-unfoldable pub order : List Case
+unfoldable pub order : List ReasonCase
 order =
     -- short memory before everything else
     record { tooShort = true; held = none; call = call-open 9; gives = refused (number 1) }
@@ -54,14 +55,14 @@ order =
     ∷ case none (call-open 9) 2
     ∷ case none (call-read []) 8
     -- Enter: 22 before 4, 4 before 5, 5 before 6, 6 before 7
-    ∷ case (holding (minima 1 0) (replicate 120 noTide) 0) (call-change (enter 1 [])) 22
+    ∷ case (holding (minima 1 0) (replicate maxTides noTide) 0) (call-change (enter 1 [])) 22
     ∷ case (holding (minima 1 0) two 0) (call-change (enter 2 (1 ∷ []))) 4
     ∷ case (holding (minima 1 0) two 0) (call-change (enter 2 (0 ∷ 1048576 ∷ []))) 5
     ∷ case (holding (minima 1 0) two 0) (call-change (enter 1 (0 ∷ 1048576 ∷ []))) 6
     ∷ record { tooShort = false; held = holding (minima 1 0) two 0; call = call-change (enter 1 (1 ∷ 1 ∷ [])); gives = refused (seven 1 2) }
     -- Withdraw: 23 before 26
-    ∷ case (holding (minima 1 0) two 65535) (call-change (withdraw 3)) 23
-    ∷ case (holding (minima 1 0) two 65535) (call-change (withdraw 2)) 26
+    ∷ case (holding (minima 1 0) two maxWithdrawals) (call-change (withdraw 3)) 23
+    ∷ case (holding (minima 1 0) two maxWithdrawals) (call-change (withdraw 2)) 26
     -- Block: 24 before 25, 25 before 1, 1 for the list and for the records
     ∷ case (holding (minima 1 0) [] 0) (call-ask (make-blocks [] [])) 24
     ∷ case (holding (minima 3 0) two 0) (call-ask (make-blocks [] [])) 25
@@ -78,7 +79,7 @@ order =
 
 -- where two reasons hold at once, the earlier one counts
 abbrev pub InOrder : Type 0
-InOrder = map (λ (c : Case). verdict (c .tooShort) (c .held) (c .call)) order ≡ map (λ (c : Case). c .gives) order
+InOrder = map (λ (c : ReasonCase). verdict (c .tooShort) (c .held) (c .call)) order ≡ map (λ (c : ReasonCase). c .gives) order
 
 -- of a tide that is refused, one that enters, one that goes and one that is not there, the second and the third change the two tides
 abbrev pub OneRun : Type 0

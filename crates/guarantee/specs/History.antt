@@ -67,16 +67,16 @@ studyAfter start calls = studyIn (contentsAfter start calls)
 -- ---- what a caller learns
 
 -- an accepted query tells of what is held; of a refused one everything lent stays
-abbrev pub told : Verdict → Inquiry → Option Contents → Output
-told v Q none = Q .lent
-told v Q (some H) = settled v (Q .tells H) (Q .lent)
+abbrev pub toldOutput : Verdict → Inquiry → Option Contents → Output
+toldOutput v Q none = Q .lent
+toldOutput v Q (some H) = settled v (Q .tells H) (Q .lent)
 
 -- the numbers that a call answers, and what then stands in what it was lent
 unfoldable pub outputs : Bool → Option Contents → Call → Output
 outputs tooShort h (call-open k) = noOutput
 outputs tooShort h (call-read file) = noOutput
 outputs tooShort h (call-change c) = noOutput
-outputs tooShort h (call-ask q) = told (verdict tooShort h (call-ask q)) (inquiring q) h
+outputs tooShort h (call-ask q) = toldOutput (verdict tooShort h (call-ask q)) (inquiring q) h
 
 -- from the study and the count, if any, and the call: all that its caller learns
 unfoldable pub learnt : Bool → Option Contents → Call → Response

@@ -27,12 +27,12 @@ pub record Ledger : Type 0 where
   pub gone : ℕ → Bool
 
 -- where no name stands
-unfoldable pub nobody : Arrival
-nobody = record { setting = 0; far = λ m. 0 }
+unfoldable pub noArrival : Arrival
+noArrival = record { setting = 0; far = λ m. 0 }
 
 -- the tide of a name
 unfoldable pub named : Ledger → ℕ → Arrival
-named L m = getD (L .arrivals) m nobody
+named L m = getD (L .arrivals) m noArrival
 
 -- the names of those that came in, without those withdrawn, in order
 unfoldable pub remaining : Ledger → List ℕ

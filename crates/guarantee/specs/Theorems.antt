@@ -13,7 +13,7 @@ use Rattle.study.specs.declared.Minima.{Minima}
 use Rattle.study.specs.declared.BlockRecord.{BlockRecord}
 use Rattle.study.specs.Problem.{centres, labels, radius, blocking, diameter, greatestDiameter, Feasible}
 use Rattle.study.specs.Study.{Study, Contents, size, problem, Renumbered}
-use Rattle.study.specs.Theorems.{Singled}
+use Rattle.study.specs.Theorems.{Canonical}
 use Rattle.study.specs.Refusals.{number, Numbered, accepted, refused, settled, Reply, value, refusal, firstOf}
 use Rattle.study.specs.Calls.{opening, Figures, blockRecord}
 use Rattle.file_format.specs.File.{decoded}
@@ -103,14 +103,14 @@ pub record Demand3 : Type 0 where
 -- ---- demand 2
 
 -- the blocking that document 01 singles out: figures, list and records
-pub record SingledOut (S : Study) (F : Figures) (list₀ list : List ℕ) (records₀ records : List BlockRecord) : Type 0 where
+pub record CanonicalBlock (S : Study) (F : Figures) (list₀ list : List ℕ) (records₀ records : List BlockRecord) : Type 0 where
   pub radius : F .radius ≡ radius (problem S)
   pub blocks : F .blocks ≡ length (centres (problem S) (F .radius))
   pub widest : F .widest ≡ greatestDiameter (problem S) (labels (blocking (problem S)))
   pub list-is : list ≡ blocking (problem S) ++ drop (size S) list₀
   pub records-are : records ≡ overwrite (F .blocks) (blockRecord S) records₀
   -- an assignment at the radius, the first in dictionary order; no smaller candidate has one
-  pub singled : Singled (problem S)
+  pub canonical : Canonical (problem S)
 
 -- after an accepted Open or Read the ledger begins with that file's tides, or none, and goes on with the calls since
 pub record Anew (start : State) (before since : List Call) : Type 0 where
@@ -147,6 +147,6 @@ pub record Demand2 : Type 0 where
   pub blocking : (start : State) (calls : List Call) (S : Study) (list₀ list : List ℕ) (records₀ records : List BlockRecord) (F : Figures)
       → studyAfter start calls ≡ some S
       → response (run start calls) (call-ask (make-blocks list₀ records₀)) ≡ blocked F list records
-      → SingledOut S F list₀ list records₀ records
+      → CanonicalBlock S F list₀ list records₀ records
   -- files and datasets correspond one to one
   pub files : FilesAndDatasets

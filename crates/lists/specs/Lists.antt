@@ -1,9 +1,10 @@
 -- Finite lists, and sums, counts and tables over the numbers below a bound. Everything here computes. Assumes nothing.
 use Prim.Native.Nat.{ℕ, zero, suc, _+_, _*_, max, min}
+use mathlib.Core.Path.{_≡_}
 use mathlib.Core.Bool.{Bool, true, false, cond, _&&_}
 use mathlib.Core.List.{List, [], _∷_, _++_, map, flatMap, List·Memᴰ}
 use lib.Dec.{leb, eqb}
-use lib.ListN.{drop, getD}
+use lib.ListN.{length, drop, getD}
 
 infix 40 _among_
 abbrev pub _among_ : {A : Type 0} → A → List A → Type 0
@@ -56,9 +57,14 @@ tabulate n f = map f (iota 0 n)
 unfoldable pub overwrite : {A : Type 0} → ℕ → (ℕ → A) → List A → List A
 overwrite n f l = tabulate n f ++ drop n l
 
--- place j of row i, in rows of 120
-abbrev pub at : List ℕ → ℕ → ℕ → ℕ
-at l i j = getD l (i * 120 + j) 0
+-- the places from n on stay, and so does the length
+pub record TailKept (n : ℕ) (old new : List ℕ) : Type 0 where
+  pub same-length : length new ≡ length old
+  pub rest : drop n new ≡ drop n old
+
+-- place i of a list; 0 past its end
+abbrev pub at : List ℕ → ℕ → ℕ
+at l i = getD l i 0
 
 -- ---- lists
 

@@ -12,7 +12,8 @@ use Rattle.promise.proofs.MeetingLaws.{meeting-least}
 use Rattle.matching.specs.Matching.{Unsaturable}
 use Rattle.matching.specs.Graph.{Edge, Saturated}
 use Rattle.matching.specs.Slots.{Slots}
-use Rattle.matching.specs.Steps.{Rest, Written}
+use Rattle.lists.specs.Lists.{TailKept}
+use Rattle.matching.specs.Steps.{ListWritten}
 use Rattle.matching.proofs.Correspondence.{no-assignment, written-assigned}
 
 module _ (n blocks : ℕ) (M : Minima) (settings allowed list : List ℕ) where
@@ -28,7 +29,7 @@ module _ (n blocks : ℕ) (M : Minima) (settings allowed list : List ℕ) where
 
   module _ (owner kind list′ : List ℕ) (ask : Asked (Able M n settings) n blocks allowed list) (sl : Slots blocks (M .b0) (M .b) owner kind) where
     -- no matching gives every slot a tide
-    pub unsaturable : Unsaturable (Edge allowed settings owner kind) (blocks * M .b0) n → Rest n list list′ → Promise n blocks (meeting M n settings) allowed list list′ false
+    pub unsaturable : Unsaturable (Edge allowed settings owner kind) (blocks * M .b0) n → TailKept n list list′ → Promise n blocks (meeting M n settings) allowed list list′ false
     unsaturable un re =
         record {
           found = λ e. absurd (false≢true e);
@@ -39,7 +40,7 @@ module _ (n blocks : ℕ) (M : Minima) (settings allowed list : List ℕ) where
 
     -- one does, and the list is written
     pub listed : (tide slot : List ℕ) → Saturated (Edge allowed settings owner kind) (blocks * M .b0) n (blocks * M .b0) tide slot
-        → Written n blocks (blocks * M .b0) allowed owner slot list′ → Rest n list list′ → Promise n blocks (meeting M n settings) allowed list list′ true
+        → ListWritten n blocks (blocks * M .b0) allowed owner slot list′ → TailKept n list list′ → Promise n blocks (meeting M n settings) allowed list list′ true
     listed tide slot sat wr re =
         record {
           found = λ _. written-assigned n blocks M settings allowed owner kind tide slot list′ (ask .able .fit) sl sat wr;
@@ -49,7 +50,7 @@ module _ (n blocks : ℕ) (M : Minima) (settings allowed list : List ℕ) where
         }
 
   -- a tide may go nowhere
-  pub no-place : (list₁ list₂ : List ℕ) → (t : ℕ) × (t < n) × Nowhere allowed t blocks → Rest n list list₁ → Rest n list₁ list₂
+  pub no-place : (list₁ list₂ : List ℕ) → (t : ℕ) × (t < n) × Nowhere allowed t blocks → TailKept n list list₁ → TailKept n list₁ list₂
       → Promise n blocks (meeting M n settings) allowed list list₂ false
   no-place list₁ list₂ w re re′ =
       record {

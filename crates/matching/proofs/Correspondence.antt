@@ -8,7 +8,7 @@ use native.Mathlib.Omega.{arith}
 use lib.Dec.{T, eqb, leb, eqb→eq, eqb-refl, nleb→lt}
 use lib.ListN.{getD}
 use borrow.Author.Tests.{eq-eqb, ne-eqb, lt-leb}
-use Rattle.lists.specs.Lists.{countBelow}
+use Rattle.lists.specs.Lists.{countBelow, at}
 use Rattle.lists.proofs.Tests.{and-T, T-left, T-right, eq→eqb}
 use Rattle.lists.proofs.Counts.{sum-same, count-into}
 use Rattle.study.specs.declared.Minima.{Minima}
@@ -19,10 +19,10 @@ use Rattle.promise.specs.Promise.{allows, Assigned, Asked}
 use Rattle.promise.specs.Promise.{meeting, Able}
 use Rattle.lists.proofs.Counting.{sum-none, sum-one, count-before, count-apart, count-none, nth, Nth, nth-is, firsts}
 use Rattle.matching.proofs.Surplus.{ofSetting, surplus, own-needed, own-setting, own-in, surplus-in, surplus-not, count-own, count-surplus}
-use Rattle.matching.specs.Matching.{at, Unsaturable}
+use Rattle.matching.specs.Matching.{Unsaturable}
 use Rattle.matching.specs.Graph.{Edge, Saturated}
 use Rattle.matching.specs.Slots.{total, blockSum, slotTest, Slots}
-use Rattle.matching.specs.Steps.{Written}
+use Rattle.matching.specs.Steps.{ListWritten}
 
 -- the test for block m and kind k
 abbrev cls : ℕ → ℕ → ℕ → ℕ → Bool
@@ -202,7 +202,7 @@ module _ (n blocks : ℕ) (M : Minima) (settings allowed list owner kind : List 
 
 module _ (n blocks : ℕ) (M : Minima) (settings allowed owner kind tide slot list : List ℕ) (fit : total (M .b) ≤ M .b0)
     (sl : Slots blocks (M .b0) (M .b) owner kind)
-    (sat : Saturated (Edge allowed settings owner kind) (blocks * M .b0) n (blocks * M .b0) tide slot) (wr : Written n blocks (blocks * M .b0) allowed owner slot list) where
+    (sat : Saturated (Edge allowed settings owner kind) (blocks * M .b0) n (blocks * M .b0) tide slot) (wr : ListWritten n blocks (blocks * M .b0) allowed owner slot list) where
   held-block : (s : ℕ) → s < blocks * M .b0 → labels list (at tide s) ≡ at owner s
   unfolding labels
   held-block s l =

@@ -4,7 +4,8 @@ use mathlib.Core.List.{List}
 use Prim.Native.Nat.{ℕ, _-_, _≤_, _<_}
 use native.Mathlib.Omega.{arith}
 use Rattle.lists.proofs.Counts.{pigeonhole}
-use Rattle.matching.specs.Matching.{at, Saturating, Unsaturable, Matching, Tree, Closed}
+use Rattle.lists.specs.Lists.{at}
+use Rattle.matching.specs.Matching.{Saturating, Unsaturable, Matching, Tree, Closed}
 
 module _ (E : ℕ → ℕ → Type 0) (slots tides tail : ℕ) (tide slot from rank queue : List ℕ) (small : slots ≤ 120)
     (v : Matching E slots tides tide slot) (tr : Tree E slots tides tail tide slot from rank queue) (cl : Closed E slots tides tail from rank)

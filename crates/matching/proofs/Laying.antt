@@ -7,10 +7,9 @@ use native.Mathlib.Nat.{mul-le-mul-right}
 use native.Mathlib.Omega.{arith}
 use lib.ListN.{set, length-set}
 use lib.Seq.{getD-set-same, getD-set-other}
-use Rattle.lists.specs.Lists.{sumBelow, bit, countBelow}
+use Rattle.lists.specs.Lists.{sumBelow, bit, countBelow, at}
 use Rattle.lists.proofs.Counts.{sum-zero, sum-suc, count-zero, count-same}
 use Rattle.lists.proofs.Counting.{sum-more, sum-front, count-more}
-use Rattle.matching.specs.Matching.{at}
 use Rattle.matching.specs.Slots.{total, blockSum, slotTest, Slots, Tables, Added, BlockAdded}
 
 -- the slots of the settings below j of block m stand from start up to pos

@@ -41,28 +41,28 @@ module _ (S : Study) (ok : Valid S) (g : ℕ) where
     record Near (t m : ℕ) : Type 0 where
       low : 1 ≤ m
       high : m ≤ length cs
-      near : problem S .dist (centreOf cs m) t ≤ g
+      in-radius : problem S .dist (centreOf cs m) t ≤ g
 
     covered : (t : ℕ) → t < n → (m : ℕ) × Near t m
     unfolding problem centreOf
     covered t l =
-        let r = cover (problem S) g (study-lawful S (ok .three-tide)) t l in
+        let r = cover (problem S) g (study-lawful S (ok .triangle)) t l in
         let q = place 0 cs (r .1) in
         let e : suc (q .0) - 1 ≡ q .0 = omega arith in (
           suc (q .0),
-          record { low = omega arith; high = q .1; near = subst (λ c. problem S .dist c t ≤ g) (sym (ap (λ (i : ℕ). getD cs i 0) e ∙ q .2)) (r .2) },
+          record { low = omega arith; high = q .1; in-radius = subst (λ c. problem S .dist c t ≤ g) (sym (ap (λ (i : ℕ). getD cs i 0) e ∙ q .2)) (r .2) },
         )
 
-    -- t's own block, or else one whose centre is near
+    -- t's own block, or else one whose centre is in-radius
     record Chosen (t m : ℕ) : Type 0 where
-      near : Near t m
+      in-radius : Near t m
       own : 1 ≤ D t → m ≡ D t
 
     choose : (t : ℕ) → t < n → (m : ℕ) × Chosen t m
     choose t l =
         ⊎-elim
-        (λ s. let a = leb→le 1 (D t) s in (D t, record { near = record { low = a; high = P .inside t l; near = P .near t l a }; own = λ b. refl }))
-        (λ s. let a = nleb→lt 1 (D t) s in let r = covered t l in (r .0, record { near = r .1; own = λ b. absurd (omega arith) }))
+        (λ s. let a = leb→le 1 (D t) s in (D t, record { in-radius = record { low = a; high = P .inside t l; in-radius = P .in-radius t l a }; own = λ b. refl }))
+        (λ s. let a = nleb→lt 1 (D t) s in let r = covered t l in (r .0, record { in-radius = r .1; own = λ b. absurd (omega arith) }))
         (test (leb 1 (D t)))
 
     chosen : (t : ℕ) → (m : ℕ) × (t < n → Chosen t m)
@@ -98,9 +98,9 @@ module _ (S : Study) (ok : Valid S) (g : ℕ) where
         assignable-by (problem S) g xs
         (record {
           long = length-tabulate n (λ t. chosen t .0);
-          low = λ t l. at t l .near .low;
-          high = λ t l. at t l .near .high;
-          near = λ t l. at t l .near .near;
+          low = λ t l. at t l .in-radius .low;
+          high = λ t l. at t l .in-radius .high;
+          in-radius = λ t l. at t l .in-radius .in-radius;
           enough = enough;
         })
 
@@ -123,7 +123,7 @@ module _ (S : Study) (ok : Valid S) (g : ℕ) where
     meet m a h = meets-T (S .minima) n setting (block (labels xs) m) .0 (A .enough m a h)
 
     fit : sumBelow 8 (λ j. getD (S .minima .b) j 0) ≤ S .minima .b0
-    fit = validMinima-T (S .k) (S .minima) .0 (ok .minima) .together
+    fit = validMinima-T (S .k) (S .minima) .0 (ok .minima) .sum
 
     stays-in : (m t : ℕ) → T (stays m t) → labels xs t ≡ m
     unfolding stays kept block
@@ -159,7 +159,7 @@ module _ (S : Study) (ok : Valid S) (g : ℕ) where
     solution =
         record {
           inside = λ t l. ⊎-elim (λ s. let a = leb→le 1 (D t) s in rw (own t a) (A .high t l)) (λ s. let a = nleb→lt 1 (D t) s in omega arith) (test (leb 1 (D t)));
-          near = λ t l a. rw (own t a) (A .near t l);
+          in-radius = λ t l a. rw (own t a) (A .in-radius t l);
           whole = λ m a h. let e = meet m a h in
               kept-block m a ∙ count-kept (S .minima .b) setting (block (labels xs) m) n (ok .setting-low) high (S .minima .b0) (e .whole) (e .each) fit;
           each = λ m a h j k. let e = meet m a h in

@@ -7,7 +7,8 @@ use native.Mathlib.Omega.{arith}
 use lib.ListN.{set, length-set}
 use lib.Seq.{getD-set-same, getD-set-other}
 use Rattle.lists.proofs.Counts.{pigeonhole}
-use Rattle.matching.specs.Matching.{at, Matching, Tree}
+use Rattle.lists.specs.Lists.{at}
+use Rattle.matching.specs.Matching.{Matching, Tree}
 
 -- h first, and then f
 front : ℕ → (ℕ → ℕ) → ℕ → ℕ

@@ -8,7 +8,8 @@ use native.Mathlib.Omega.{arith}
 use borrow.Author.Tests.{lt-ltb, le-ltb}
 use lib.ListN.{length, set, length-set}
 use lib.Seq.{getD-set-same, getD-set-other}
-use Rattle.matching.specs.Matching.{at, Matching, Tree, Path, Kept, freed}
+use Rattle.lists.specs.Lists.{at}
+use Rattle.matching.specs.Matching.{Matching, Tree, Path, TidesKept, freed}
 
 pub freed-yes : (slot : List ℕ) (s t o tides : ℕ) → o < tides → freed slot s t o tides ≡ set (set slot t s) o 120
 unfolding freed
@@ -139,7 +140,7 @@ module _ (E : ℕ → ℕ → Type 0) (slots tides : ℕ) (tide slot : List ℕ)
   pub swap-free : o < tides → slots ≤ at slot′ o
   swap-free h = let b = slot-o h in omega arith
 
-  pub swap-kept : Kept slots tides tide tide′
+  pub swap-kept : TidesKept slots tides tide tide′
   swap-kept x xl h = go (ℕ-discrete x s)
     where
       go : Dec (x ≡ s) → at tide′ x < tides

@@ -1,4 +1,4 @@
--- The turns of the loops that build a matching, on plain lists: `scan`, `shift`, `visit`, `adopt`, `grow`, `improve`, `saturate`. Assumes nothing.
+-- The turns of the loops that build a matching, on plain lists: `scan`, `shift`, `visit`, `start_matching`, `grow`, `augment_from`, `saturate`. Assumes nothing.
 use mathlib.Core.Path.{_≡_, refl, sym, ap, _∙_, subst, subst₂}
 use mathlib.Core.Logic.{_⊎_, inl, ⊎-elim}
 use mathlib.Core.List.{List}
@@ -7,8 +7,9 @@ use native.Mathlib.Decide.{ℕ-discrete, decLt}
 use native.Mathlib.Omega.{arith}
 use lib.ListN.{length, set, replicate, length-set, length-replicate, getD-replicate}
 use lib.Seq.{getD-set-same, getD-set-other}
-use Rattle.matching.specs.Matching.{at, Matching, Tree, Kept, Closed, freed}
-use Rattle.matching.specs.Graph.{EdgeAt, Edge, Sized, Scanning, Marked, Free, Searched, Augmented, Shifting, Saturated}
+use Rattle.lists.specs.Lists.{at}
+use Rattle.matching.specs.Matching.{Matching, Tree, TidesKept, Closed, freed}
+use Rattle.matching.specs.Graph.{EdgeAt, Edge, SizedGraph, Scanning, Marked, Free, Searched, Augmented, Shifting, Saturated}
 use Rattle.matching.proofs.Push.{pushed, push-seen, push-here, push-rank, room, queue-old, rank-old}
 use Rattle.matching.proofs.Shift.{swapped, swap-free, swap-kept, swap-here, swap-root, swap-falls, swap-next, swap-edge, swap-path, tree-path}
 use Rattle.matching.proofs.Hall.{hall}
@@ -105,7 +106,7 @@ module _ (E : ℕ → ℕ → Type 0) (slots tides root s t : ℕ) (tide₀ tide
     matching′ : Matching E slots tides tide′ slot′
     matching′ = rw (et, es) (swapped E slots tides tide slot small few (sh .matching) s t (sh .below) (sh .tide-below) (sh .free .free) (sh .free .edge))
 
-    kept′ : Kept slots tides tide₀ tide′
+    kept′ : TidesKept slots tides tide₀ tide′
     kept′ x xl h =
         rw et (swap-kept E slots tides tide slot small few (sh .matching) s t (sh .below) (sh .tide-below) (sh .free .free) (sh .free .edge) x xl (sh .kept x xl h))
 
@@ -144,13 +145,13 @@ module _ (E : ℕ → ℕ → Type 0) (slots tides root s t : ℕ) (tide₀ tide
 
 -- ---- a slot of a block and kind that may be marked
 
-module _ (allowed settings owner kind : List ℕ) (slots tides : ℕ) (z : Sized allowed settings owner kind slots tides) (s : ℕ) (sl : s < slots)
+module _ (allowed settings owner kind : List ℕ) (slots tides : ℕ) (z : SizedGraph allowed settings owner kind slots tides) (s : ℕ) (sl : s < slots)
     (mark from : List ℕ) (mk : Marked allowed settings slots tides mark from) where
   abbrev E : ℕ → ℕ → Type 0
   E = Edge allowed settings owner kind
 
   pub class-below : at owner s * 9 + at kind s < 1080
-  class-below = omega (arith, z .blocks s sl, z .kinds s sl)
+  class-below = omega (arith, z .blocks s sl, z .kind-high s sl)
 
   -- every tide that the slot can hold is seen, from a slot of the kind k
   pub visit-known : (k i start : ℕ) (tide slot rank queue : List ℕ) → Tree E slots tides start tide slot from rank queue → at rank s < 120
@@ -163,7 +164,7 @@ module _ (allowed settings owner kind : List ℕ) (slots tides : ℕ) (z : Sized
         in-tree = sr;
         seen = λ t tl k. k;
         old = λ x xl k. refl;
-        done = λ t l tl e. mk .seen (at owner s) k (z .blocks s sl) (⊎-elim (λ q. omega arith) (λ q. omega (arith, z .kinds s sl)) w) (rw (← ei) h) t tl
+        done = λ t l tl e. mk .seen (at owner s) k (z .blocks s sl) (⊎-elim (λ q. omega arith) (λ q. omega (arith, z .kind-high s sl)) w) (rw (← ei) h) t tl
             (record { may = e .may; suits = ⊎-elim (λ q. inl q) (λ q. subst (λ (i : ℕ). (i ≡ 0) ⊎ (at settings t ≡ i)) (sym q) (e .suits)) w });
       }
 
@@ -177,7 +178,7 @@ module _ (allowed settings owner kind : List ℕ) (slots tides : ℕ) (z : Sized
       go : (m k : ℕ) → m < 120 → k ≤ 8 → (at (set mark (at owner s * 9 + at kind s) 1) (m * 9 + k) ≡ 0 → ⊥) → (t : ℕ) → t < tides → EdgeAt allowed settings m k t
           → Dec (m * 9 + k ≡ at owner s * 9 + at kind s) → at from′ t < slots
       go m k ml kl g t tl e (yes q) =
-          let b = z .kinds s sl in
+          let b = z .kind-high s sl in
           let x : m ≡ at owner s = omega arith in
           let y : k ≡ at kind s = omega arith in
           sc .done t (omega arith) tl (subst₂ (λ (i j : ℕ). EdgeAt allowed settings i j t) x y e)

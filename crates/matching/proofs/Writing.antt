@@ -12,30 +12,31 @@ use lib.Seq.{getD-set-same, getD-set-other, drop-set-lt}
 use Rattle.study.specs.declared.Minima.{Minima}
 use Rattle.promise.specs.Promise.{allows, Asked, Nowhere}
 use Rattle.promise.specs.Promise.{Able}
-use Rattle.matching.specs.Matching.{at, Matching}
-use Rattle.matching.specs.Graph.{Edge, Sized}
+use Rattle.lists.specs.Lists.{at, TailKept}
+use Rattle.matching.specs.Matching.{Matching}
+use Rattle.matching.specs.Graph.{Edge, SizedGraph}
 use Rattle.matching.specs.Slots.{Slots}
-use Rattle.matching.specs.Steps.{Owned, Placed, Rest, Written, Listed}
+use Rattle.matching.specs.Steps.{Owned, BlockOf, ListWritten, ListAnswer}
 use Rattle.matching.proofs.Correspondence.{slot-below, slot-kind}
 
-pub rest-start : (n : ℕ) (list : List ℕ) → Rest n list list
+pub rest-start : (n : ℕ) (list : List ℕ) → TailKept n list list
 rest-start n list = record { same-length = refl; rest = refl }
 
 -- a place before n is written
-pub rest-set : (n t x : ℕ) (list₀ list : List ℕ) → t < n → Rest n list₀ list → Rest n list₀ (set list t x)
+pub rest-set : (n t x : ℕ) (list₀ list : List ℕ) → t < n → TailKept n list₀ list → TailKept n list₀ (set list t x)
 rest-set n t x list₀ list l r = record { same-length = length-set list t x ∙ r .same-length; rest = drop-set-lt n list t x l ∙ r .rest }
 
 -- the list as far as t
 pub record WrittenTo (t n blocks slots : ℕ) (allowed owner slot list₀ list : List ℕ) : Type 0 where
-  pub rest : Rest n list₀ list
-  pub done : Written t blocks slots allowed owner slot list
+  pub rest : TailKept n list₀ list
+  pub done : ListWritten t blocks slots allowed owner slot list
 
 pub write-start : (n blocks slots : ℕ) (allowed owner slot list : List ℕ) → WrittenTo 0 n blocks slots allowed owner slot list list
 write-start n blocks slots allowed owner slot list =
     record { rest = rest-start n list; done = record { below = λ k l. absurd (omega arith); may = λ k l. absurd (omega arith); own = λ k l. absurd (omega arith) } }
 
 module _ (t n blocks slots : ℕ) (allowed owner slot list₀ list : List ℕ) (wt : WrittenTo t n blocks slots allowed owner slot list₀ list) where
-  pub write-more : (r : ℕ) → t < n → n ≤ length list₀ → r < blocks → Placed allowed owner slot blocks slots t r → WrittenTo (t + 1) n blocks slots allowed owner slot list₀ (set list t r)
+  pub write-more : (r : ℕ) → t < n → n ≤ length list₀ → r < blocks → BlockOf allowed owner slot blocks slots t r → WrittenTo (t + 1) n blocks slots allowed owner slot list₀ (set list t r)
   write-more r l m b pl =
       record {
         rest = rest-set n t r list₀ list l (wt .rest);
@@ -51,17 +52,17 @@ module _ (t n blocks slots : ℕ) (allowed owner slot list₀ list : List ℕ) (
       at-case P k h (yes q) x y = rw (q, getD-set-same list t r 0 (omega (arith, wt .rest .same-length))) x
       at-case P k h (no q) x y = rw (getD-set-other list t k r 0 q) (y (omega arith))
 
-  pub write-end : n ≤ t → t ≤ n → Listed n blocks slots allowed owner slot list₀ list true
+  pub write-end : n ≤ t → t ≤ n → ListAnswer n blocks slots allowed owner slot list₀ list true
   write-end h k =
       let e : t ≡ n = omega arith in
       record {
-        written = λ _. subst (λ (i : ℕ). Written i blocks slots allowed owner slot list) e (wt .done);
+        written = λ _. subst (λ (i : ℕ). ListWritten i blocks slots allowed owner slot list) e (wt .done);
         none = λ q. absurd (true≢false q);
         rest = wt .rest;
       }
 
   -- the tide t may go nowhere
-  pub write-none : t < n → Nowhere allowed t blocks → Listed n blocks slots allowed owner slot list₀ list false
+  pub write-none : t < n → Nowhere allowed t blocks → ListAnswer n blocks slots allowed owner slot list₀ list false
   write-none l nowhere = record { written = λ q. absurd (false≢true q); none = λ _. (t, l, nowhere); rest = wt .rest }
 
 -- ---- what the parts of the search may assume
@@ -71,7 +72,7 @@ slots-bound n blocks M settings allowed list ask = let a = mul-le-mul-right (M .
 
 module _ (n blocks : ℕ) (M : Minima) (settings allowed list owner kind : List ℕ) (ask : Asked (Able M n settings) n blocks allowed list) (fit : blocks * M .b0 ≤ n)
     (sl : Slots blocks (M .b0) (M .b) owner kind) where
-  pub sized : Sized allowed settings owner kind (blocks * M .b0) n
+  pub sized : SizedGraph allowed settings owner kind (blocks * M .b0) n
   sized =
       record {
         few-slots = omega (arith, ask .few-tides);
@@ -79,7 +80,7 @@ module _ (n blocks : ℕ) (M : Minima) (settings allowed list owner kind : List 
         allowed-long = ask .allowed-long;
         settings-long = ask .able .settings-long;
         blocks = λ s l. omega (arith, slot-below blocks (M .b0) (M .b) owner kind sl s l, ask .few-blocks);
-        kinds = λ s l. slot-kind blocks (M .b0) (M .b) owner kind sl s l;
+        kind-high = λ s l. slot-kind blocks (M .b0) (M .b) owner kind sl s l;
         high = ask .able .setting-high;
       }
 

@@ -14,7 +14,7 @@ use Rattle.study.specs.Study.{Study, size, tide, problem, Valid}
 -- and each block has exactly b0 tides, at least b of each setting
 pub record PartialSolution (S : Study) (g : ℕ) (D : ℕ → ℕ) : Type 0 where
   pub inside : (t : ℕ) → t < size S → D t ≤ length (centres (problem S) g)
-  pub near : (t : ℕ) → t < size S → 1 ≤ D t → problem S .dist (centreOf (centres (problem S) g) (D t)) t ≤ g
+  pub in-radius : (t : ℕ) → t < size S → 1 ≤ D t → problem S .dist (centreOf (centres (problem S) g) (D t)) t ≤ g
   pub whole : (m : ℕ) → 1 ≤ m → m ≤ length (centres (problem S) g) → countBelow (size S) (block D m) ≡ S .minima .b0
   pub each : (m : ℕ) → 1 ≤ m → m ≤ length (centres (problem S) g) → (j : ℕ) → j < 8
       → getD (S .minima .b) j 0 ≤ countBelow (size S) (λ t. block D m t && eqb (tide S t .setting) (suc j))

@@ -5,8 +5,8 @@ use mathlib.Core.List.{List}
 use mathlib.Core.Bool.{Bool, cond}
 use Prim.Native.Nat.{ℕ, _+_, _*_, _-_}
 use lib.ListN.{length}
-use Rattle.lists.specs.Lists.{sumBelow, countBelow}
-use Rattle.matching.specs.Matching.{at}
+use Rattle.lists.specs.Lists.{sumBelow, countBelow, at}
+use Rattle.study.specs.Limits.{maxTides}
 
 -- the minima of the settings together
 abbrev pub total : List ℕ → ℕ
@@ -24,10 +24,10 @@ slotTest Q owner kind s = Q (at owner s) (at kind s)
 pub record Slots (blocks b0 : ℕ) (b owner kind : List ℕ) : Type 0 where
   pub law : (Q : ℕ → ℕ → Bool) → countBelow (blocks * b0) (slotTest Q owner kind) ≡ sumBelow blocks (blockSum Q b0 b)
 
--- the tables of the slots' blocks and kinds
+-- the tables of the slots' blocks and kind-high
 pub record Tables (owner kind : List ℕ) : Type 0 where
-  pub owner-long : length owner ≡ 120
-  pub kind-long : length kind ≡ 120
+  pub owner-long : length owner ≡ maxTides
+  pub kind-long : length kind ≡ maxTides
 
 -- size slots of block m and kind k stand from pos on, behind the slots that were there
 pub record Added (pos m k size : ℕ) (owner₀ kind₀ owner kind : List ℕ) : Type 0 where

@@ -1,25 +1,27 @@
 // The list that a matching gives: the block of each tide.
 use promise::table::first_allowed;
+use study::MAX_TIDES;
 ghost use Prim.Native.Nat.{ℕ, _<_, _≤_};
 ghost use lib.ListN.{length};
-ghost use Rattle.matching.specs.Matching.{at};
-ghost use Rattle.matching.specs.Steps.{Owned, Placed, Listed, Rest};
+ghost use Rattle.study.specs.Limits.{maxTides, tableSize};
+ghost use Rattle.lists.specs.Lists.{at, TailKept};
+ghost use Rattle.matching.specs.Steps.{Owned, BlockOf, ListAnswer};
 
 // The block of the tide t: its slot's, or else the first allowed one; 120 where there is none.
 fn block_of(
     allowed: &[u8],
     blocks: usize,
-    owner: &[usize; 120],
+    owner: &[usize; MAX_TIDES],
     slots: usize,
-    slot: &[usize; 120],
+    slot: &[usize; MAX_TIDES],
     t: usize,
 ) -> usize
-    requires { ⌜ blocks ≤ 120 ⌝ }
-    requires { ⌜ t < 120 ⌝ }
-    requires { ⌜ slots ≤ 120 ⌝ }
-    requires { ⌜ 14400 ≤ length (now allowed) ⌝ }
+    requires { ⌜ blocks ≤ maxTides ⌝ }
+    requires { ⌜ t < maxTides ⌝ }
+    requires { ⌜ slots ≤ maxTides ⌝ }
+    requires { ⌜ tableSize ≤ length (now allowed) ⌝ }
     requires { ⌜ Owned (now allowed) (now owner) (now slot) blocks slots t ⌝ }
-    ensures { λ r. ⌜ Placed (now (allowed .entry)) (now (owner .entry)) (now (slot .entry)) blocks slots t r ⌝ }
+    ensures { λ r. ⌜ BlockOf (now (allowed .entry)) (now (owner .entry)) (now (slot .entry)) blocks slots t r ⌝ }
 {
     let s = slot[t];
     if s < slots {
@@ -33,18 +35,18 @@ pub fn write_list(
     allowed: &[u8],
     n: usize,
     blocks: usize,
-    owner: &[usize; 120],
+    owner: &[usize; MAX_TIDES],
     slots: usize,
-    slot: &[usize; 120],
+    slot: &[usize; MAX_TIDES],
     list: &mut [u8],
 ) -> bool
-    requires { ⌜ blocks ≤ 120 ⌝ }
-    requires { ⌜ n ≤ 120 ⌝ }
-    requires { ⌜ slots ≤ 120 ⌝ }
-    requires { ⌜ 14400 ≤ length (now allowed) ⌝ }
+    requires { ⌜ blocks ≤ maxTides ⌝ }
+    requires { ⌜ n ≤ maxTides ⌝ }
+    requires { ⌜ slots ≤ maxTides ⌝ }
+    requires { ⌜ tableSize ≤ length (now allowed) ⌝ }
     requires { ⌜ n ≤ length (now list) ⌝ }
     requires { ⌜ ((t : ℕ) → t < n → Owned (now allowed) (now owner) (now slot) blocks slots t) ⌝ }
-    ensures { λ r. ⌜ Listed n blocks slots (now (allowed .entry)) (now (owner .entry)) (now (slot .entry)) (now (list .entry)) (now (list .exit)) r ⌝ }
+    ensures { λ r. ⌜ ListAnswer n blocks slots (now (allowed .entry)) (now (owner .entry)) (now (slot .entry)) (now (list .entry)) (now (list .exit)) r ⌝ }
 {
     let mut t = 0;
     while t < n {
@@ -61,16 +63,16 @@ pub fn write_list(
 // Leaves in list the blocks that a partial matching gives, where it gives one.
 pub fn write_partial(
     n: usize,
-    owner: &[usize; 120],
+    owner: &[usize; MAX_TIDES],
     slots: usize,
-    slot: &[usize; 120],
+    slot: &[usize; MAX_TIDES],
     list: &mut [u8],
 )
-    requires { ⌜ n ≤ 120 ⌝ }
-    requires { ⌜ slots ≤ 120 ⌝ }
+    requires { ⌜ n ≤ maxTides ⌝ }
+    requires { ⌜ slots ≤ maxTides ⌝ }
     requires { ⌜ n ≤ length (now list) ⌝ }
-    requires { ⌜ ((x : ℕ) → x < slots → at (now owner) x < 120) ⌝ }
-    ensures { λ _. ⌜ Rest n (now (list .entry)) (now (list .exit)) ⌝ }
+    requires { ⌜ ((x : ℕ) → x < slots → at (now owner) x < maxTides) ⌝ }
+    ensures { λ _. ⌜ TailKept n (now (list .entry)) (now (list .exit)) ⌝ }
 {
     let mut t = 0;
     while t < n {

@@ -1,11 +1,14 @@
 // A matching that gives every slot a tide, by augmenting paths. tide[s] is the tide that the slot s
 // holds and slot[t] the slot that holds the tide t: 120 where there is none.
+use study::MAX_TIDES;
 ghost use mathlib.Core.Path.{_≡_};
 ghost use mathlib.Core.Bool.{true, false};
 ghost use Prim.Native.Nat.{_+_, _<_, _≤_};
 ghost use lib.ListN.{length, set};
-ghost use Rattle.matching.specs.Matching.{at, Matching, Tree, Path, Unsaturable, freed};
-ghost use Rattle.matching.specs.Graph.{EdgeAt, Edge, Decides, Sized, Wanted, Scanning, Marked, Passed, Free, Searched, Augmented, Saturated};
+ghost use Rattle.study.specs.Limits.{maxTides, tableSize};
+ghost use Rattle.lists.specs.Lists.{at};
+ghost use Rattle.matching.specs.Matching.{Matching, Tree, Path, Unsaturable, freed};
+ghost use Rattle.matching.specs.Graph.{EdgeAt, Edge, Decides, SizedGraph, Wanted, Scanning, Marked, NoFreeTide, Free, Searched, Augmented, Saturated};
 
 // The length of the queue after a scan, and the free tide that was met, or 120.
 pub struct Scanned {
@@ -21,13 +24,13 @@ pub struct Grown {
 
 // Whether a slot of block m and kind k can hold the tide t.
 pub fn edge(allowed: &[u8], settings: &[u8], m: usize, k: u8, t: usize) -> bool
-    requires { ⌜ m < 120 ⌝ }
-    requires { ⌜ t < 120 ⌝ }
-    requires { ⌜ 14400 ≤ length (now allowed) ⌝ }
+    requires { ⌜ m < maxTides ⌝ }
+    requires { ⌜ t < maxTides ⌝ }
+    requires { ⌜ tableSize ≤ length (now allowed) ⌝ }
     requires { ⌜ t < length (now settings) ⌝ }
     ensures { λ r. ⌜ Decides (EdgeAt (now (allowed .entry)) (now (settings .entry)) m k t) r ⌝ }
 {
-    if allowed[m * 120 + t] == 0 {
+    if allowed[m * MAX_TIDES + t] == 0 {
         return false;
     }
     if k == 0 {
@@ -40,15 +43,15 @@ pub fn edge(allowed: &[u8], settings: &[u8], m: usize, k: u8, t: usize) -> bool
 fn wanted(
     allowed: &[u8],
     settings: &[u8],
-    owner: &[usize; 120],
-    kind: &[u8; 120],
+    owner: &[usize; MAX_TIDES],
+    kind: &[u8; MAX_TIDES],
     slots: usize,
     tides: usize,
-    from: &[usize; 120],
+    from: &[usize; MAX_TIDES],
     s: usize,
     t: usize,
 ) -> bool
-    requires { ⌜ Sized (now allowed) (now settings) (now owner) (now kind) slots tides ⌝ }
+    requires { ⌜ SizedGraph (now allowed) (now settings) (now owner) (now kind) slots tides ⌝ }
     requires { ⌜ s < slots ⌝ }
     requires { ⌜ t < tides ⌝ }
     ensures { λ r. ⌜ Wanted (Edge (now (allowed .entry)) (now (settings .entry)) (now (owner .entry)) (now (kind .entry))) slots s t (now (from .entry)) r ⌝ }
@@ -61,17 +64,17 @@ fn wanted(
 
 // Puts the slot h at the end of the queue, for the tide t that was seen from s.
 fn push(
-    from: &mut [usize; 120],
-    rank: &mut [usize; 120],
-    queue: &mut [usize; 120],
+    from: &mut [usize; MAX_TIDES],
+    rank: &mut [usize; MAX_TIDES],
+    queue: &mut [usize; MAX_TIDES],
     s: usize,
     t: usize,
     h: usize,
     tail: usize,
 )
-    requires { ⌜ t < 120 ⌝ }
-    requires { ⌜ h < 120 ⌝ }
-    requires { ⌜ tail < 120 ⌝ }
+    requires { ⌜ t < maxTides ⌝ }
+    requires { ⌜ h < maxTides ⌝ }
+    requires { ⌜ tail < maxTides ⌝ }
     ensures { λ _. ⌜ now (from .exit) ≡ set (now (from .entry)) t s ⌝ }
     ensures { λ _. ⌜ now (rank .exit) ≡ set (now (rank .entry)) h tail ⌝ }
     ensures { λ _. ⌜ now (queue .exit) ≡ set (now (queue .entry)) tail h ⌝ }
@@ -83,15 +86,15 @@ fn push(
 
 // Gives the slot s the free tide t, and hands back the tide that s held, now free.
 pub fn swap(
-    tide: &mut [usize; 120],
-    slot: &mut [usize; 120],
+    tide: &mut [usize; MAX_TIDES],
+    slot: &mut [usize; MAX_TIDES],
     s: usize,
     t: usize,
     tides: usize,
 ) -> usize
-    requires { ⌜ s < 120 ⌝ }
-    requires { ⌜ t < 120 ⌝ }
-    requires { ⌜ tides ≤ 120 ⌝ }
+    requires { ⌜ s < maxTides ⌝ }
+    requires { ⌜ t < maxTides ⌝ }
+    requires { ⌜ tides ≤ maxTides ⌝ }
     ensures { λ r. ⌜ r ≡ at (now (tide .entry)) s ⌝ }
     ensures { λ r. ⌜ now (tide .exit) ≡ set (now (tide .entry)) s t ⌝ }
     ensures { λ r. ⌜ now (slot .exit) ≡ freed (now (slot .entry)) s t (at (now (tide .entry)) s) tides ⌝ }
@@ -100,7 +103,7 @@ pub fn swap(
     tide[s] = t;
     slot[t] = s;
     if o < tides {
-        slot[o] = 120;
+        slot[o] = MAX_TIDES;
     }
     o
 }
@@ -110,26 +113,26 @@ pub fn swap(
 fn scan(
     allowed: &[u8],
     settings: &[u8],
-    owner: &[usize; 120],
-    kind: &[u8; 120],
+    owner: &[usize; MAX_TIDES],
+    kind: &[u8; MAX_TIDES],
     slots: usize,
     tides: usize,
-    tide: &[usize; 120],
-    slot: &[usize; 120],
-    from: &mut [usize; 120],
-    rank: &mut [usize; 120],
-    queue: &mut [usize; 120],
+    tide: &[usize; MAX_TIDES],
+    slot: &[usize; MAX_TIDES],
+    from: &mut [usize; MAX_TIDES],
+    rank: &mut [usize; MAX_TIDES],
+    queue: &mut [usize; MAX_TIDES],
     s: usize,
     start: usize,
 ) -> Scanned
-    requires { ⌜ Sized (now allowed) (now settings) (now owner) (now kind) slots tides ⌝ }
+    requires { ⌜ SizedGraph (now allowed) (now settings) (now owner) (now kind) slots tides ⌝ }
     requires { ⌜ s < slots ⌝ }
-    requires { ⌜ at (now rank) s < 120 ⌝ }
+    requires { ⌜ at (now rank) s < maxTides ⌝ }
     requires { ⌜ Matching (Edge (now allowed) (now settings) (now owner) (now kind)) slots tides (now tide) (now slot) ⌝ }
     requires { ⌜ Tree (Edge (now allowed) (now settings) (now owner) (now kind)) slots tides start (now tide) (now slot) (now from) (now rank) (now queue) ⌝ }
     ensures { λ r. ⌜ Scanning (Edge (now (allowed .entry)) (now (settings .entry)) (now (owner .entry)) (now (kind .entry))) slots tides s start (r .free) (r .tail) (now (tide .entry)) (now (slot .entry)) (now (from .entry)) (now (rank .entry)) (now (queue .entry)) (now (from .exit)) (now (rank .exit)) (now (queue .exit)) ⌝ }
     ensures { λ r. ⌜ (r .free < tides → Free (Edge (now (allowed .entry)) (now (settings .entry)) (now (owner .entry)) (now (kind .entry))) slots s (r .free) (now (slot .entry))) ⌝ }
-    ensures { λ r. ⌜ (tides ≤ r .free → r .free ≡ 120) ⌝ }
+    ensures { λ r. ⌜ (tides ≤ r .free → r .free ≡ maxTides) ⌝ }
 {
     let mut tail = start;
     let mut t = 0;
@@ -149,7 +152,7 @@ fn scan(
     }
     Scanned {
         tail: tail,
-        free: 120,
+        free: MAX_TIDES,
     }
 }
 
@@ -158,41 +161,41 @@ fn scan(
 fn visit(
     allowed: &[u8],
     settings: &[u8],
-    owner: &[usize; 120],
-    kind: &[u8; 120],
+    owner: &[usize; MAX_TIDES],
+    kind: &[u8; MAX_TIDES],
     slots: usize,
     tides: usize,
-    tide: &[usize; 120],
-    slot: &[usize; 120],
-    from: &mut [usize; 120],
-    rank: &mut [usize; 120],
-    queue: &mut [usize; 120],
+    tide: &[usize; MAX_TIDES],
+    slot: &[usize; MAX_TIDES],
+    from: &mut [usize; MAX_TIDES],
+    rank: &mut [usize; MAX_TIDES],
+    queue: &mut [usize; MAX_TIDES],
     mark: &mut [u8; 1080],
     s: usize,
     start: usize,
 ) -> Scanned
-    requires { ⌜ Sized (now allowed) (now settings) (now owner) (now kind) slots tides ⌝ }
+    requires { ⌜ SizedGraph (now allowed) (now settings) (now owner) (now kind) slots tides ⌝ }
     requires { ⌜ s < slots ⌝ }
-    requires { ⌜ at (now rank) s < 120 ⌝ }
+    requires { ⌜ at (now rank) s < maxTides ⌝ }
     requires { ⌜ Matching (Edge (now allowed) (now settings) (now owner) (now kind)) slots tides (now tide) (now slot) ⌝ }
     requires { ⌜ Tree (Edge (now allowed) (now settings) (now owner) (now kind)) slots tides start (now tide) (now slot) (now from) (now rank) (now queue) ⌝ }
     requires { ⌜ Marked (now allowed) (now settings) slots tides (now mark) (now from) ⌝ }
     ensures { λ r. ⌜ Scanning (Edge (now (allowed .entry)) (now (settings .entry)) (now (owner .entry)) (now (kind .entry))) slots tides s start (r .free) (r .tail) (now (tide .entry)) (now (slot .entry)) (now (from .entry)) (now (rank .entry)) (now (queue .entry)) (now (from .exit)) (now (rank .exit)) (now (queue .exit)) ⌝ }
     ensures { λ r. ⌜ (r .free < tides → Free (Edge (now (allowed .entry)) (now (settings .entry)) (now (owner .entry)) (now (kind .entry))) slots s (r .free) (now (slot .entry))) ⌝ }
-    ensures { λ r. ⌜ (tides ≤ r .free → Passed (now (allowed .entry)) (now (settings .entry)) slots tides (r .free) (now (mark .exit)) (now (from .exit))) ⌝ }
+    ensures { λ r. ⌜ (tides ≤ r .free → NoFreeTide (now (allowed .entry)) (now (settings .entry)) slots tides (r .free) (now (mark .exit)) (now (from .exit))) ⌝ }
 {
     let any = owner[s] * 9;
     if mark[any] != 0 {
         return Scanned {
             tail: start,
-            free: 120,
+            free: MAX_TIDES,
         };
     }
     let class = any + (kind[s] as usize);
     if mark[class] != 0 {
         return Scanned {
             tail: start,
-            free: 120,
+            free: MAX_TIDES,
         };
     }
     mark[class] = 1;
@@ -218,18 +221,18 @@ fn visit(
 fn grow(
     allowed: &[u8],
     settings: &[u8],
-    owner: &[usize; 120],
-    kind: &[u8; 120],
+    owner: &[usize; MAX_TIDES],
+    kind: &[u8; MAX_TIDES],
     slots: usize,
     tides: usize,
-    tide: &[usize; 120],
-    slot: &[usize; 120],
-    from: &mut [usize; 120],
-    rank: &mut [usize; 120],
-    queue: &mut [usize; 120],
+    tide: &[usize; MAX_TIDES],
+    slot: &[usize; MAX_TIDES],
+    from: &mut [usize; MAX_TIDES],
+    rank: &mut [usize; MAX_TIDES],
+    queue: &mut [usize; MAX_TIDES],
     mark: &mut [u8; 1080],
 ) -> Grown
-    requires { ⌜ Sized (now allowed) (now settings) (now owner) (now kind) slots tides ⌝ }
+    requires { ⌜ SizedGraph (now allowed) (now settings) (now owner) (now kind) slots tides ⌝ }
     requires { ⌜ Matching (Edge (now allowed) (now settings) (now owner) (now kind)) slots tides (now tide) (now slot) ⌝ }
     requires { ⌜ Tree (Edge (now allowed) (now settings) (now owner) (now kind)) slots tides 1 (now tide) (now slot) (now from) (now rank) (now queue) ⌝ }
     requires { ⌜ Marked (now allowed) (now settings) slots tides (now mark) (now from) ⌝ }
@@ -265,8 +268,8 @@ fn grow(
         head += 1;
     }
     Grown {
-        slot: 120,
-        tide: 120,
+        slot: MAX_TIDES,
+        tide: MAX_TIDES,
     }
 }
 
@@ -274,22 +277,22 @@ fn grow(
 fn shift(
     allowed: &[u8],
     settings: &[u8],
-    owner: &[usize; 120],
-    kind: &[u8; 120],
+    owner: &[usize; MAX_TIDES],
+    kind: &[u8; MAX_TIDES],
     slots: usize,
     tides: usize,
-    tide: &mut [usize; 120],
-    slot: &mut [usize; 120],
-    from: &[usize; 120],
-    rank: &[usize; 120],
+    tide: &mut [usize; MAX_TIDES],
+    slot: &mut [usize; MAX_TIDES],
+    from: &[usize; MAX_TIDES],
+    rank: &[usize; MAX_TIDES],
     root: usize,
     s0: usize,
     t0: usize,
 )
-    requires { ⌜ Sized (now allowed) (now settings) (now owner) (now kind) slots tides ⌝ }
+    requires { ⌜ SizedGraph (now allowed) (now settings) (now owner) (now kind) slots tides ⌝ }
     requires { ⌜ s0 < slots ⌝ }
     requires { ⌜ t0 < tides ⌝ }
-    requires { ⌜ at (now rank) s0 < 120 ⌝ }
+    requires { ⌜ at (now rank) s0 < maxTides ⌝ }
     requires { ⌜ Matching (Edge (now allowed) (now settings) (now owner) (now kind)) slots tides (now tide) (now slot) ⌝ }
     requires { ⌜ Free (Edge (now allowed) (now settings) (now owner) (now kind)) slots s0 t0 (now slot) ⌝ }
     requires { ⌜ Path (Edge (now allowed) (now settings) (now owner) (now kind)) slots tides root (at (now rank) s0 + 1) (now tide) (now from) (now rank) ⌝ }
@@ -309,27 +312,27 @@ fn shift(
 
 // Gives the free slot root a tide, and leaves every slot that has one with one. False where no
 // matching gives every slot a tide.
-fn improve(
+fn augment_from(
     allowed: &[u8],
     settings: &[u8],
-    owner: &[usize; 120],
-    kind: &[u8; 120],
+    owner: &[usize; MAX_TIDES],
+    kind: &[u8; MAX_TIDES],
     slots: usize,
     tides: usize,
-    tide: &mut [usize; 120],
-    slot: &mut [usize; 120],
+    tide: &mut [usize; MAX_TIDES],
+    slot: &mut [usize; MAX_TIDES],
     root: usize,
 ) -> bool
-    requires { ⌜ Sized (now allowed) (now settings) (now owner) (now kind) slots tides ⌝ }
+    requires { ⌜ SizedGraph (now allowed) (now settings) (now owner) (now kind) slots tides ⌝ }
     requires { ⌜ Matching (Edge (now allowed) (now settings) (now owner) (now kind)) slots tides (now tide) (now slot) ⌝ }
     requires { ⌜ root < slots ⌝ }
     requires { ⌜ tides ≤ at (now tide) root ⌝ }
     ensures { λ r. ⌜ (r ≡ true → Augmented (Edge (now (allowed .entry)) (now (settings .entry)) (now (owner .entry)) (now (kind .entry))) slots tides root (now (tide .entry)) (now (tide .exit)) (now (slot .exit))) ⌝ }
     ensures { λ r. ⌜ (r ≡ false → Unsaturable (Edge (now (allowed .entry)) (now (settings .entry)) (now (owner .entry)) (now (kind .entry))) slots tides) ⌝ }
 {
-    let mut from: [usize; 120] = [120; 120];
-    let mut rank: [usize; 120] = [120; 120];
-    let mut queue: [usize; 120] = [120; 120];
+    let mut from: [usize; MAX_TIDES] = [MAX_TIDES; MAX_TIDES];
+    let mut rank: [usize; MAX_TIDES] = [MAX_TIDES; MAX_TIDES];
+    let mut queue: [usize; MAX_TIDES] = [MAX_TIDES; MAX_TIDES];
     let mut mark: [u8; 1080] = [0; 1080];
     rank[root] = 0;
     queue[0] = root;
@@ -374,14 +377,14 @@ fn improve(
 pub fn saturate(
     allowed: &[u8],
     settings: &[u8],
-    owner: &[usize; 120],
-    kind: &[u8; 120],
+    owner: &[usize; MAX_TIDES],
+    kind: &[u8; MAX_TIDES],
     slots: usize,
     tides: usize,
-    tide: &mut [usize; 120],
-    slot: &mut [usize; 120],
+    tide: &mut [usize; MAX_TIDES],
+    slot: &mut [usize; MAX_TIDES],
 ) -> bool
-    requires { ⌜ Sized (now allowed) (now settings) (now owner) (now kind) slots tides ⌝ }
+    requires { ⌜ SizedGraph (now allowed) (now settings) (now owner) (now kind) slots tides ⌝ }
     requires { ⌜ Matching (Edge (now allowed) (now settings) (now owner) (now kind)) slots tides (now tide) (now slot) ⌝ }
     ensures { λ r. ⌜ (r ≡ true → Saturated (Edge (now (allowed .entry)) (now (settings .entry)) (now (owner .entry)) (now (kind .entry))) slots tides slots (now (tide .exit)) (now (slot .exit))) ⌝ }
     ensures { λ r. ⌜ (r ≡ false → Unsaturable (Edge (now (allowed .entry)) (now (settings .entry)) (now (owner .entry)) (now (kind .entry))) slots tides) ⌝ }
@@ -391,7 +394,7 @@ pub fn saturate(
     while left > 0 {
         let s = slots - left;
         if tide[s] >= tides {
-            if !improve(allowed, settings, owner, kind, slots, tides, tide, slot, s) {
+            if !augment_from(allowed, settings, owner, kind, slots, tides, tide, slot, s) {
                 return false;
             }
         }

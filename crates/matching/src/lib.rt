@@ -10,8 +10,9 @@ use crate::assign::write_list;
 use crate::assign::write_partial;
 use crate::augment::saturate;
 use crate::slots::lay_out;
-use crate::start::adopt;
+use crate::start::start_matching;
 use study::Minima;
+use study::MAX_TIDES;
 ghost use Prim.Native.Nat.{_*_, _≤_};
 ghost use Rattle.promise.specs.Promise.{Asked, Promise};
 ghost use Rattle.promise.specs.Promise.{meeting, Able};
@@ -36,8 +37,8 @@ pub fn search(
         return false;
     }
     let b = minima.b;
-    let mut owner: [usize; 120] = [0; 120];
-    let mut kind: [u8; 120] = [0; 120];
+    let mut owner: [usize; MAX_TIDES] = [0; MAX_TIDES];
+    let mut kind: [u8; MAX_TIDES] = [0; MAX_TIDES];
     let mut next: [u8; 1080] = [0; 1080];
     lay_out(&mut owner, &mut kind, &mut next, blocks, b0, b);
     match_slots(
@@ -60,8 +61,8 @@ fn match_slots(
     minima: Minima,
     settings: &[u8],
     allowed: &[u8],
-    owner: &[usize; 120],
-    kind: &[u8; 120],
+    owner: &[usize; MAX_TIDES],
+    kind: &[u8; MAX_TIDES],
     next: &mut [u8; 1080],
     list: &mut [u8],
 ) -> bool
@@ -71,9 +72,9 @@ fn match_slots(
     ensures { λ r. ⌜ Promise n blocks (meeting minima n (now (settings .entry))) (now (allowed .entry)) (now (list .entry)) (now (list .exit)) r ⌝ }
 {
     let slots = blocks * (minima.b0 as usize);
-    let mut tide: [usize; 120] = [120; 120];
-    let mut slot: [usize; 120] = [120; 120];
-    adopt(
+    let mut tide: [usize; MAX_TIDES] = [MAX_TIDES; MAX_TIDES];
+    let mut slot: [usize; MAX_TIDES] = [MAX_TIDES; MAX_TIDES];
+    start_matching(
         allowed,
         settings,
         owner,

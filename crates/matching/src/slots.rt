@@ -1,13 +1,15 @@
 // The minima of all blocks as slots. Slot s belongs to the block owner[s] and takes tides of the
 // setting kind[s], or of any setting where kind[s] is 0. The slots of block m and kind k stand in a
 // row, and next[m * 9 + k] has the first of them.
+use study::MAX_TIDES;
 ghost use Prim.Native.Nat.{_+_, _*_, _<_, _≤_};
+ghost use Rattle.study.specs.Limits.{maxTides};
 ghost use Rattle.matching.specs.Slots.{total, Slots, Tables, Added, BlockAdded};
 
 // Adds count slots of block m and kind k at the place pos.
 fn add_slots(
-    owner: &mut [usize; 120],
-    kind: &mut [u8; 120],
+    owner: &mut [usize; MAX_TIDES],
+    kind: &mut [u8; MAX_TIDES],
     next: &mut [u8; 1080],
     pos: usize,
     m: usize,
@@ -15,8 +17,8 @@ fn add_slots(
     count: usize,
 )
     requires { ⌜ Tables (now owner) (now kind) ⌝ }
-    requires { ⌜ pos + count ≤ 120 ⌝ }
-    requires { ⌜ m < 120 ⌝ }
+    requires { ⌜ pos + count ≤ maxTides ⌝ }
+    requires { ⌜ m < maxTides ⌝ }
     requires { ⌜ k ≤ 8 ⌝ }
     ensures { λ _. ⌜ Added pos m k count (now (owner .entry)) (now (kind .entry)) (now (owner .exit)) (now (kind .exit)) ⌝ }
 {
@@ -31,8 +33,8 @@ fn add_slots(
 
 // Adds the b0 slots of block m: b[j] of each setting j + 1, and the rest of any setting.
 fn add_block(
-    owner: &mut [usize; 120],
-    kind: &mut [u8; 120],
+    owner: &mut [usize; MAX_TIDES],
+    kind: &mut [u8; MAX_TIDES],
     next: &mut [u8; 1080],
     start: usize,
     m: usize,
@@ -40,8 +42,8 @@ fn add_block(
     b: [u8; 8],
 )
     requires { ⌜ Tables (now owner) (now kind) ⌝ }
-    requires { ⌜ start + b0 ≤ 120 ⌝ }
-    requires { ⌜ m < 120 ⌝ }
+    requires { ⌜ start + b0 ≤ maxTides ⌝ }
+    requires { ⌜ m < maxTides ⌝ }
     requires { ⌜ total b ≤ b0 ⌝ }
     ensures { λ _. ⌜ BlockAdded start m b0 b (now (owner .entry)) (now (kind .entry)) (now (owner .exit)) (now (kind .exit)) ⌝ }
 {
@@ -58,17 +60,17 @@ fn add_block(
 
 // Lays out the slots of the blocks 0..blocks.
 pub fn lay_out(
-    owner: &mut [usize; 120],
-    kind: &mut [u8; 120],
+    owner: &mut [usize; MAX_TIDES],
+    kind: &mut [u8; MAX_TIDES],
     next: &mut [u8; 1080],
     blocks: usize,
     b0: usize,
     b: [u8; 8],
 )
     requires { ⌜ Tables (now owner) (now kind) ⌝ }
-    requires { ⌜ blocks ≤ 120 ⌝ }
-    requires { ⌜ blocks * b0 ≤ 120 ⌝ }
-    requires { ⌜ b0 ≤ 120 ⌝ }
+    requires { ⌜ blocks ≤ maxTides ⌝ }
+    requires { ⌜ blocks * b0 ≤ maxTides ⌝ }
+    requires { ⌜ b0 ≤ maxTides ⌝ }
     requires { ⌜ total b ≤ b0 ⌝ }
     ensures { λ _. ⌜ Slots blocks b0 b (now (owner .exit)) (now (kind .exit)) ⌝ }
 {

@@ -1,10 +1,12 @@
 // A first matching, made from a hint of each tide's block. The hint may be anything.
 use crate::augment::edge;
 use crate::augment::swap;
+use study::MAX_TIDES;
 ghost use Prim.Native.Nat.{_<_, _≤_};
 ghost use lib.ListN.{length};
+ghost use Rattle.study.specs.Limits.{maxTides};
 ghost use Rattle.matching.specs.Matching.{Matching};
-ghost use Rattle.matching.specs.Graph.{Edge, Sized};
+ghost use Rattle.matching.specs.Graph.{Edge, SizedGraph};
 
 fn wide(x: u8) -> usize {
     x as usize
@@ -15,20 +17,20 @@ fn wide(x: u8) -> usize {
 fn take_next(
     allowed: &[u8],
     settings: &[u8],
-    owner: &[usize; 120],
-    kind: &[u8; 120],
+    owner: &[usize; MAX_TIDES],
+    kind: &[u8; MAX_TIDES],
     slots: usize,
     n: usize,
-    tide: &mut [usize; 120],
-    slot: &mut [usize; 120],
+    tide: &mut [usize; MAX_TIDES],
+    slot: &mut [usize; MAX_TIDES],
     next: &mut [u8; 1080],
     m: usize,
     k: u8,
     t: usize,
 )
-    requires { ⌜ Sized (now allowed) (now settings) (now owner) (now kind) slots n ⌝ }
+    requires { ⌜ SizedGraph (now allowed) (now settings) (now owner) (now kind) slots n ⌝ }
     requires { ⌜ Matching (Edge (now allowed) (now settings) (now owner) (now kind)) slots n (now tide) (now slot) ⌝ }
-    requires { ⌜ m < 120 ⌝ }
+    requires { ⌜ m < maxTides ⌝ }
     requires { ⌜ k ≤ 8 ⌝ }
     requires { ⌜ t < n ⌝ }
     ensures { λ _. ⌜ Matching (Edge (now (allowed .entry)) (now (settings .entry)) (now (owner .entry)) (now (kind .entry))) slots n (now (tide .exit)) (now (slot .exit)) ⌝ }
@@ -55,19 +57,19 @@ fn take_next(
 
 // Starts a matching from the hint: each tide takes a slot of its setting in its block, or else one of
 // any setting.
-pub fn adopt(
+pub fn start_matching(
     allowed: &[u8],
     settings: &[u8],
-    owner: &[usize; 120],
-    kind: &[u8; 120],
+    owner: &[usize; MAX_TIDES],
+    kind: &[u8; MAX_TIDES],
     slots: usize,
     n: usize,
-    tide: &mut [usize; 120],
-    slot: &mut [usize; 120],
+    tide: &mut [usize; MAX_TIDES],
+    slot: &mut [usize; MAX_TIDES],
     next: &mut [u8; 1080],
     hint: &[u8],
 )
-    requires { ⌜ Sized (now allowed) (now settings) (now owner) (now kind) slots n ⌝ }
+    requires { ⌜ SizedGraph (now allowed) (now settings) (now owner) (now kind) slots n ⌝ }
     requires { ⌜ n ≤ length (now hint) ⌝ }
     requires { ⌜ Matching (Edge (now allowed) (now settings) (now owner) (now kind)) slots n (now tide) (now slot) ⌝ }
     ensures { λ _. ⌜ Matching (Edge (now (allowed .entry)) (now (settings .entry)) (now (owner .entry)) (now (kind .entry))) slots n (now (tide .exit)) (now (slot .exit)) ⌝ }
@@ -75,7 +77,7 @@ pub fn adopt(
     let mut t = 0;
     while t < n {
         let m = wide(hint[t]);
-        if m < 120 {
+        if m < MAX_TIDES {
             take_next(
                 allowed,
                 settings,

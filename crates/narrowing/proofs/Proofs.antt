@@ -26,7 +26,7 @@ use Rattle.validity.specs.Memory.{State, short, isDataset, contentsOf, stored}
 use Rattle.validity.specs.Validity.{IsDataset}
 use Rattle.validity.proofs.Proofs.{for-datasets}
 use Rattle.dataset.specs.Answers.{freshAnswer, heldAnswer, openAnswer, openLeaves, minimaAnswer, minimaLeaves, enterAnswer, enterLeaves, withdrawAnswer, withdrawLeaves}
-use Rattle.dataset.proofs.Ways.{accepted-held}
+use Rattle.dataset.proofs.AnswerLaws.{accepted-held}
 use Rattle.narrowing.specs.Narrowing.{narrowed, narrowMinima, narrowDataset, narrowState, Unchanged}
 
 -- what either of two tests tells, or that neither passes
@@ -71,7 +71,7 @@ narrow-at bs j = ap (getD (map narrowed bs) j) (sym (narrow-small 0 (omega arith
 fit-small : {k : ℕ} {M : Minima} → MinimaFit k M → (j : ℕ) → j < length (M .b) → getD (M .b) j 0 ≤ 120
 fit-small {k} {M} F j h =
     let b : ℕ → ℕ = λ i. getD (M .b) i 0 in
-    omega (arith, F .eight, F .together, F .high, sum-suc j b, sum-front b (suc j) 8 (omega (arith, F .eight)))
+    omega (arith, F .eight, F .sum, F .high, sum-suc j b, sum-front b (suc j) 8 (omega (arith, F .eight)))
 
 module _ (k : ℕ) (M : Minima) where
   uncut : narrowed (M .b0) ≡ M .b0 → ((j : ℕ) → j < length (map narrowed (M .b)) → narrowed (getD (M .b) j 0) ≡ getD (M .b) j 0) → narrowMinima M ≡ M

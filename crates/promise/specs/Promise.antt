@@ -8,6 +8,7 @@ use mathlib.Core.Bool.{Bool, true, false, not}
 use lib.Dec.{T, eqb}
 use lib.ListN.{length, getD, drop}
 use Rattle.lists.specs.Lists.{sumBelow, countBelow}
+use Rattle.study.specs.Limits.{maxTides, tableSize}
 use Rattle.study.specs.declared.Minima.{Minima}
 use Rattle.study.specs.Study.{meets}
 use Rattle.study.specs.Problem.{block, labels}
@@ -28,7 +29,7 @@ pub record AtLeast (n b : ℕ) (E : Test) : Type 0 where
 
 -- tide t may go to block m, by a table in rows of 120: a row for each block, so that a scan of a block runs along memory
 unfoldable pub allows : List ℕ → ℕ → ℕ → Bool
-allows allowed t m = not (eqb (getD allowed (m * 120 + t) 0) 0)
+allows allowed t m = not (eqb (getD allowed (m * maxTides + t) 0) 0)
 
 -- the tide t may go to no block below blocks
 abbrev pub Nowhere : (allowed : List ℕ) (t blocks : ℕ) → Type 0
@@ -53,9 +54,9 @@ Assigned n blocks E allowed = Assigning n blocks E (λ t m. T (allows allowed t 
 
 -- what a search may assume; Able is what it may of the numbers that its test is made of
 pub record Asked (Able : Type 0) (n blocks : ℕ) (allowed list : List ℕ) : Type 0 where
-  pub few-tides : n ≤ 120
-  pub few-blocks : blocks ≤ 120
-  pub allowed-long : 14400 ≤ length allowed
+  pub few-tides : n ≤ maxTides
+  pub few-blocks : blocks ≤ maxTides
+  pub allowed-long : tableSize ≤ length allowed
   pub list-long : n ≤ length list
   pub able : Able
 
@@ -76,7 +77,7 @@ meeting M n s = meets M n (λ t. getD s t 0)
 
 -- what a search may assume of minima and settings
 pub record Able (M : Minima) (n : ℕ) (s : List ℕ) : Type 0 where
-  pub small : M .b0 ≤ 120
+  pub small : M .b0 ≤ maxTides
   pub fit : sumBelow 8 (λ j. getD (M .b) j 0) ≤ M .b0
   pub settings-long : n ≤ length s
   pub setting-low : (t : ℕ) → t < n → 1 ≤ getD s t 0

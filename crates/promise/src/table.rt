@@ -1,21 +1,23 @@
 // The table of allowed pairs, a row of 120 places for each block.
+use study::MAX_TIDES;
 ghost use Prim.Native.Nat.{_<_, _≤_};
 ghost use lib.ListN.{length};
+ghost use Rattle.study.specs.Limits.{maxTides, tableSize};
 ghost use Rattle.promise.specs.Promise.{FirstAllowed};
 
 // The first block that the tide t may go to, or 120 where there is none.
 pub fn first_allowed(allowed: &[u8], t: usize, blocks: usize) -> usize
-    requires { ⌜ blocks ≤ 120 ⌝ }
-    requires { ⌜ t < 120 ⌝ }
-    requires { ⌜ 14400 ≤ length (now allowed) ⌝ }
+    requires { ⌜ blocks ≤ maxTides ⌝ }
+    requires { ⌜ t < maxTides ⌝ }
+    requires { ⌜ tableSize ≤ length (now allowed) ⌝ }
     ensures { λ r. ⌜ FirstAllowed (now (allowed .entry)) t blocks r ⌝ }
 {
     let mut m = 0;
     while m < blocks {
-        if allowed[m * 120 + t] != 0 {
+        if allowed[m * MAX_TIDES + t] != 0 {
             return m;
         }
         m += 1;
     }
-    120
+    MAX_TIDES
 }

@@ -13,7 +13,7 @@ fn main() {
     // one byte more than the longest file decides (`Decided` of printing/specs/Limit.antt)
     let mut input = [0u8; 17909];
     let count = io::read_full(STDIN_FILENO, &mut input);
-    let text = printing::sheet(&input[..count]);
+    let text = sheet_of_file::sheet(&input[..count]);
     let bytes = text.bytes;
     print(bytes, text.length);
 }

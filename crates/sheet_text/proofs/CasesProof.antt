@@ -1,7 +1,7 @@
 -- The statements of specs/Cases.antt, by computation. Assumes nothing.
 use mathlib.Core.Path.{refl}
 use Rattle.sheet_text.specs.Text.{digits, decimal, heading, line, lines, closing, refusedText}
-use Rattle.sheet_text.specs.Cases.{HeadingLength, OneTide, TwoBlocks, TooFew, ThreeTideRule, Decimals}
+use Rattle.sheet_text.specs.Cases.{HeadingLength, OneTide, TwoBlocks, TooFew, TriangleInequality, Decimals}
 
 pub heading-length : HeadingLength
 unfolding heading
@@ -19,9 +19,9 @@ pub too-few : TooFew
 unfolding refusedText decimal digits
 too-few = refl
 
-pub three-tide-rule : ThreeTideRule
+pub triangle-inequality : TriangleInequality
 unfolding refusedText decimal digits
-three-tide-rule = refl
+triangle-inequality = refl
 
 pub decimals : Decimals
 unfolding decimal digits

@@ -14,10 +14,10 @@ use Rattle.study.specs.declared.Blocked.the-variants.{Done, Refused}
 use Rattle.study.specs.declared.Refusal.{Refusal}
 use Rattle.study.specs.Refusals.{Numbered, numbered, value}
 use Rattle.study.specs.Calls.{Figures, blockedOf}
-use Rattle.refusal_numbers.specs.Numbers.{numberOf}
+use Rattle.study.specs.Numbers.{numberOf}
 use Rattle.sheet_text.specs.Text.{ascii, decimal, heading, line, lines, closing, refusedText, sheetText}
 use Rattle.sheet_text.proofs.NumberLaws.{decimal-short}
-use Rattle.sheet_text.specs.Putting.{Puts}
+use Rattle.sheet_text.specs.Putting.{PutText}
 use Rattle.sheet_text.proofs.PuttingLaws.{puts-none, puts-then, puts-as}
 use Rattle.sheet_text.specs.Lines.{field, named}
 
@@ -39,8 +39,8 @@ module _ (n : ℕ) (r : BlockRecord) where
   unfolding field line
   line-fields = simp append-assoc
 
-  pub line-put : {l a b c d : List ℕ} {at p q s end : ℕ} → Puts l at (field n 32) p a → Puts a p (field (r .centre) 32) q b
-      → Puts b q (field (r .tides) 32) s c → Puts c s (field (r .diameter) 10) end d → Puts l at (line n r) end d
+  pub line-put : {l a b c d : List ℕ} {at p q s end : ℕ} → PutText l at (field n 32) p a → PutText a p (field (r .centre) 32) q b
+      → PutText b q (field (r .tides) 32) s c → PutText c s (field (r .diameter) 10) end d → PutText l at (line n r) end d
   line-put w x y z = puts-as (puts-then (puts-then (puts-then w x) y) z) line-fields refl
 
   pub line-length : length (line n r) ≡ length (field n 32) + length (field (r .centre) 32) + length (field (r .tides) 32) + length (field (r .diameter) 10)
@@ -64,8 +64,8 @@ module _ (r w x : ℕ) where
   unfolding field named closing
   closing-fields = simp append-assoc
 
-  pub closing-put : {l a b c : List ℕ} {at p q end : ℕ} → Puts l at (named (ascii "reach ") r 32) p a
-      → Puts a p (named (ascii "widest ") w 32) q b → Puts b q (named (ascii "withdrawn ") x 10) end c → Puts l at (closing r w x) end c
+  pub closing-put : {l a b c : List ℕ} {at p q end : ℕ} → PutText l at (named (ascii "reach ") r 32) p a
+      → PutText a p (named (ascii "widest ") w 32) q b → PutText b q (named (ascii "withdrawn ") x 10) end c → PutText l at (closing r w x) end c
   closing-put y z u = puts-as (puts-then (puts-then y z) u) closing-fields refl
 
   pub closing-length : length (closing r w x)
@@ -104,12 +104,12 @@ lines-end n (x ∷ rs) r =
     ∙ sym (append-assoc (line n x) (lines (suc n) rs) (line (n + suc (length rs)) r))
 
 module _ (rs : List BlockRecord) where
-  pub lines-none : {l : List ℕ} {at : ℕ} → at ≤ length l → Puts l at (lines 1 (take 0 rs)) at l
+  pub lines-none : {l : List ℕ} {at : ℕ} → at ≤ length l → PutText l at (lines 1 (take 0 rs)) at l
   unfolding lines
   lines-none {l} {at} h = puts-none l at h
 
-  pub lines-more : (d : BlockRecord) (i : ℕ) → i < length rs → {l m n : List ℕ} {at mid end : ℕ} → Puts l at (lines 1 (take i rs)) mid m
-      → Puts m mid (line (i + 1) (getD rs i d)) end n → Puts l at (lines 1 (take (i + 1) rs)) end n
+  pub lines-more : (d : BlockRecord) (i : ℕ) → i < length rs → {l m n : List ℕ} {at mid end : ℕ} → PutText l at (lines 1 (take i rs)) mid m
+      → PutText m mid (line (i + 1) (getD rs i d)) end n → PutText l at (lines 1 (take (i + 1) rs)) end n
   lines-more d i h p q = puts-as (puts-then p q) (sym more) refl
     where
       more : lines 1 (take (i + 1) rs) ≡ lines 1 (take i rs) ++ line (i + 1) (getD rs i d)
@@ -118,23 +118,23 @@ module _ (rs : List BlockRecord) where
           ∙ ap (λ k. lines 1 (take i rs) ++ line k (getD rs i d)) (omega (arith, length-take-le i rs (omega arith)))
 
   -- where there are no more records than i
-  pub lines-all : (i n : ℕ) → length rs ≤ i → i ≤ n → {l m : List ℕ} {at end : ℕ} → Puts l at (lines 1 (take i rs)) end m
-      → Puts l at (lines 1 (take n rs)) end m
+  pub lines-all : (i n : ℕ) → length rs ≤ i → i ≤ n → {l m : List ℕ} {at end : ℕ} → PutText l at (lines 1 (take i rs)) end m
+      → PutText l at (lines 1 (take n rs)) end m
   lines-all i n h k p = puts-as p (ap (lines 1) (take-all i rs h ∙ sym (take-all n rs (omega arith)))) refl
 
 -- ---- the sheet
 
 module _ {answer : Blocked} (records : List BlockRecord) (withdrawn : ℕ) {l : List ℕ} {end : ℕ} where
   pub sheet-refused : {m : List ℕ} {why : Refusal} {x : ℕ} → answer ≡ Refused why → x ≡ numberOf (numbered why)
-      → Puts l 0 (named (ascii "refused ") x 10) end m → Puts l 0 (sheetText (blockedOf answer) records withdrawn) end m
+      → PutText l 0 (named (ascii "refused ") x 10) end m → PutText l 0 (sheetText (blockedOf answer) records withdrawn) end m
   sheet-refused {m} {why} e q p =
-      subst (λ a. Puts l 0 (sheetText (blockedOf a) records withdrawn) end m) (sym e)
+      subst (λ a. PutText l 0 (sheetText (blockedOf a) records withdrawn) end m) (sym e)
       (puts-as p (ap (λ n. named (ascii "refused ") n 10) q ∙ refused-field (numbered why)) refl)
 
-  pub sheet-done : {a b m : List ℕ} {c r w first last : ℕ} → answer ≡ Done c r w → Puts l 0 heading first a
-      → Puts a first (lines 1 (take c records)) last b → Puts b last (closing r w withdrawn) end m
-      → Puts l 0 (sheetText (blockedOf answer) records withdrawn) end m
-  sheet-done {a} {b} {m} e x y z = subst (λ a. Puts l 0 (sheetText (blockedOf a) records withdrawn) end m) (sym e) (puts-then (puts-then x y) z)
+  pub sheet-done : {a b m : List ℕ} {c r w first last : ℕ} → answer ≡ Done c r w → PutText l 0 heading first a
+      → PutText a first (lines 1 (take c records)) last b → PutText b last (closing r w withdrawn) end m
+      → PutText l 0 (sheetText (blockedOf answer) records withdrawn) end m
+  sheet-done {a} {b} {m} e x y z = subst (λ a. PutText l 0 (sheetText (blockedOf a) records withdrawn) end m) (sym e) (puts-then (puts-then x y) z)
 
 -- the sheet of records that were written over old ones
 pub sheet-written : (F : Figures) (f : ℕ → BlockRecord) (old : List BlockRecord) (withdrawn : ℕ)

@@ -5,7 +5,7 @@ use mathlib.Core.List.{List, _++_}
 use lib.ListN.{length, take, drop}
 
 -- the text stands from `at` up to `end`; every other place is as before
-pub record Puts (old : List ℕ) (at : ℕ) (text : List ℕ) (end : ℕ) (new : List ℕ) : Type 0 where
+pub record PutText (old : List ℕ) (at : ℕ) (text : List ℕ) (end : ℕ) (new : List ℕ) : Type 0 where
   pub is : new ≡ take at old ++ text ++ drop end old
   pub ends : end ≡ at + length text
   pub room : end ≤ length old

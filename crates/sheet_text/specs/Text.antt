@@ -9,7 +9,7 @@ use lib.ListN.{length, take, drop, replicate}
 use Rattle.study.specs.declared.BlockRecord.{BlockRecord}
 use Rattle.study.specs.Refusals.{Numbered, Reply, value, refusal}
 use Rattle.study.specs.Calls.{Figures}
-use Rattle.refusal_numbers.specs.Numbers.{numberOf}
+use Rattle.study.specs.Numbers.{numberOf}
 use Rattle.sheet_text.specs.declared.Text.{Text}
 
 -- the bytes of a text

@@ -3,9 +3,10 @@ use crate::lines::put_closing;
 use crate::lines::put_lines;
 use crate::putting::put_bytes;
 use crate::putting::put_named;
-use refusal_numbers::number_of;
+use study::refusals::number_of;
 use study::BlockRecord;
 use study::Blocked;
+use study::MAX_TIDES;
 
 mod lines;
 mod putting;
@@ -15,7 +16,7 @@ ghost use Prim.Native.Nat.{_≤_};
 ghost use lib.ListN.{length};
 ghost use Rattle.study.specs.Calls.{blockedOf};
 ghost use Rattle.sheet_text.specs.Text.{sheetText, laidOut};
-ghost use Rattle.sheet_text.specs.Putting.{Puts};
+ghost use Rattle.sheet_text.specs.Putting.{PutText};
 
 // The text is the first `length` bytes, zeros stand after it: at most 26 of heading, 120 lines of 23 and a last line of 51.
 pub struct Text {
@@ -23,9 +24,9 @@ pub struct Text {
     pub length: usize,
 }
 
-fn put_sheet(out: &mut [u8], answer: Blocked, records: [BlockRecord; 120], withdrawn: u16) -> usize
+fn put_sheet(out: &mut [u8], answer: Blocked, records: [BlockRecord; MAX_TIDES], withdrawn: u16) -> usize
     requires { ⌜ 2837 ≤ length (now out) ⌝ }
-    ensures { λ r. ⌜ (r ≤ 2837) × Puts (now (out .entry)) 0 (sheetText (blockedOf answer) records withdrawn) r (now (out .exit)) ⌝ }
+    ensures { λ r. ⌜ (r ≤ 2837) × PutText (now (out .entry)) 0 (sheetText (blockedOf answer) records withdrawn) r (now (out .exit)) ⌝ }
 {
     match answer {
         Blocked::Refused(why) => put_named(out, 0, b"refused ", number_of(why), b'\n'),
@@ -37,7 +38,7 @@ fn put_sheet(out: &mut [u8], answer: Blocked, records: [BlockRecord; 120], withd
     }
 }
 
-pub fn sheet_text(answer: Blocked, records: [BlockRecord; 120], withdrawn: u16) -> Text
+pub fn sheet_text(answer: Blocked, records: [BlockRecord; MAX_TIDES], withdrawn: u16) -> Text
     ensures fits { λ r. ⌜ r .length ≤ 2837 ⌝ }
     ensures text { λ r. ⌜ r ≡ laidOut (sheetText (blockedOf answer) records withdrawn) ⌝ }
 {

@@ -2,15 +2,17 @@
 use crate::putting::put_field;
 use crate::putting::put_named;
 use study::BlockRecord;
+use study::MAX_TIDES;
 ghost use Prim.Native.Nat.{_+_, _≤_};
 ghost use lib.ListN.{length, take};
+ghost use Rattle.study.specs.Limits.{maxTides};
 ghost use Rattle.sheet_text.specs.Text.{line, lines, closing};
-ghost use Rattle.sheet_text.specs.Putting.{Puts};
+ghost use Rattle.sheet_text.specs.Putting.{PutText};
 
 // The line of one block.
 fn put_line(out: &mut [u8], at: usize, number: u32, block: BlockRecord) -> usize
-    requires { ⌜ (number ≤ 120) × (at + 23 ≤ length (now out)) ⌝ }
-    ensures { λ r. ⌜ (r ≤ at + 23) × Puts (now (out .entry)) at (line number block) r (now (out .exit)) ⌝ }
+    requires { ⌜ (number ≤ maxTides) × (at + 23 ≤ length (now out)) ⌝ }
+    ensures { λ r. ⌜ (r ≤ at + 23) × PutText (now (out .entry)) at (line number block) r (now (out .exit)) ⌝ }
 {
     let after_number = put_field(out, at, number, b' ');
     let after_centre = put_field(out, after_number, block.centre as u32, b' ');
@@ -19,13 +21,13 @@ fn put_line(out: &mut [u8], at: usize, number: u32, block: BlockRecord) -> usize
 }
 
 // A line for each block that has a record.
-pub fn put_lines(out: &mut [u8], at: usize, blocks: usize, records: [BlockRecord; 120]) -> usize
+pub fn put_lines(out: &mut [u8], at: usize, blocks: usize, records: [BlockRecord; MAX_TIDES]) -> usize
     requires { ⌜ at + 2760 ≤ length (now out) ⌝ }
-    ensures { λ r. ⌜ (r ≤ at + 2760) × Puts (now (out .entry)) at (lines 1 (take blocks records)) r (now (out .exit)) ⌝ }
+    ensures { λ r. ⌜ (r ≤ at + 2760) × PutText (now (out .entry)) at (lines 1 (take blocks records)) r (now (out .exit)) ⌝ }
 {
     let mut end = at;
     let mut i: usize = 0;
-    while i < 120 {
+    while i < MAX_TIDES {
         if i == blocks {
             return end;
         }
@@ -38,7 +40,7 @@ pub fn put_lines(out: &mut [u8], at: usize, blocks: usize, records: [BlockRecord
 // The last line.
 pub fn put_closing(out: &mut [u8], at: usize, radius: u32, widest: u32, withdrawn: u16) -> usize
     requires { ⌜ at + 51 ≤ length (now out) ⌝ }
-    ensures { λ r. ⌜ (r ≤ at + 51) × Puts (now (out .entry)) at (closing radius widest withdrawn) r (now (out .exit)) ⌝ }
+    ensures { λ r. ⌜ (r ≤ at + 51) × PutText (now (out .entry)) at (closing radius widest withdrawn) r (now (out .exit)) ⌝ }
 {
     let after_radius = put_named(out, at, b"reach ", radius, b' ');
     let after_widest = put_named(out, after_radius, b"widest ", widest, b' ');

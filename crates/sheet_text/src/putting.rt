@@ -4,11 +4,11 @@ ghost use Prim.Native.Nat.{_+_, _≤_, _<_};
 ghost use lib.ListN.{length};
 ghost use Rattle.sheet_text.specs.Text.{decimal};
 ghost use Rattle.sheet_text.specs.Lines.{field, named};
-ghost use Rattle.sheet_text.specs.Putting.{Puts};
+ghost use Rattle.sheet_text.specs.Putting.{PutText};
 
 fn put_byte(out: &mut [u8], at: usize, byte: u8) -> usize
     requires { ⌜ at < length (now out) ⌝ }
-    ensures { λ r. ⌜ Puts (now (out .entry)) at (byte ∷ []) r (now (out .exit)) ⌝ }
+    ensures { λ r. ⌜ PutText (now (out .entry)) at (byte ∷ []) r (now (out .exit)) ⌝ }
 {
     out[at] = byte;
     at + 1
@@ -16,7 +16,7 @@ fn put_byte(out: &mut [u8], at: usize, byte: u8) -> usize
 
 pub fn put_bytes(out: &mut [u8], at: usize, text: &[u8]) -> usize
     requires { ⌜ at + length (now text) ≤ length (now out) ⌝ }
-    ensures { λ r. ⌜ Puts (now (out .entry)) at (now (text .entry)) r (now (out .exit)) ⌝ }
+    ensures { λ r. ⌜ PutText (now (out .entry)) at (now (text .entry)) r (now (out .exit)) ⌝ }
 {
     let mut i: usize = 0;
     while i < text.len() {
@@ -29,7 +29,7 @@ pub fn put_bytes(out: &mut [u8], at: usize, text: &[u8]) -> usize
 // A number in decimal: the digits of its tenth part, then its last.
 fn put_number(out: &mut [u8], at: usize, x: u32) -> usize
     requires { ⌜ at + length (decimal x) ≤ length (now out) ⌝ }
-    ensures { λ r. ⌜ Puts (now (out .entry)) at (decimal x) r (now (out .exit)) ⌝ }
+    ensures { λ r. ⌜ PutText (now (out .entry)) at (decimal x) r (now (out .exit)) ⌝ }
 {
     if x < 10 {
         return put_byte(out, at, (48 + x) as u8);
@@ -41,7 +41,7 @@ fn put_number(out: &mut [u8], at: usize, x: u32) -> usize
 // A number and the byte after it.
 pub fn put_field(out: &mut [u8], at: usize, x: u32, mark: u8) -> usize
     requires { ⌜ at + length (field x mark) ≤ length (now out) ⌝ }
-    ensures { λ r. ⌜ Puts (now (out .entry)) at (field x mark) r (now (out .exit)) ⌝ }
+    ensures { λ r. ⌜ PutText (now (out .entry)) at (field x mark) r (now (out .exit)) ⌝ }
 {
     let end = put_number(out, at, x);
     put_byte(out, end, mark)
@@ -50,7 +50,7 @@ pub fn put_field(out: &mut [u8], at: usize, x: u32, mark: u8) -> usize
 // A field with words before it.
 pub fn put_named(out: &mut [u8], at: usize, name: &[u8], x: u32, mark: u8) -> usize
     requires { ⌜ at + length (named (now name) x mark) ≤ length (now out) ⌝ }
-    ensures { λ r. ⌜ Puts (now (out .entry)) at (named (now (name .entry)) x mark) r (now (out .exit)) ⌝ }
+    ensures { λ r. ⌜ PutText (now (out .entry)) at (named (now (name .entry)) x mark) r (now (out .exit)) ⌝ }
 {
     let end = put_bytes(out, at, name);
     put_field(out, end, x, mark)

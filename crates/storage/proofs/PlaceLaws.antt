@@ -8,9 +8,10 @@ use mathlib.Core.List.{List}
 use lib.ListN.{length, getD, set, length-set}
 use lib.Seq.{ext-getD, getD-set-same, getD-set-other}
 use borrow.Author.Tests.{le-leb, lt-leb}
-use Rattle.lists.specs.Lists.{overwrite, at}
+use Rattle.lists.specs.Lists.{overwrite}
 use Rattle.lists.proofs.Tests.{split}
 use Rattle.lists.proofs.Tables.{length-overwrite, getD-overwrite, getD-past, overwrite-ext, overwrite-read}
+use Rattle.study.specs.Limits.{cell}
 use Rattle.study.specs.Study.{Tide, Study, size, tide, distance}
 use Rattle.study.proofs.StudyLaws.{distance-both-ways, distance-itself}
 use Rattle.study.specs.Calls.{opened, entered, withdrawn, skip}
@@ -125,7 +126,7 @@ module _ (s : State) (D : IsDataset s) (setting : ℕ) (row : List ℕ) (long : 
             (λ i l h. let k : b ≡ length row = omega arith in let r = g k in omega arith)
             ∙ e
 
-        zero-there : (n ≤ a) ⊎ (n ≤ b) → distance E a b ≡ 0 → at d a b ≡ distance E a b
+        zero-there : (n ≤ a) ⊎ (n ≤ b) → distance E a b ≡ 0 → cell d a b ≡ distance E a b
         zero-there o e = D .beyond a b p q o ∙ sym e
 
         by : (a < n) ⊎ ((a ≡ length row) ⊎ (n < a)) → (b < n) ⊎ ((b ≡ length row) ⊎ (n < b))
@@ -206,7 +207,7 @@ module _ (d : List ℕ) (m p : ℕ) {i j : ℕ} (e : i ≡ skip m (p / 120)) (f 
   unfolding movedDistance
   moved-no-column h k = rw (← e, ← f, lt-leb 120 i h, le-leb 120 j k)
 
-  pub moved-place : i < 120 → j < 120 → at d i j ≡ movedDistance d m p
+  pub moved-place : i < 120 → j < 120 → cell d i j ≡ movedDistance d m p
   unfolding movedDistance
   moved-place h k = rw (← e, ← f, lt-leb 120 i h, lt-leb 120 j k)
 

@@ -33,12 +33,12 @@ module _ (P : Problem) (L : Lawful P) (D : ℕ → ℕ) (F : Feasible P D) where
   same : ℕ → ℕ → Bool
   same u c = eqb (D c) (D u)
 
-  near : ℕ → ℕ → Bool
-  near u c = leb (P .dist c u) W
+  in-radius : ℕ → ℕ → Bool
+  in-radius u c = leb (P .dist c u) W
 
   -- the place of the centre in u's block of D, where that block has one; else of the first centre at most W away
   send : ℕ → ℕ
-  send u = cond (ltb (find (same u) cs) (length cs)) (find (same u) cs) (find (near u) cs)
+  send u = cond (ltb (find (same u) cs) (length cs)) (find (same u) cs) (find (in-radius u) cs)
 
   -- two centres in one block of D are one
   cs-part : (i j : ℕ) → i < length cs → j < length cs → j ≤ i → D (getD cs j 0) ≡ D (getD cs i 0) → j ≡ i
@@ -52,27 +52,27 @@ module _ (P : Problem) (L : Lawful P) (D : ℕ → ℕ) (F : Feasible P D) where
     inside : i < length cs
     close : P .dist (getD cs i 0) u ≤ W
 
-  covered : (u : ℕ) → u < P .size → Sent u (find (near u) cs)
-  unfolding near cs
+  covered : (u : ℕ) → u < P .size → Sent u (find (in-radius u) cs)
+  unfolding in-radius cs
   covered u l =
       let r = cover P W L u l in
       let q = place 0 cs (r .1) in
-      let k : find (near u) cs ≤ q .0 = find-le (near u) cs (q .0) (q .1) (le→leb (P .dist (getD cs (q .0) 0) u) W (rw (q .2) (r .2))) in
-      let m : find (near u) cs < length cs = omega (arith, k, q .1) in
-      record { inside = m; close = leb→le (P .dist (getD cs (find (near u) cs) 0) u) W (find-pass (near u) cs m) }
+      let k : find (in-radius u) cs ≤ q .0 = find-le (in-radius u) cs (q .0) (q .1) (le→leb (P .dist (getD cs (q .0) 0) u) W (rw (q .2) (r .2))) in
+      let m : find (in-radius u) cs < length cs = omega (arith, k, q .1) in
+      record { inside = m; close = leb→le (P .dist (getD cs (find (in-radius u) cs) 0) u) W (find-pass (in-radius u) cs m) }
 
   send-good : (u : ℕ) → u < P .size → Sent u (send u)
-  unfolding send same near W
+  unfolding send same in-radius W
   send-good u l =
       ⊎-elim
       (λ s. let k : find (same u) cs < length cs = ltb→lt (find (same u) cs) (length cs) s in
-      rw (cond-yes (ltb (find (same u) cs) (length cs)) (find (same u) cs) (find (near u) cs) s)
+      rw (cond-yes (ltb (find (same u) cs) (length cs)) (find (same u) cs) (find (in-radius u) cs) s)
       (record {
         inside = k;
         close = greatestDiameter-ge P D (L .symmetric) (getD cs (find (same u) cs) 0) u (cs-below (find (same u) cs) k) l
             (eqb→eq (D (getD cs (find (same u) cs) 0)) (D u) (find-pass (same u) cs k));
       }))
-      (λ s. rw (cond-no (ltb (find (same u) cs) (length cs)) (find (same u) cs) (find (near u) cs) s) (covered u l))
+      (λ s. rw (cond-no (ltb (find (same u) cs) (length cs)) (find (same u) cs) (find (in-radius u) cs) s) (covered u l))
       (test (ltb (find (same u) cs) (length cs)))
 
   -- the block of D that has a centre goes to the centre's block
@@ -81,7 +81,7 @@ module _ (P : Problem) (L : Lawful P) (D : ℕ → ℕ) (F : Feasible P D) where
   send-part i u l e =
       let h : find (same u) cs ≤ i = find-le (same u) cs i l (eq→eqb (D (getD cs i 0)) (D u) (sym e)) in
       let k : find (same u) cs < length cs = omega arith in
-      cond-yes (ltb (find (same u) cs) (length cs)) (find (same u) cs) (find (near u) cs) (lt→ltb (find (same u) cs) (length cs) k)
+      cond-yes (ltb (find (same u) cs) (length cs)) (find (same u) cs) (find (in-radius u) cs) (lt→ltb (find (same u) cs) (length cs) k)
       ∙ cs-part i (find (same u) cs) l k h (eqb→eq (D (getD cs (find (same u) cs) 0)) (D u) (find-pass (same u) cs k) ∙ e)
 
   sent : List ℕ
@@ -110,7 +110,7 @@ module _ (P : Problem) (L : Lawful P) (D : ℕ → ℕ) (F : Feasible P D) where
         long = length-tabulate (P .size) (λ u. suc (send u));
         low = λ u l. omega (arith, sent-at u l);
         high = λ u l. omega (arith, sent-at u l, send-good u l .inside);
-        near = sent-near;
+        in-radius = sent-near;
         enough = sent-enough;
       }
 
@@ -138,9 +138,9 @@ assignment-diameter P L g xs A = greatestDiameter-le P (labels xs) (2 * g) pair
     pair : (u t : ℕ) → u < t → t < P .size → labels xs u ≡ labels xs t → P .dist u t ≤ 2 * g
     pair u t h l e =
         let k : u < P .size = omega arith in
-        let a : P .dist u (c t) ≤ g = rw (L .symmetric .both-ways u (c t)) (subst (λ m. P .dist (centreOf (centres P g) m) u ≤ g) e (A .near u k)) in
-        let b : P .dist (c t) t ≤ g = A .near t l in
-        omega (arith, L .three-tide u (c t) t k (assigned-centre P g xs A t l) l)
+        let a : P .dist u (c t) ≤ g = rw (L .symmetric .both-ways u (c t)) (subst (λ m. P .dist (centreOf (centres P g) m) u ≤ g) e (A .in-radius u k)) in
+        let b : P .dist (c t) t ≤ g = A .in-radius t l in
+        omega (arith, L .triangle u (c t) t k (assigned-centre P g xs A t l) l)
 
 -- ---- the bounds, against the same tides in any order
 

@@ -1,4 +1,4 @@
--- An accepted Open, Minima, Enter or Withdraw leaves valid contents: the three-tide rule with the rest. Assumes nothing.
+-- An accepted Open, Minima, Enter or Withdraw leaves valid contents: the triangle rule with the rest. Assumes nothing.
 use Prim.Native.Nat.{ℕ, zero, suc, _-_, _≤_, _<_}
 use native.Mathlib.Nat.{not-suc-le-zero, le-of-suc-le-suc}
 use native.Mathlib.Omega.{arith}
@@ -13,13 +13,13 @@ use lib.Seq.{getD-append-seam}
 use Rattle.lists.specs.Lists.{between, every, sumBelow, isEmpty}
 use Rattle.lists.proofs.Tests.{T-true, T-false, not-not, test, split, between-T, cond-yes, cond-no, every-at}
 use Rattle.study.specs.declared.Minima.{Minima}
-use Rattle.study.specs.Study.{Tide, Study, Contents, size, noTide, tide, distance, validMinima, ThreeTideRule, Valid}
+use Rattle.study.specs.Study.{Tide, Study, Contents, size, noTide, tide, distance, validMinima, TriangleInequality, Valid}
 use Rattle.study.specs.Refusals.{accepted, refused, Reason, firstOf}
-use Rattle.study.specs.Calls.{openReasons, opened, opening, minimaReasons, withMinima, settingMinima, breaking, enterReasons, entered, entering, withdrawReasons, removeAt, shortened, withdrawn, withdrawing, skip}
+use Rattle.study.specs.Calls.{openReasons, opened, opening, minimaReasons, withMinima, settingMinima, violations, enterReasons, entered, entering, withdrawReasons, removeAt, shortened, withdrawn, withdrawing, skip}
 use Rattle.study.specs.Theorems.{ValidContents}
 use Rattle.study.proofs.StudyLaws.{validMinima-T, distance-both-ways, distance-itself}
 use Rattle.study.specs.Triangle.{Triangle}
-use Rattle.study.proofs.TriangleLaws.{ordered-rule, rule-triangle, unbroken}
+use Rattle.study.proofs.TriangleLaws.{ordered-triangle, triangle-of, obeyed}
 
 -- ---- an accepted call: none of its reasons holds
 
@@ -45,7 +45,7 @@ zero-minima : (k : ℕ) → T (validMinima k (opened k .minima))
 unfolding opened sumBelow
 zero-minima k =
     validMinima-T k (opened k .minima) .1
-    (record { low = omega arith; high = omega arith; eight = refl; together = omega arith; above = λ j l h. getD-replicate 8 j 0 0 h })
+    (record { low = omega arith; high = omega arith; eight = refl; sum = omega arith; above = λ j l h. getD-replicate 8 j 0 0 h })
 
 pub opening-valid : (k : ℕ) → firstOf (openReasons k) ≡ accepted → ValidContents (opening k)
 unfolding openReasons opening opened
@@ -60,8 +60,8 @@ opening-valid k e =
         setting-low = λ t l. absurd (not-suc-le-zero l);
         setting-high = λ t l. absurd (not-suc-le-zero l);
         row-length = λ t l. absurd (not-suc-le-zero l);
-        near = λ t u l m. absurd (not-suc-le-zero l);
-        three-tide = λ t u v l m n. absurd (not-suc-le-zero l);
+        distance-high = λ t u l m. absurd (not-suc-le-zero l);
+        triangle = λ t u v l m n. absurd (not-suc-le-zero l);
       };
       counted = omega arith;
     }
@@ -81,8 +81,8 @@ minima-valid M H ok e =
         setting-low = S .setting-low;
         setting-high = S .setting-high;
         row-length = S .row-length;
-        near = S .near;
-        three-tide = S .three-tide;
+        distance-high = S .distance-high;
+        triangle = S .triangle;
       };
       counted = ok .counted;
     }
@@ -124,19 +124,19 @@ module _ (s : ℕ) (row : List ℕ) (S : Study) where
   old-or-new t l = ⊎-elim (λ q. inl q) (λ q. inr (omega (arith, entered-size))) (split t n)
 
   -- the rule with the new tide last, and with the tides before
-  pub entered-three-tide : T (isEmpty (breaking (distance S) n (λ i. getD row i 0))) → ThreeTideRule S → ThreeTideRule E
-  entered-three-tide h O = ordered-rule (distance E) (distance-both-ways E) (distance-itself E) (size E) (λ i j l a b c. by i j l a b (old-or-new l c))
+  pub entered-triangle : T (isEmpty (violations (distance S) n (λ i. getD row i 0))) → TriangleInequality S → TriangleInequality E
+  entered-triangle h O = ordered-triangle (distance E) (distance-both-ways E) (distance-itself E) (size E) (λ i j l a b c. by i j l a b (old-or-new l c))
     where
       by : (i j l : ℕ) → i < j → j < l → (l < n) ⊎ (l ≡ n) → Triangle (distance E i j) (distance E i l) (distance E j l)
       by i j l a b (inl c) =
           let p : i < n = omega arith in
           let q : j < n = omega arith in
-          rw (entered-held i j p q, entered-held i l p c, entered-held j l q c) (rule-triangle (distance S) (distance-both-ways S) n O i j l p q c)
+          rw (entered-held i j p q, entered-held i l p c, entered-held j l q c) (triangle-of (distance S) (distance-both-ways S) n O i j l p q c)
       by i j l a b (inr e) =
           let q : j < n = omega arith in
           let p : i < n = omega arith in
           subst (λ z. Triangle (distance E i j) (distance E i z) (distance E j z)) (sym e)
-          (rw (entered-held i j p q, entered-row i p, entered-row j q) (unbroken (distance S) n (λ i. getD row i 0) h i j a q))
+          (rw (entered-held i j p q, entered-row i p, entered-row j q) (obeyed (distance S) n (λ i. getD row i 0) h i j a q))
 
 -- what an accepted Enter tells
 pub record Enters (S : Study) (s : ℕ) (row : List ℕ) : Type 0 where
@@ -144,8 +144,8 @@ pub record Enters (S : Study) (s : ℕ) (row : List ℕ) : Type 0 where
   pub length-is : length row ≡ size S
   pub setting-low : 1 ≤ s
   pub setting-high : s ≤ S .k
-  pub near : (i : ℕ) → i < size S → getD row i 0 ≤ 1048575
-  pub unbroken : T (isEmpty (breaking (distance S) (size S) (λ i. getD row i 0)))
+  pub distance-high : (i : ℕ) → i < size S → getD row i 0 ≤ 1048575
+  pub obeyed : T (isEmpty (violations (distance S) (size S) (λ i. getD row i 0)))
 
 pub enters : (S : Study) (s : ℕ) (row : List ℕ) → firstOf (enterReasons S s row) ≡ accepted → Enters S s row
 unfolding enterReasons
@@ -158,17 +158,17 @@ enters S s row e =
       length-is = q;
       setting-low = b .0;
       setting-high = b .1;
-      near = λ i l.
+      distance-high = λ i l.
           leb→le (getD row i 0) 1048575
           (every-at (length row) (λ i. leb (getD row i 0) 1048575) (not-not (every (length row) (λ i. leb (getD row i 0) 1048575)) (h .1 .1 .1 .0)) i (omega arith));
-      unbroken = not-not (isEmpty (breaking (distance S) (size S) (λ i. getD row i 0))) (h .1 .1 .1 .1 .0);
+      obeyed = not-not (isEmpty (violations (distance S) (size S) (λ i. getD row i 0))) (h .1 .1 .1 .1 .0);
     }
 
 module _ (s : ℕ) (row : List ℕ) (S : Study) (ok : Valid S) (A : Enters S s row) where
   near-by : (t u : ℕ) → (t < size S) ⊎ (t ≡ size S) → (u < size S) ⊎ (u ≡ size S) → distance (entered s row S) t u ≤ 1048575
-  near-by t u (inl a) (inl b) = omega (arith, entered-held s row S t u a b, ok .near t u a b)
-  near-by t u (inl a) (inr q) = subst (λ z. distance (entered s row S) t z ≤ 1048575) (sym q) (omega (arith, entered-row s row S t a, A .near t a))
-  near-by t u (inr q) (inl b) = subst (λ z. distance (entered s row S) z u ≤ 1048575) (sym q) (omega (arith, entered-column s row S u b, A .near u b))
+  near-by t u (inl a) (inl b) = omega (arith, entered-held s row S t u a b, ok .distance-high t u a b)
+  near-by t u (inl a) (inr q) = subst (λ z. distance (entered s row S) t z ≤ 1048575) (sym q) (omega (arith, entered-row s row S t a, A .distance-high t a))
+  near-by t u (inr q) (inl b) = subst (λ z. distance (entered s row S) z u ≤ 1048575) (sym q) (omega (arith, entered-column s row S u b, A .distance-high u b))
   near-by t u (inr q) (inr r) = subst (λ z. distance (entered s row S) t z ≤ 1048575) (q ∙ sym r) (omega (arith, distance-itself (entered s row S) t))
 
   -- what holds of the tides before and of the new one holds of all
@@ -190,8 +190,8 @@ module _ (s : ℕ) (row : List ℕ) (S : Study) (ok : Valid S) (A : Enters S s r
         setting-low = each-tide (λ t x. 1 ≤ x .setting) (ok .setting-low) (A .setting-low);
         setting-high = each-tide (λ t x. x .setting ≤ S .k) (ok .setting-high) (A .setting-high);
         row-length = each-tide (λ t x. length (x .row) ≡ t) (ok .row-length) (A .length-is);
-        near = λ t u a b. near-by t u (old-or-new s row S t a) (old-or-new s row S u b);
-        three-tide = entered-three-tide s row S (A .unbroken) (ok .three-tide);
+        distance-high = λ t u a b. near-by t u (old-or-new s row S t a) (old-or-new s row S u b);
+        triangle = entered-triangle s row S (A .obeyed) (ok .triangle);
       }
 
 pub entering-valid : (s : ℕ) (row : List ℕ) (H : Contents) → ValidContents H → firstOf (enterReasons (H .study) s row) ≡ accepted
@@ -294,10 +294,10 @@ module _ (i : ℕ) (S : Study) where
             setting-low = λ u l. rw (withdrawn-setting u) (ok .setting-low (skip i u) (skip-inside u l));
             setting-high = λ u l. rw (withdrawn-setting u) (ok .setting-high (skip i u) (skip-inside u l));
             row-length = row-lengths;
-            near = λ u v a b. omega (arith, withdrawn-distance u v, ok .near (skip i u) (skip i v) (skip-inside u a) (skip-inside v b));
-            three-tide = λ t u v a b c.
+            distance-high = λ u v a b. omega (arith, withdrawn-distance u v, ok .distance-high (skip i u) (skip i v) (skip-inside u a) (skip-inside v b));
+            triangle = λ t u v a b c.
                 rw (withdrawn-distance t v, withdrawn-distance t u, withdrawn-distance u v)
-                (ok .three-tide (skip i t) (skip i u) (skip i v) (skip-inside t a) (skip-inside u b) (skip-inside v c));
+                (ok .triangle (skip i t) (skip i u) (skip i v) (skip-inside t a) (skip-inside u b) (skip-inside v c));
           }
 
 -- what an accepted Withdraw tells

@@ -54,7 +54,7 @@ module _ (P : Problem) (g : ℕ) where
         tide = t;
         same = s .same;
         lower = choice-before P g (centres P g) t (labels ys t) (labels first t)
-            (mem-choices P g (centres P g) t (labels ys t) (record { low = A .low t l; high = A .high t l; near = A .near t l })) (s .sooner);
+            (mem-choices P g (centres P g) t (labels ys t) (record { low = A .low t l; high = A .high t l; in-radius = A .in-radius t l })) (s .sooner);
       }))
       (first-sooner ys A)
 

@@ -205,20 +205,20 @@ module _ (P : Problem) (D E : ℕ → ℕ) where
 pub record Choice (P : Problem) (g : ℕ) (cs : List ℕ) (t m : ℕ) : Type 0 where
   pub low : 1 ≤ m
   pub high : m ≤ length cs
-  pub near : P .dist (centreOf cs m) t ≤ g
+  pub in-radius : P .dist (centreOf cs m) t ≤ g
 
 pub choices-mem : (P : Problem) (g : ℕ) (cs : List ℕ) (t m : ℕ) → m among choices P g cs t → Choice P g cs t m
 unfolding choices
 choices-mem P g cs t m h =
     let r = filter-mem (λ m. leb (P .dist (centreOf cs m) t) g) (iota 1 (length cs)) h in
     let q = range-mem 1 (length cs) (r .0) in
-    record { low = q .0; high = omega (arith, q .1); near = leb→le (P .dist (centreOf cs m) t) g (r .1) }
+    record { low = q .0; high = omega (arith, q .1); in-radius = leb→le (P .dist (centreOf cs m) t) g (r .1) }
 
 pub mem-choices : (P : Problem) (g : ℕ) (cs : List ℕ) (t m : ℕ) → Choice P g cs t m → m among choices P g cs t
 unfolding choices
 mem-choices P g cs t m c =
     mem-filter (λ m. leb (P .dist (centreOf cs m) t) g) (iota 1 (length cs)) (mem-range 1 (length cs) m (c .low) (omega (arith, c .high)))
-    (le→leb (P .dist (centreOf cs m) t) g (c .near))
+    (le→leb (P .dist (centreOf cs m) t) g (c .in-radius))
 
 -- ---- assignments
 
@@ -240,7 +240,7 @@ module _ (P : Problem) (g : ℕ) (xs : List ℕ) where
         long = w .long ∙ length-tabulate (P .size) (choices P g cs);
         low = λ t l. chosen t l .low;
         high = λ t l. chosen t l .high;
-        near = λ t l. chosen t l .near;
+        in-radius = λ t l. chosen t l .in-radius;
         enough = λ m a b. all-at _ (iota 1 (length cs)) (k .1) (mem-range 1 (length cs) m a (omega arith));
       }
     where
@@ -263,7 +263,7 @@ module _ (P : Problem) (g : ℕ) (xs : List ℕ) where
       chosen t h =
           let l : t < P .size = omega (arith, length-tabulate (P .size) (choices P g cs)) in
           subst (λ ms. getD xs t 0 among ms) (sym (getD-tabulate (P .size) (choices P g cs) t [] l))
-          (mem-choices P g cs t (getD xs t 0) (record { low = A .low t l; high = A .high t l; near = A .near t l }))
+          (mem-choices P g cs t (getD xs t 0) (record { low = A .low t l; high = A .high t l; in-radius = A .in-radius t l }))
 
   pub assignments-are : (xs among assignments P g) ↔ Assignment P g xs
   unfolding assignments

@@ -4,15 +4,15 @@ use lib.Dec.{T}
 use lib.ListN.{length}
 use Rattle.study.specs.Problem.{Problem, centres, labels, radius, blocking}
 use Rattle.study.specs.Study.{Study, problem, Valid}
-use Rattle.study.specs.Theorems.{Lawful, Singled, ForProblem, ForStudy, ForCalls}
+use Rattle.study.specs.Theorems.{Lawful, Canonical, ForProblem, ForStudy, ForCalls}
 use Rattle.study.proofs.ProblemLaws.{cover, apart, assignments-are, assignable-by, greatestDiameter-is, feasible-T}
 use Rattle.study.proofs.Approximation.{two-approximation, one-block, feasible-radius, blocking-assigns, feasible-exactly, assignable-exactly}
 use Rattle.study.proofs.Dictionary.{blocking-precedes, blocking-found}
 use Rattle.study.proofs.StudyLaws.{study-symmetric, study-lawful, study-reordered, ample-T}
 use Rattle.study.proofs.CallLaws.{opening-valid, minima-valid, entering-valid, withdrawing-valid}
 
-pub singled : (P : Problem) → Lawful P → T (P .enough (λ t. true)) → Singled P
-singled P L h =
+pub canonical : (P : Problem) → Lawful P → T (P .enough (λ t. true)) → Canonical P
+canonical P L h =
     let F = one-block P L h in
     let A = blocking-assigns P L (λ t. 1) F in
     let R = feasible-radius P L (λ t. 1) F in
@@ -33,7 +33,7 @@ for-problem P L =
       bounded = λ Q Y R D F. two-approximation P Q L Y R D F;
       feasible-exactly = feasible-exactly P L;
       assignable-exactly = assignable-exactly P L;
-      singled = singled P L;
+      canonical = canonical P L;
       found = blocking-found P;
       feasible-test = feasible-T P;
     }
@@ -41,7 +41,7 @@ for-problem P L =
 pub for-study : (S : Study) → Valid S → ForStudy S
 unfolding problem
 for-study S ok =
-    let L = study-lawful S (ok .three-tide) in
+    let L = study-lawful S (ok .triangle) in
     record {
       lawful = L;
       bounded = λ R N D F. two-approximation (problem S) (problem R) L (study-symmetric R) (study-reordered S R N) D F;

@@ -84,14 +84,14 @@ module _ (S : Study) (B : Permutation (size S)) where
         setting-low = λ t l. omega (arith, setting-is t l, ok .setting-low (to t) (to-inside t l));
         setting-high = λ t l. omega (arith, setting-is t l, ok .setting-high (to t) (to-inside t l));
         row-length = row-length;
-        near = λ t u l m. omega (arith, distance-is t u l m, ok .near (to t) (to u) (to-inside t l) (to-inside u m));
-        three-tide = λ t u v l m n.
+        distance-high = λ t u l m. omega (arith, distance-is t u l m, ok .distance-high (to t) (to u) (to-inside t l) (to-inside u m));
+        triangle = λ t u v l m n.
             omega (
               arith,
               distance-is t v l n,
               distance-is t u l m,
               distance-is u v m n,
-              ok .three-tide (to t) (to u) (to v) (to-inside t l) (to-inside u m) (to-inside v n),
+              ok .triangle (to t) (to u) (to v) (to-inside t l) (to-inside u m) (to-inside v n),
             );
       }
 

@@ -1,4 +1,4 @@
--- Laws of Study.antt: a study that obeys the three-tide rule poses a lawful problem, in any order of its tides. Assumes nothing.
+-- Laws of Study.antt: a study that obeys the triangle rule poses a lawful problem, in any order of its tides. Assumes nothing.
 use Prim.Native.Nat.{ℕ, suc, _≤_, _<_}
 use native.Mathlib.Nat.{le-trans, le-refl}
 use native.Mathlib.Omega.{arith}
@@ -13,7 +13,7 @@ use Rattle.lists.specs.Lists.{between, every, sumBelow, countBelow}
 use Rattle.lists.proofs.Tests.{and-T, T-left, T-right, between-T, each-at, each-of, cond-no, every-at, every-of, eq→eqb}
 use Rattle.lists.proofs.Counts.{count-into, count-all}
 use Rattle.study.specs.declared.Minima.{Minima}
-use Rattle.study.specs.Study.{Study, size, tide, distance, meets, sufficient, problem, validMinima, ThreeTideRule, Renumbered}
+use Rattle.study.specs.Study.{Study, size, tide, distance, meets, sufficient, problem, validMinima, TriangleInequality, Renumbered}
 use Rattle.study.specs.Theorems.{Symmetric, Lawful, Reordered, Ample}
 use Rattle.study.specs.Minima.{Meets, MinimaFit}
 
@@ -82,12 +82,12 @@ module _ (k : ℕ) (M : Minima) where
           low = b .0;
           high = b .1;
           eight = eqb→eq (length (M .b)) 8 (e .1 .0);
-          together = leb→le _ _ (e .1 .1 .0);
+          sum = leb→le _ _ (e .1 .1 .0);
           above = λ j l h. zero-at j (every-at 8 zero? (e .1 .1 .1 .0) j h) l;
         },
     λ f. each-of tests (
       between-T 1 120 (M .b0) .1 (f .low, f .high),
-      (eq→eqb (length (M .b)) 8 (f .eight), (le→leb (sumBelow 8 (λ j. getD (M .b) j 0)) (M .b0) (f .together), (every-of 8 zero? (λ j h. zero-of j (λ l. f .above j l h)), tt))),
+      (eq→eqb (length (M .b)) 8 (f .eight), (le→leb (sumBelow 8 (λ j. getD (M .b) j 0)) (M .b0) (f .sum), (every-of 8 zero? (λ j h. zero-of j (λ l. f .above j l h)), tt))),
     ),
   )
 
@@ -113,12 +113,12 @@ pub study-symmetric : (S : Study) → Symmetric (problem S)
 unfolding problem
 study-symmetric S = record { both-ways = distance-both-ways S; itself = distance-itself S }
 
-pub study-lawful : (S : Study) → ThreeTideRule S → Lawful (problem S)
+pub study-lawful : (S : Study) → TriangleInequality S → Lawful (problem S)
 unfolding problem sufficient
 study-lawful S O =
     record {
       symmetric = study-symmetric S;
-      three-tide = O;
+      triangle = O;
       upward = λ p q h.
           meets-along (S .minima) (size S) (size S) (λ t. tide S t .setting) (λ t. tide S t .setting) p q (λ t. t)
           (λ t l a. l) h (λ t l. refl) (λ t u l k e. e);

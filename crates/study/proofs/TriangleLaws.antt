@@ -1,4 +1,4 @@
--- The three-tide rule by ordered triples: it is enough that each tide obeys it with every pair before it. Assumes nothing.
+-- The triangle rule by ordered triples: it is enough that each tide obeys it with every pair before it. Assumes nothing.
 use Prim.Native.Nat.{ℕ, suc, _+_, _-_, _≤_, _<_}
 use native.Mathlib.Omega.{arith}
 use mathlib.Core.Path.{_≡_, subst}
@@ -9,7 +9,7 @@ use lib.Dec.{T, leb, leb→le, le→leb, T-not}
 use Rattle.lists.specs.Lists.{iota, filter, isEmpty}
 use Rattle.lists.proofs.Tests.{test, split, each-at, each-of}
 use Rattle.lists.proofs.Members.{filter-mem, mem-filter, map-mem, mem-map, flatMap-mem, mem-flatMap, nonempty, empty-of, range-mem, mem-range}
-use Rattle.study.specs.Calls.{triangle, Pair, breaking}
+use Rattle.study.specs.Calls.{triangle, Pair, violations}
 use Rattle.study.specs.Triangle.{Triangle}
 
 module _ (a b c : ℕ) where
@@ -35,21 +35,21 @@ module _ (dist : ℕ → ℕ → ℕ) (n : ℕ) (new : ℕ → ℕ) where
   abbrev pairs : ℕ → List Pair
   pairs i = map (λ j. record { lower = i; upper = j }) (filter (broken? i) (rest i))
 
-  pub unbroken : T (isEmpty (breaking dist n new)) → (i j : ℕ) → i < j → j < n → Triangle (dist i j) (new i) (new j)
-  unfolding breaking
-  unbroken h i j a b =
+  pub obeyed : T (isEmpty (violations dist n new)) → (i j : ℕ) → i < j → j < n → Triangle (dist i j) (new i) (new j)
+  unfolding violations
+  obeyed h i j a b =
       ⊎-elim (λ t. triangle-T (dist i j) (new i) (new j) .0 t)
-      (λ t. absurd (T-not (isEmpty (breaking dist n new))
-      (nonempty (breaking dist n new)
+      (λ t. absurd (T-not (isEmpty (violations dist n new))
+      (nonempty (violations dist n new)
       (mem-flatMap pairs (iota 0 n) (mem-range 0 n i (omega arith) (omega arith))
       (mem-map (λ j. record { lower = i; upper = j }) (filter (broken? i) (rest i))
       (mem-filter (broken? i) (rest i) (mem-range (suc i) (n - suc i) j (omega arith) (omega arith)) t)))) h))
       (test (triangle (dist i j) (new i) (new j)))
 
-  pub unbroken-of : ((i j : ℕ) → i < j → j < n → Triangle (dist i j) (new i) (new j)) → T (isEmpty (breaking dist n new))
-  unfolding breaking
-  unbroken-of f =
-      empty-of (breaking dist n new) (λ p m.
+  pub obeyed-of : ((i j : ℕ) → i < j → j < n → Triangle (dist i j) (new i) (new j)) → T (isEmpty (violations dist n new))
+  unfolding violations
+  obeyed-of f =
+      empty-of (violations dist n new) (λ p m.
       let r = flatMap-mem pairs (iota 0 n) m in
       let q = map-mem (λ j. record { lower = r .0; upper = j }) (filter (broken? (r .0)) (rest (r .0))) (r .2) in
       let k = filter-mem (broken? (r .0)) (rest (r .0)) (q .1) in
@@ -60,10 +60,10 @@ module _ (dist : ℕ → ℕ → ℕ) (n : ℕ) (new : ℕ → ℕ) where
 -- ---- all triples
 
 -- the triple of any three tides obeys the rule where the distances do
-pub rule-triangle : (dist : ℕ → ℕ → ℕ) → ((t u : ℕ) → dist t u ≡ dist u t) → (n : ℕ)
+pub triangle-of : (dist : ℕ → ℕ → ℕ) → ((t u : ℕ) → dist t u ≡ dist u t) → (n : ℕ)
     → ((t u v : ℕ) → t < n → u < n → v < n → dist t v ≤ dist t u + dist u v)
     → (i j l : ℕ) → i < n → j < n → l < n → Triangle (dist i j) (dist i l) (dist j l)
-rule-triangle dist sm n O i j l a b c =
+triangle-of dist sm n O i j l a b c =
     record {
       first = omega (arith, O i l j a c b, sm l j);
       second = omega (arith, O i j l a b c);
@@ -88,8 +88,8 @@ module _ (dist : ℕ → ℕ → ℕ) (sm : (t u : ℕ) → dist t u ≡ dist u 
   order : (a b : ℕ) → (a ≤ b) ⊎ (b ≤ a)
   order a b = ⊎-elim (λ l. inl (omega arith)) (λ l. inr l) (split a b)
 
-  pub ordered-rule : (t u v : ℕ) → t < n → u < n → v < n → dist t v ≤ dist t u + dist u v
-  ordered-rule t u v a b c = by (order t u) (order u v) (order t v)
+  pub ordered-triangle : (t u v : ℕ) → t < n → u < n → v < n → dist t v ≤ dist t u + dist u v
+  ordered-triangle t u v a b c = by (order t u) (order u v) (order t v)
     where
       by : (t ≤ u) ⊎ (u ≤ t) → (u ≤ v) ⊎ (v ≤ u) → (t ≤ v) ⊎ (v ≤ t) → dist t v ≤ dist t u + dist u v
       by (inl p) (inl q) r = omega (arith, below t u v p q c .second)

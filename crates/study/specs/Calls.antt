@@ -6,6 +6,7 @@ use mathlib.Core.List.{List, [], _∷_, _++_, map, flatMap}
 use lib.Dec.{leb, eqb, ltb}
 use lib.ListN.{length, getD, replicate}
 use Rattle.lists.specs.Lists.{between, each, iota, every, countBelow, filter, isEmpty}
+use Rattle.study.specs.Limits.{maxTides, maxDistance, maxWithdrawals}
 use Rattle.study.specs.declared.Minima.{Minima}
 use Rattle.study.specs.declared.BlockRecord.{BlockRecord}
 use Rattle.study.specs.declared.Blocked.{Blocked}
@@ -50,25 +51,25 @@ pub record Pair : Type 0 where
   pub lower : ℕ
   pub upper : ℕ
 
--- the pairs i < j of n tides with which a new tide, at `new i` from each, breaks the three-tide rule, in order of i and then j
-unfoldable pub breaking : (ℕ → ℕ → ℕ) → ℕ → (ℕ → ℕ) → List Pair
-breaking dist n new =
+-- the pairs i < j of n tides with which a new tide, at `new i` from each, breaks the triangle rule, in order of i and then j
+unfoldable pub violations : (ℕ → ℕ → ℕ) → ℕ → (ℕ → ℕ) → List Pair
+violations dist n new =
     flatMap (λ i. map (λ j. record { lower = i; upper = j }) (filter (λ j. not (triangle (dist i j) (new i) (new j))) (iota (suc i) (n - suc i))))
     (iota 0 n)
 
 -- 7 and the first such pair
-abbrev pub firstPair : List Pair → Numbered
-firstPair [] = number 7
-firstPair (p ∷ ps) = seven (suc (p .lower)) (suc (p .upper))
+abbrev pub firstViolation : List Pair → Numbered
+firstViolation [] = number 7
+firstViolation (p ∷ ps) = seven (suc (p .lower)) (suc (p .upper))
 
 unfoldable pub enterReasons : Study → ℕ → List ℕ → List Reason
 enterReasons S setting row =
-    let broken = breaking (distance S) (size S) (λ i. getD row i 0) in
-    (leb 120 (size S) ⇒ number 22)
+    let broken = violations (distance S) (size S) (λ i. getD row i 0) in
+    (leb maxTides (size S) ⇒ number 22)
     ∷ (not (eqb (length row) (size S)) ⇒ number 4)
     ∷ (not (between 1 (S .k) setting) ⇒ number 5)
-    ∷ (not (every (length row) (λ i. leb (getD row i 0) 1048575)) ⇒ number 6)
-    ∷ (not (isEmpty broken) ⇒ firstPair broken)
+    ∷ (not (every (length row) (λ i. leb (getD row i 0) maxDistance)) ⇒ number 6)
+    ∷ (not (isEmpty broken) ⇒ firstViolation broken)
     ∷ []
 
 -- one more tide at the end
@@ -83,7 +84,7 @@ entering setting row H = record { study = entered setting row (H .study); withdr
 unfoldable pub withdrawReasons : Contents → ℕ → List Reason
 withdrawReasons H t =
     (not (between 1 (size (H .study)) t) ⇒ number 23)
-    ∷ (leb 65535 (H .withdrawals) ⇒ number 26)
+    ∷ (leb maxWithdrawals (H .withdrawals) ⇒ number 26)
     ∷ []
 
 abbrev pub removeAt : {A : Type 0} → ℕ → List A → List A

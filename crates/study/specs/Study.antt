@@ -7,6 +7,7 @@ use mathlib.Core.List.{List, [], _∷_}
 use lib.Dec.{T, leb, ltb, eqb}
 use lib.ListN.{length, getD}
 use Rattle.lists.specs.Lists.{between, each, every, sumBelow, countBelow}
+use Rattle.study.specs.Limits.{maxTides, maxDistance}
 use Rattle.study.specs.declared.Minima.{Minima}
 use Rattle.study.specs.Problem.{Problem}
 
@@ -54,26 +55,26 @@ problem S = record { size = size S; dist = distance S; enough = sufficient S }
 unfoldable pub validMinima : ℕ → Minima → Bool
 validMinima k M =
     each
-    (between 1 120 (M .b0)
+    (between 1 maxTides (M .b0)
     ∷ eqb (length (M .b)) 8
     ∷ leb (sumBelow 8 (λ j. getD (M .b) j 0)) (M .b0)
     ∷ every 8 (λ j. cond (ltb j k) true (eqb (getD (M .b) j 0) 0))
     ∷ [])
 
 -- for any three tides, no distance exceeds the sum of the other two
-abbrev pub ThreeTideRule : Study → Type 0
-ThreeTideRule S = (t u v : ℕ) → t < size S → u < size S → v < size S → distance S t v ≤ distance S t u + distance S u v
+abbrev pub TriangleInequality : Study → Type 0
+TriangleInequality S = (t u v : ℕ) → t < size S → u < size S → v < size S → distance S t v ≤ distance S t u + distance S u v
 
 pub record Valid (S : Study) : Type 0 where
   pub k-low : 1 ≤ S .k
   pub k-high : S .k ≤ 8
-  pub few : size S ≤ 120
+  pub few : size S ≤ maxTides
   pub minima : T (validMinima (S .k) (S .minima))
   pub setting-low : (t : ℕ) → t < size S → 1 ≤ tide S t .setting
   pub setting-high : (t : ℕ) → t < size S → tide S t .setting ≤ S .k
   pub row-length : (t : ℕ) → t < size S → length (tide S t .row) ≡ t
-  pub near : (t u : ℕ) → t < size S → u < size S → distance S t u ≤ 1048575
-  pub three-tide : ThreeTideRule S
+  pub distance-high : (t u : ℕ) → t < size S → u < size S → distance S t u ≤ maxDistance
+  pub triangle : TriangleInequality S
 
 -- ---- the same tides in another order
 

@@ -8,6 +8,7 @@ use mathlib.Core.List.{List}
 use lib.Dec.{T, eqb}
 use lib.ListN.{length, getD, take}
 use Rattle.lists.specs.Lists.{_among_, countBelow, greatest, before}
+use Rattle.study.specs.Limits.{maxWithdrawals}
 use Rattle.study.specs.declared.Minima.{Minima}
 use Rattle.study.specs.Problem.{Problem, centres, centreOf, choices, block, labels, assignments, assignable, candidates, radius, blocking, diameter, greatestDiameter, Feasible, feasible}
 use Rattle.study.specs.Study.{Study, Contents, size, tide, problem, Valid, Renumbered}
@@ -20,10 +21,10 @@ pub record Symmetric (P : Problem) : Type 0 where
   pub both-ways : (t u : ℕ) → P .dist t u ≡ P .dist u t
   pub itself : (t : ℕ) → P .dist t t ≡ 0
 
--- symmetric distances, the three-tide rule, and more tides never make a sufficient block insufficient
+-- symmetric distances, the triangle rule, and more tides never make a sufficient block insufficient
 pub record Lawful (P : Problem) : Type 0 where
   pub symmetric : Symmetric P
-  pub three-tide : (t u v : ℕ) → t < P .size → u < P .size → v < P .size → P .dist t v ≤ P .dist t u + P .dist u v
+  pub triangle : (t u v : ℕ) → t < P .size → u < P .size → v < P .size → P .dist t v ≤ P .dist t u + P .dist u v
   pub upward : (p q : ℕ → Bool) → ((t : ℕ) → t < P .size → T (p t) → T (q t)) → T (P .enough p) → T (P .enough q)
 
 -- Q has the tides of P in another order: tide t of Q is tide `to t` of P, and what is sufficient in Q is so in P
@@ -42,7 +43,7 @@ pub record Assignment (P : Problem) (g : ℕ) (xs : List ℕ) : Type 0 where
   pub long : length xs ≡ P .size
   pub low : (t : ℕ) → t < P .size → 1 ≤ labels xs t
   pub high : (t : ℕ) → t < P .size → labels xs t ≤ length (centres P g)
-  pub near : (t : ℕ) → t < P .size → P .dist (centreOf (centres P g) (labels xs t)) t ≤ g
+  pub in-radius : (t : ℕ) → t < P .size → P .dist (centreOf (centres P g) (labels xs t)) t ≤ g
   pub enough : (m : ℕ) → 1 ≤ m → m ≤ length (centres P g) → T (P .enough (block (labels xs) m))
 
 -- xs comes before ys in dictionary order: by block number, at the first tide where they differ
@@ -58,7 +59,7 @@ pub record FirstAssignment (P : Problem) (g : ℕ) (xs : List ℕ) : Type 0 wher
       → (ys : List ℕ) → Assignment P g ys → take t ys ≡ take t xs → labels ys t ≡ c → ⊥
 
 -- the blocking is the one that document 01 singles out
-pub record Singled (P : Problem) : Type 0 where
+pub record Canonical (P : Problem) : Type 0 where
   pub assignment : Assignment P (radius P) (blocking P)
   pub candidate : radius P among candidates P
   pub lowest : (g : ℕ) → g among candidates P → (xs : List ℕ) → Assignment P g xs → radius P ≤ g
@@ -77,7 +78,7 @@ pub record ForProblem (P : Problem) : Type 0 where
   -- some partition is feasible ↔ all tides together are sufficient ↔ some candidate has an assignment
   pub feasible-exactly : 0 < P .size → ((D : ℕ → ℕ) × Feasible P D) ↔ T (P .enough (λ t. true))
   pub assignable-exactly : 0 < P .size → ((g : ℕ) × (g among candidates P) × T (assignable P g)) ↔ T (P .enough (λ t. true))
-  pub singled : T (P .enough (λ t. true)) → Singled P
+  pub canonical : T (P .enough (λ t. true)) → Canonical P
   -- how a search that only tells whether some assignment continues a given front finds the blocking
   pub found : (xs : List ℕ) → FirstAssignment P (radius P) xs → blocking P ≡ xs
   pub feasible-test : (D : ℕ → ℕ) → T (feasible P D) ↔ Feasible P D
@@ -100,7 +101,7 @@ pub record ForStudy (S : Study) : Type 0 where
 -- a valid study, and a count of withdrawals that a dataset can hold
 pub record ValidContents (H : Contents) : Type 0 where
   pub study : Valid (H .study)
-  pub counted : H .withdrawals ≤ 65535
+  pub counted : H .withdrawals ≤ maxWithdrawals
 
 -- an accepted call leaves valid contents
 pub record ForCalls : Type 0 where

@@ -1,4 +1,4 @@
--- The three-tide rule of three distances, in plain words. Assumes nothing.
+-- The triangle rule of three distances, in plain words. Assumes nothing.
 use Prim.Native.Nat.{ℕ, _+_, _≤_}
 
 -- no distance exceeds the sum of the other two

@@ -1,4 +1,28 @@
 // The types that all calls share. The mathematics stands in specs/.
+pub mod refusals;
+
+// The limits that document 01 sets.
+
+// The most tides that a dataset holds.
+pub const MAX_TIDES: usize = 120;
+
+// The places of a table that has a row of MAX_TIDES places for each tide.
+pub const TABLE_SIZE: usize = 14400;
+
+// The most settings; there is a b for each.
+pub const MAX_SETTINGS: usize = 8;
+
+// The greatest k.
+pub const MAX_K: u8 = 8;
+
+// The greatest b0.
+pub const MAX_BLOCK_MINIMUM: u8 = 120;
+
+// The greatest distance.
+pub const MAX_DISTANCE: u32 = 1048575;
+
+// The greatest count of withdrawals.
+pub const MAX_WITHDRAWALS: u16 = 65535;
 
 // The minima: b0 for a whole block, and b for each of the 8 settings.
 pub struct Minima {
@@ -22,8 +46,8 @@ pub enum Refusal {
     RowLength,
     Setting,
     Distance,
-    // The lower and the higher number of the first pair of tides with which the three-tide rule breaks.
-    ThreeTideRule(usize, usize),
+    // The lower and the higher number of the first pair of tides with which the triangle rule breaks.
+    TriangleInequality(usize, usize),
     FileLength,
     Mark,
     TideCount,

@@ -76,14 +76,14 @@ module _ (s : List ℕ) where
       head-count l = rw (past-8, past-9, T-true (ltb 120 (bitsAt s 8 7)) (lt→ltb 120 (bitsAt s 8 7) (subst (λ z. 120 < z) (g .1 .is) l)))
 
       module _ (few : n ≤ 120) (k : ℕ) (e : k ≡ bitsAt s 15 4) where
-        pub head-kinds : between 1 8 k ≡ false → refused (number 2) ≡ firstOf (headReasons s)
+        pub head-k : between 1 8 k ≡ false → refused (number 2) ≡ firstOf (headReasons s)
         unfolding headReasons firstOf
-        head-kinds f =
+        head-k f =
             rw (past-8, past-9, T-false (ltb 120 (bitsAt s 8 7)) (le→nltb 120 (bitsAt s 8 7) (subst (λ z. z ≤ 120) (g .1 .is) few)), ap (between 1 8) (sym e) ∙ f)
 
         pub begun : 1 ≤ k → k ≤ 8 → Begun s k n
         begun l h =
-            record { six = six; mark = sym (g .0 .is) ∙ marked; tides = g .1 .is; few = few; kinds = e; low = l; high = h }
+            record { six = six; mark = sym (g .0 .is) ∙ marked; tides = g .1 .is; few = few; k-is = e; low = l; high = h }
 
   -- ---- the length, the minima and the last byte
 
@@ -101,10 +101,10 @@ module _ (s : List ℕ) where
           T-false (ltb (length s) 6) (le→nltb (length s) 6 (B .six)),
           eq-eqb (bitsAt s 0 8) 84 (B .mark),
           T-false (ltb 120 (bitsAt s 8 7)) (le→nltb 120 (bitsAt s 8 7) (subst (λ z. z ≤ 120) (B .tides) (B .few))),
-          subst (λ z. between 1 8 z ≡ true) (B .kinds) (between-in 1 8 k (B .low) (B .high)),
-          ap₂ (λ x y. eqb (length s) (byteLength x y)) (sym (B .kinds)) (sym (B .tides)) ∙ a,
-          ap (λ x. validMinima x (minimaAt s x)) (sym (B .kinds)) ∙ b,
-          ap₂ (λ x y. eqb (bitsAt s (bitLength x y) (8 * length s - bitLength x y)) 0) (sym (B .kinds)) (sym (B .tides)) ∙ c,
+          subst (λ z. between 1 8 z ≡ true) (B .k-is) (between-in 1 8 k (B .low) (B .high)),
+          ap₂ (λ x y. eqb (length s) (byteLength x y)) (sym (B .k-is)) (sym (B .tides)) ∙ a,
+          ap (λ x. validMinima x (minimaAt s x)) (sym (B .k-is)) ∙ b,
+          ap₂ (λ x y. eqb (bitsAt s (bitLength x y) (8 * length s - bitLength x y)) 0) (sym (B .k-is)) (sym (B .tides)) ∙ c,
         )
 
     module _ (size : ℕ) (e : size ≡ byteLength k n) where

@@ -2,9 +2,9 @@
 pub mod Lengths
 pub mod WritingLaws
 pub mod PuttingLaws
-pub mod WriteWays
+pub mod WriteCallLaws
 pub mod LoadingLaws
 pub mod HeadLaws
 pub mod RowLaws
-pub mod ReadWays
+pub mod ReadCallLaws
 pub mod Proofs

@@ -8,62 +8,63 @@ use mathlib.Core.Bool.{cond, not}
 use mathlib.Core.List.{List, [], _∷_, _++_}
 use lib.Dec.{T, ltb}
 use lib.ListN.{length, getD, set, length-set}
-use Rattle.lists.specs.Lists.{tabulate, overwrite, isEmpty, at}
+use Rattle.lists.specs.Lists.{tabulate, overwrite, isEmpty}
 use Rattle.lists.proofs.Tables.{length-tabulate, getD-tabulate, tabulate-suc, length-overwrite, getD-overwrite, drop-overwrite, overwrite-same, overwrite-ext}
+use Rattle.study.specs.Limits.{cell}
 use Rattle.study.specs.declared.Dataset.{Dataset}
 use Rattle.study.specs.declared.Refusal.{Refusal}
 use Rattle.study.specs.declared.Answer.{Answer}
 use Rattle.study.specs.declared.Answer.the-variants.{Done, Refused}
 use Rattle.study.specs.Study.{Tide, Study, Contents, size, noTide, tide, distance}
 use Rattle.study.specs.Refusals.{number, accepted, refused, verdictOf, numbered, firstOf}
-use Rattle.study.specs.Calls.{Pair, breaking, firstPair, entered}
+use Rattle.study.specs.Calls.{Pair, violations, firstViolation, entered}
 use Rattle.study.specs.Theorems.{ValidContents}
 use Rattle.file_format.specs.Bits.{bitsAt}
 use Rattle.file_format.specs.File.{bitLength, tideAt, minimaAt, decoded, headReasons, readReasons}
 use Rattle.file_format.proofs.BitLaws.{bitsAt-small}
-use Rattle.file_format.proofs.DistanceLaws.{distance-near, rule-T}
+use Rattle.file_format.proofs.DistanceLaws.{distance-most, rule-T}
 use Rattle.file_format.proofs.DecodedLaws.{decoded-size, decoded-tide, decoded-setting, decoded-length, decoded-row}
 use Rattle.file_format.specs.Head.{Head, Clear}
 use Rattle.file_format.proofs.ReadLaws.{broken, Fits, fits-T, clear-none, accepted-T, refused-five, refused-seven, clear-more}
 use Rattle.validity.specs.Memory.{State, stateOf, studyOf, contentsOf, recordOf, distancesOf, settingsOf, stored}
 use Rattle.validity.specs.Validity.{IsDataset}
 use Rattle.validity.proofs.LayoutLaws.{setting-none, distance-none, stored-is, stored-contents}
-use Rattle.three_tide.proofs.PairLaws.{breaking-same}
+use Rattle.triangle.proofs.PairLaws.{violations-same}
 use Rattle.storage.specs.Places.{withRow}
 use Rattle.storage.proofs.PlaceLaws.{entered-distances, entered-settings}
-use Rattle.study_file.specs.Loading.{part, Loaded, Reading, pairVerdict}
+use Rattle.study_file.specs.Loading.{part, Loaded, Reading, violationVerdict}
 
 -- ---- answers
 
 not-refused : {why : Refusal} → Done ≡ Refused why → ⊥
 not-refused e = let z : _≡_ {A = ℕ} 0 1 = cc in omega arith
 
-pub reached : (s : List ℕ) (t : ℕ) (near kinds : List ℕ) → Loaded s t near kinds → Reading s t Done near kinds
-reached s t near kinds L = record { goes = λ _. L; stops = λ why e. absurd (not-refused e) }
+pub reached : (s : List ℕ) (t : ℕ) (matrix vector : List ℕ) → Loaded s t matrix vector → Reading s t Done matrix vector
+reached s t matrix vector L = record { goes = λ _. L; stops = λ why e. absurd (not-refused e) }
 
-pub stopped : (s : List ℕ) (t : ℕ) (near kinds : List ℕ) {a : Answer} {why : Refusal} → a ≡ Refused why → firstOf (readReasons s) ≡ refused (numbered why)
-    → Reading s t a near kinds
-stopped s t near kinds {a} {why} e f =
+pub stopped : (s : List ℕ) (t : ℕ) (matrix vector : List ℕ) {a : Answer} {why : Refusal} → a ≡ Refused why → firstOf (readReasons s) ≡ refused (numbered why)
+    → Reading s t a matrix vector
+stopped s t matrix vector {a} {why} e f =
     record { goes = λ q. absurd (not-refused (sym q ∙ e)); stops = λ x q. f ∙ ap refused (ap numbered (same x (sym e ∙ q))) }
   where
     same : (x : Refusal) → Refused why ≡ Refused x → why ≡ x
     same x q = cc
 
-told-none : (ps : List Pair) {a : Answer} → verdictOf a ≡ pairVerdict ps → a ≡ Done → T (isEmpty ps)
+told-none : (ps : List Pair) {a : Answer} → verdictOf a ≡ violationVerdict ps → a ≡ Done → T (isEmpty ps)
 told-none [] e q = tt
 told-none (p ∷ ps) {a} e q = absurd (never (sym (ap verdictOf q) ∙ e))
   where
-    never : accepted ≡ refused (firstPair (p ∷ ps)) → ⊥
+    never : accepted ≡ refused (firstViolation (p ∷ ps)) → ⊥
     never z = let z : _≡_ {A = ℕ} 0 1 = cc in omega arith
 
-told-pair : (ps : List Pair) {a : Answer} {why : Refusal} → verdictOf a ≡ pairVerdict ps → a ≡ Refused why → T (not (isEmpty ps)) × (firstPair ps ≡ numbered why)
+told-pair : (ps : List Pair) {a : Answer} {why : Refusal} → verdictOf a ≡ violationVerdict ps → a ≡ Refused why → T (not (isEmpty ps)) × (firstViolation ps ≡ numbered why)
 told-pair [] {a} {why} e q = absurd (never (sym (ap verdictOf q) ∙ e))
   where
     never : refused (numbered why) ≡ accepted → ⊥
     never z = let z : _≡_ {A = ℕ} 0 1 = cc in omega arith
 told-pair (p ∷ ps) {a} {why} e q = (tt, same (sym (ap verdictOf q) ∙ e))
   where
-    same : refused (numbered why) ≡ refused (firstPair (p ∷ ps)) → firstPair (p ∷ ps) ≡ numbered why
+    same : refused (numbered why) ≡ refused (firstViolation (p ∷ ps)) → firstViolation (p ∷ ps) ≡ numbered why
     same z = cc
 
 -- ---- memory written twice
@@ -131,13 +132,13 @@ module _ (s : List ℕ) where
     same : (u : ℕ) → u < size (P t) → tide S u ≡ tide (P t) u
     same u l = sym (part-tide t u few (held u l))
 
-    unbroken : (u : ℕ) → u < size (P t) → T (isEmpty (breaking (distance (P t)) u (distance (P t) u)))
-    unbroken u l =
+    obeyed : (u : ℕ) → u < size (P t) → T (isEmpty (violations (distance (P t)) u (distance (P t) u)))
+    obeyed u l =
         subst (λ ps. T (isEmpty ps))
-        (breaking-same (distance S) (distance (P t)) u (distance S u) (distance (P t) u)
+        (violations-same (distance S) (distance (P t)) u (distance S u) (distance (P t) u)
         (λ i j a b. sym (part-distance t i j few (omega (arith, held u l)) (omega (arith, held u l))))
         (λ i a. sym (part-distance t u i few (held u l) (omega (arith, held u l)))))
-        (fits u l .unbroken)
+        (fits u l .obeyed)
 
     part-valid : ValidContents (part s t)
     unfolding part
@@ -151,8 +152,8 @@ module _ (s : List ℕ) where
             setting-low = λ u l. subst (λ (x : Tide). 1 ≤ x .setting) (same u l) (fits u l .low);
             setting-high = λ u l. subst (λ (x : Tide). x .setting ≤ k) (same u l) (high u l);
             row-length = λ u l. subst (λ (x : Tide). length (x .row) ≡ u) (same u l) (decoded-length s u (inside u l));
-            near = distance-near (P t) 1048575 (λ u i l m. subst (λ (x : Tide). getD (x .row) i 0 ≤ 1048575) (same u l) (small u i l m));
-            three-tide = rule-T (P t) .1 unbroken;
+            distance-high = distance-most (P t) 1048575 (λ u i l m. subst (λ (x : Tide). getD (x .row) i 0 ≤ 1048575) (same u l) (small u i l m));
+            triangle = rule-T (P t) .1 obeyed;
           };
           counted = omega (arith, bitsAt-small s 26 16);
         }
@@ -168,9 +169,9 @@ module _ (s : List ℕ) where
   abbrev recordAt : ℕ → Dataset
   recordAt t = record { k = bitsAt s 15 4; n = t; minima = minimaAt s (bitsAt s 15 4); withdrawn = bitsAt s 26 16 }
 
-  module _ (t : ℕ) (few : t ≤ n) (near kinds : List ℕ) (L : Loaded s t near kinds) where
+  module _ (t : ℕ) (few : t ≤ n) (matrix vector : List ℕ) (L : Loaded s t matrix vector) where
     abbrev σ : State
-    σ = stateOf (recordAt t) near kinds
+    σ = stateOf (recordAt t) matrix vector
 
     valid : ValidContents (part s t)
     valid = part-valid t few (L .head) (L .clear)
@@ -211,7 +212,7 @@ module _ (s : List ℕ) where
   unfolding tideAt
   setting-next t l = refl
 
-  module _ (t : ℕ) (more : t < n) (near kinds : List ℕ) (L : Loaded s t near kinds) where
+  module _ (t : ℕ) (more : t < n) (matrix vector : List ℕ) (L : Loaded s t matrix vector) where
     below : t < 120
     below = omega (arith, L .head .few)
 
@@ -219,32 +220,32 @@ module _ (s : List ℕ) where
     in-file = omega (arith, decoded-size s)
 
     -- the row and the column of tide t
-    module _ (far : List ℕ) (e : far ≡ withRow (tideAt s (bitsAt s 15 4) t .row) t near) where
-      row-laid : far ≡ distancesOf (P (t + 1)) near
+    module _ (far : List ℕ) (e : far ≡ withRow (tideAt s (bitsAt s 15 4) t .row) t matrix) where
+      row-laid : far ≡ distancesOf (P (t + 1)) matrix
       row-laid =
-          let σ = stateOf (recordAt t) near kinds in
-          e ∙ ap (λ m. withRow (row t) m near) (sym (row-length t))
-          ∙ entered-distances σ (is-dataset t (omega arith) near kinds L) (tideAt s k t .setting) (row t) (row-length t) below (L .long)
-          ∙ ap (λ (Q : Study). distancesOf Q near) (ap (entered (tideAt s k t .setting) (row t)) (study-is t (omega arith) near kinds L) ∙ next-part t (tideAt s k t .setting) refl)
+          let σ = stateOf (recordAt t) matrix vector in
+          e ∙ ap (λ m. withRow (row t) m matrix) (sym (row-length t))
+          ∙ entered-distances σ (is-dataset t (omega arith) matrix vector L) (tideAt s k t .setting) (row t) (row-length t) below (L .long)
+          ∙ ap (λ (Q : Study). distancesOf Q matrix) (ap (entered (tideAt s k t .setting) (row t)) (study-is t (omega arith) matrix vector L) ∙ next-part t (tideAt s k t .setting) refl)
 
-      distance-laid : (i j : ℕ) → i ≤ t → j ≤ t → at far i j ≡ distance S i j
+      distance-laid : (i j : ℕ) → i ≤ t → j ≤ t → cell far i j ≡ distance S i j
       unfolding distancesOf
       distance-laid i j a b =
           let p : (i * 120 + j) / 120 ≡ i = omega (arith, below) in
           let q : (i * 120 + j) % 120 ≡ j = omega (arith, below) in
-          ap (λ (l : List ℕ). at l i j) row-laid
-          ∙ getD-overwrite (λ p. distance (P (t + 1)) (p / 120) (p % 120)) near 14400 (i * 120 + j) 0 (omega (arith, below))
+          ap (λ (l : List ℕ). cell l i j) row-laid
+          ∙ getD-overwrite (λ p. distance (P (t + 1)) (p / 120) (p % 120)) matrix 14400 (i * 120 + j) 0 (omega (arith, below))
           ∙ ap₂ (distance (P (t + 1))) p q
           ∙ part-distance (t + 1) i j (omega arith) (omega arith) (omega arith)
 
-      pairs-laid : breaking (at far) t (at far t) ≡ broken S t
+      pairs-laid : violations (cell far) t (cell far t) ≡ broken S t
       pairs-laid =
-          breaking-same (at far) (distance S) t (at far t) (distance S t)
+          violations-same (cell far) (distance S) t (cell far t) (distance S t)
           (λ i j a b. distance-laid i j (omega arith) (omega arith)) (λ i a. distance-laid t i (omega arith) (omega arith))
 
-      far-length : length far ≡ length near
+      far-length : length far ≡ length matrix
       unfolding distancesOf
-      far-length = ap length row-laid ∙ length-overwrite (λ p. distance (P (t + 1)) (p / 120) (p % 120)) near 14400 (L .long)
+      far-length = ap length row-laid ∙ length-overwrite (λ p. distance (P (t + 1)) (p / 120) (p % 120)) matrix 14400 (L .long)
 
     -- ---- the ways on
 
@@ -252,26 +253,26 @@ module _ (s : List ℕ) where
       pub turn-five : bitsAt s 15 4 ≤ less → firstOf (readReasons s) ≡ refused (number 5)
       turn-five h = refused-five s t (L .clear) in-file (omega (arith, decoded-setting s t in-file, decoded-k))
 
-      module _ (fits : less < bitsAt s 15 4) (far : List ℕ) (e : far ≡ withRow (tideAt s (bitsAt s 15 4) t .row) t near)
-          (a : Answer) (found : verdictOf a ≡ pairVerdict (breaking (at far) t (at far t))) where
+      module _ (fits : less < bitsAt s 15 4) (far : List ℕ) (e : far ≡ withRow (tideAt s (bitsAt s 15 4) t .row) t matrix)
+          (a : Answer) (found : verdictOf a ≡ violationVerdict (violations (cell far) t (cell far t))) where
         fits-setting : tide S t .setting ≤ S .k
         fits-setting = omega (arith, decoded-setting s t in-file, decoded-k)
 
-        told : verdictOf a ≡ pairVerdict (broken S t)
-        told = found ∙ ap pairVerdict (pairs-laid far e)
+        verdict : verdictOf a ≡ violationVerdict (broken S t)
+        verdict = found ∙ ap violationVerdict (pairs-laid far e)
 
         pub turn-seven : {why : Refusal} → a ≡ Refused why → firstOf (readReasons s) ≡ refused (numbered why)
         turn-seven q =
-            let w = told-pair (broken S t) told q in
+            let w = told-pair (broken S t) verdict q in
             refused-seven s t (L .clear) in-file fits-setting (w .0) ∙ ap refused (w .1)
 
-        pub turn-next : a ≡ Done → Loaded s (t + 1) far (set kinds t (less + 1))
+        pub turn-next : a ≡ Done → Loaded s (t + 1) far (set vector t (less + 1))
         turn-next q =
             record {
               head = L .head;
-              clear = clear-more s t (L .clear) in-file fits-setting (told-none (broken S t) told q);
-              far = distances-own (P (t + 1)) near far (row-laid far e);
-              settings = settings-own (P (t + 1)) kinds (set kinds t (less + 1)) kinds-laid;
+              clear = clear-more s t (L .clear) in-file fits-setting (told-none (broken S t) verdict q);
+              far = distances-own (P (t + 1)) matrix far (row-laid far e);
+              settings = settings-own (P (t + 1)) vector (set vector t (less + 1)) kinds-laid;
               long = omega (arith, far-length far e, L .long);
               enough = simp length-set (L .enough);
             }
@@ -279,43 +280,43 @@ module _ (s : List ℕ) where
             x-is : less + 1 ≡ tideAt s k t .setting
             x-is = ap (λ z. z + 1) read ∙ sym (setting-next t more)
 
-            kinds-laid : set kinds t (less + 1) ≡ settingsOf (P (t + 1)) kinds
+            kinds-laid : set vector t (less + 1) ≡ settingsOf (P (t + 1)) vector
             kinds-laid =
-                let σ = stateOf (recordAt t) near kinds in
-                entered-settings σ (is-dataset t (omega arith) near kinds L) (less + 1) (row t) (row-length t) below (L .enough)
-                ∙ ap (λ (Q : Study). settingsOf Q kinds) (ap (entered (less + 1) (row t)) (study-is t (omega arith) near kinds L) ∙ next-part t (less + 1) x-is)
+                let σ = stateOf (recordAt t) matrix vector in
+                entered-settings σ (is-dataset t (omega arith) matrix vector L) (less + 1) (row t) (row-length t) below (L .enough)
+                ∙ ap (λ (Q : Study). settingsOf Q vector) (ap (entered (less + 1) (row t)) (study-is t (omega arith) matrix vector L) ∙ next-part t (less + 1) x-is)
 
   -- ---- the start and the end
 
-  pub loaded-none : (near kinds : List ℕ) → Head s → firstOf (headReasons s) ≡ accepted → length near ≡ 14400 → length kinds ≡ 120
-      → ((i : ℕ) → getD near i 0 ≡ 0) → ((i : ℕ) → getD kinds i 0 ≡ 0) → Loaded s 0 near kinds
+  pub loaded-none : (matrix vector : List ℕ) → Head s → firstOf (headReasons s) ≡ accepted → length matrix ≡ 14400 → length vector ≡ 120
+      → ((i : ℕ) → getD matrix i 0 ≡ 0) → ((i : ℕ) → getD vector i 0 ≡ 0) → Loaded s 0 matrix vector
   unfolding distancesOf settingsOf
-  loaded-none near kinds h e l m f g =
+  loaded-none matrix vector h e l m f g =
       record {
         head = h;
         clear = clear-none s e;
-        far = sym (overwrite-same (λ p. distance (P 0) (p / 120) (p % 120)) near 14400 0 (omega arith)
+        far = sym (overwrite-same (λ p. distance (P 0) (p / 120) (p % 120)) matrix 14400 0 (omega arith)
             (λ p _. distance-none (P 0) (p / 120) (p % 120) (inl (omega (arith, part-size 0))) ∙ sym (f p)));
-        settings = sym (overwrite-same (λ i. tide (P 0) i .setting) kinds 120 0 (omega arith)
+        settings = sym (overwrite-same (λ i. tide (P 0) i .setting) vector 120 0 (omega arith)
             (λ i _. setting-none (P 0) i (omega (arith, part-size 0)) ∙ sym (g i)));
         long = omega arith;
         enough = omega arith;
       }
 
-  module _ (near kinds : List ℕ) (L : Loaded s n near kinds) where
+  module _ (matrix vector : List ℕ) (L : Loaded s n matrix vector) where
     pub loaded-accepted : firstOf (readReasons s) ≡ accepted
     loaded-accepted = accepted-T s .1 (subst (Clear s) (sym (decoded-size s)) (L .clear))
 
-    pub copied-distances : (d : List ℕ) → overwrite 14400 (λ p. getD near p 0) d ≡ distancesOf (decoded s .study) d
+    pub copied-distances : (d : List ℕ) → overwrite 14400 (λ p. getD matrix p 0) d ≡ distancesOf (decoded s .study) d
     unfolding distancesOf
     copied-distances d =
-        overwrite-ext (λ p. getD near p 0) d 14400 (λ p. distance S (p / 120) (p % 120))
-        (λ p l. ap (λ (m : List ℕ). getD m p 0) (L .far) ∙ getD-overwrite (λ p. distance (P n) (p / 120) (p % 120)) near 14400 p 0 l
+        overwrite-ext (λ p. getD matrix p 0) d 14400 (λ p. distance S (p / 120) (p % 120))
+        (λ p l. ap (λ (m : List ℕ). getD m p 0) (L .far) ∙ getD-overwrite (λ p. distance (P n) (p / 120) (p % 120)) matrix 14400 p 0 l
         ∙ ap (λ (H : Contents). distance (H .study) (p / 120) (p % 120)) (sym part-whole))
 
-    pub copied-settings : (g : List ℕ) → overwrite 120 (λ i. getD kinds i 0) g ≡ settingsOf (decoded s .study) g
+    pub copied-settings : (g : List ℕ) → overwrite 120 (λ i. getD vector i 0) g ≡ settingsOf (decoded s .study) g
     unfolding settingsOf
     copied-settings g =
-        overwrite-ext (λ i. getD kinds i 0) g 120 (λ i. tide S i .setting)
-        (λ i l. ap (λ (m : List ℕ). getD m i 0) (L .settings) ∙ getD-overwrite (λ i. tide (P n) i .setting) kinds 120 i 0 l
+        overwrite-ext (λ i. getD vector i 0) g 120 (λ i. tide S i .setting)
+        (λ i l. ap (λ (m : List ℕ). getD m i 0) (L .settings) ∙ getD-overwrite (λ i. tide (P n) i .setting) vector 120 i 0 l
         ∙ ap (λ (H : Contents). tide (H .study) i .setting) (sym part-whole))

@@ -7,8 +7,9 @@ use mathlib.Core.List.{List, [], _∷_, _++_, map, flatMap, map-append, append-n
 use lib.Dec.{lit≤}
 use lib.ListN.{length, getD, take, drop}
 use lib.Seq.{length-take-le, getD-take}
-use Rattle.lists.specs.Lists.{tabulate, at}
+use Rattle.lists.specs.Lists.{tabulate}
 use Rattle.lists.proofs.Tables.{length-tabulate, getD-tabulate, tabulate-suc, tabulate-is}
+use Rattle.study.specs.Limits.{cell}
 use Rattle.study.specs.declared.Dataset.{Dataset}
 use Rattle.study.specs.Study.{Tide, Contents, noTide}
 use Rattle.file_format.specs.Bits.{Field, field, bitsOf, allBits, pack, packed}
@@ -20,7 +21,7 @@ use Rattle.validity.specs.Memory.{State, tideOf, contentsOf, studyOf}
 use Rattle.study_file.proofs.Lengths.{Sum, length-sum, bitLength-up}
 use Rattle.study_file.specs.Writing.{over, Adds}
 use Rattle.study_file.proofs.WritingLaws.{adds-none, adds-then}
-use Rattle.study_file.specs.Putting.{Writable, Puts, headFields}
+use Rattle.study_file.specs.Putting.{Writable, PutFields, headFields}
 
 module _ (σ : State) (file : List ℕ) (W : Writable σ file) where
   sum : (t : ℕ) → t ≤ 120 → Sum (σ .dataset .k) t
@@ -60,29 +61,29 @@ allBits-append : (fs gs : List Field) → allBits (fs ++ gs) ≡ allBits fs ++ a
 unfolding allBits
 allBits-append fs gs = flatMap-append (λ (f : Field). bitsOf (f .width) (f .value)) fs gs
 
-pub puts-none : (s : List ℕ) (at : ℕ) → Puts s at [] s
+pub puts-none : (s : List ℕ) (at : ℕ) → PutFields s at [] s
 unfolding allBits flatMap
 puts-none s at = adds-none s at
 
-pub puts-one : (s : List ℕ) (at w v : ℕ) {t : List ℕ} → Adds s at (bitsOf w v) t → Puts s at (field w v ∷ []) t
+pub puts-one : (s : List ℕ) (at w v : ℕ) {t : List ℕ} → Adds s at (bitsOf w v) t → PutFields s at (field w v ∷ []) t
 unfolding allBits
 puts-one s at w v {t} a = subst (λ bs. Adds s at bs t) (sym (flatMap-one (λ (f : Field). bitsOf (f .width) (f .value)) (field w v))) a
 
-pub puts-then : (s : List ℕ) (at : ℕ) (fs : List Field) (p : ℕ) (gs : List Field) {t u : List ℕ} → Puts s at fs t → p ≡ at + total fs → Puts t p gs u → Puts s at (fs ++ gs) u
+pub puts-then : (s : List ℕ) (at : ℕ) (fs : List Field) (p : ℕ) (gs : List Field) {t u : List ℕ} → PutFields s at fs t → p ≡ at + total fs → PutFields t p gs u → PutFields s at (fs ++ gs) u
 puts-then s at fs p gs {t} {u} a e b =
     subst (λ bs. Adds s at bs u) (sym (allBits-append fs gs))
     (adds-then s at (allBits fs) t p (allBits gs) u a (e ∙ ap (λ n. at + n) (sym (length-allBits fs))) b)
 
 -- ---- a run of one width: f 0, f 1, ..
 
-pub run-none : (s : List ℕ) (at w : ℕ) (f : ℕ → ℕ) → Puts s at (map (field w) (tabulate 0 f)) s
+pub run-none : (s : List ℕ) (at w : ℕ) (f : ℕ → ℕ) → PutFields s at (map (field w) (tabulate 0 f)) s
 unfolding tabulate
 run-none s at w f = puts-none s at
 
-pub run-more : (s : List ℕ) (at w : ℕ) (f : ℕ → ℕ) (i v : ℕ) {t u : List ℕ} → Puts s at (map (field w) (tabulate i f)) t → v ≡ f i
-    → Puts t (at + w * i) (field w v ∷ []) u → Puts s at (map (field w) (tabulate (i + 1) f)) u
+pub run-more : (s : List ℕ) (at w : ℕ) (f : ℕ → ℕ) (i v : ℕ) {t u : List ℕ} → PutFields s at (map (field w) (tabulate i f)) t → v ≡ f i
+    → PutFields t (at + w * i) (field w v ∷ []) u → PutFields s at (map (field w) (tabulate (i + 1) f)) u
 run-more s at w f i v {t} {u} a e b =
-    subst (λ fs. Puts s at fs u) more (puts-then s at (map (field w) (tabulate i f)) (at + w * i) (field w v ∷ []) a place b)
+    subst (λ fs. PutFields s at fs u) more (puts-then s at (map (field w) (tabulate i f)) (at + w * i) (field w v ∷ []) a place b)
   where
     place : at + w * i ≡ at + total (map (field w) (tabulate i f))
     place = ap (λ x. at + x) (ap (λ x. w * x) (sym (length-tabulate i f)) ∙ sym (values-total w (tabulate i f)))
@@ -93,26 +94,26 @@ run-more s at w f i v {t} {u} a e b =
         ∙ sym (map-append (field w) (tabulate i f) (f i ∷ []))
         ∙ ap (map (field w)) (sym (tabulate-suc i f) ∙ ap (λ n. tabulate n f) (sym (add-one i)))
 
-pub run-done : (s : List ℕ) (at w : ℕ) (f : ℕ → ℕ) (i n : ℕ) {t : List ℕ} → i ≤ n → n ≤ i → Puts s at (map (field w) (tabulate i f)) t → Puts s at (map (field w) (tabulate n f)) t
-run-done s at w f i n {t} l m a = let e : i ≡ n = omega arith in subst (λ k. Puts s at (map (field w) (tabulate k f)) t) e a
+pub run-done : (s : List ℕ) (at w : ℕ) (f : ℕ → ℕ) (i n : ℕ) {t : List ℕ} → i ≤ n → n ≤ i → PutFields s at (map (field w) (tabulate i f)) t → PutFields s at (map (field w) (tabulate n f)) t
+run-done s at w f i n {t} l m a = let e : i ≡ n = omega arith in subst (λ k. PutFields s at (map (field w) (tabulate k f)) t) e a
 
 -- ---- the tides of a dataset
 
 module _ (σ : State) where
   -- a setting and a row
-  pub tide-put : (s : List ℕ) (p t v : ℕ) {u w : List ℕ} → v ≡ getD (σ .settings) t 0 → Puts s p (field 3 (v - 1) ∷ []) u
-      → Puts u (p + 3) (map (field 20) (tabulate t (at (σ .distances) t))) w → Puts s p (tideFields (tideOf σ t)) w
+  pub tide-put : (s : List ℕ) (p t v : ℕ) {u w : List ℕ} → v ≡ getD (σ .settings) t 0 → PutFields s p (field 3 (v - 1) ∷ []) u
+      → PutFields u (p + 3) (map (field 20) (tabulate t (cell (σ .distances) t))) w → PutFields s p (tideFields (tideOf σ t)) w
   unfolding tideFields tideOf
   tide-put s p t v {u} {w} e a b =
-      subst (λ x. Puts s p (field 3 (x - 1) ∷ map (field 20) (tabulate t (at (σ .distances) t))) w) e
-      (puts-then s p (field 3 (v - 1) ∷ []) (p + 3) (map (field 20) (tabulate t (at (σ .distances) t))) a refl b)
+      subst (λ x. PutFields s p (field 3 (x - 1) ∷ map (field 20) (tabulate t (cell (σ .distances) t))) w) e
+      (puts-then s p (field 3 (v - 1) ∷ []) (p + 3) (map (field 20) (tabulate t (cell (σ .distances) t))) a refl b)
 
   abbrev pub upTo : ℕ → List Tide
   upTo t = tabulate t (tideOf σ)
 
   tide-total : (t : ℕ) → total (tideFields (tideOf σ t)) ≡ 3 + 20 * t
   unfolding tideFields tideOf
-  tide-total t = omega (arith, values-total 20 (tabulate t (at (σ .distances) t)), length-tabulate t (at (σ .distances) t))
+  tide-total t = omega (arith, values-total 20 (tabulate t (cell (σ .distances) t)), length-tabulate t (cell (σ .distances) t))
 
   tides-total : (k t : ℕ) → bitLength k t ≡ bitLength k 0 + total (flatMap tideFields (upTo t))
   tides-total k t =
@@ -120,14 +121,14 @@ module _ (σ : State) where
       let h : i < t = omega (arith, length-tabulate t (tideOf σ)) in
       bitLength-suc k i ∙ ap (λ x. bitLength k i + x) (sym (ap (λ y. total (tideFields y)) (getD-tabulate t (tideOf σ) i noTide h) ∙ tide-total i))))
 
-  pub tides-none : (s : List ℕ) (p : ℕ) → Puts s p (flatMap tideFields (tabulate 0 (tideOf σ))) s
+  pub tides-none : (s : List ℕ) (p : ℕ) → PutFields s p (flatMap tideFields (tabulate 0 (tideOf σ))) s
   unfolding tabulate flatMap
   tides-none s p = puts-none s p
 
-  pub tides-more : (s : List ℕ) (k t : ℕ) {p : ℕ} {u w : List ℕ} → Puts s (bitLength k 0) (flatMap tideFields (tabulate t (tideOf σ))) u
-      → p ≡ bitLength k t → Puts u p (tideFields (tideOf σ t)) w → Puts s (bitLength k 0) (flatMap tideFields (tabulate (t + 1) (tideOf σ))) w
+  pub tides-more : (s : List ℕ) (k t : ℕ) {p : ℕ} {u w : List ℕ} → PutFields s (bitLength k 0) (flatMap tideFields (tabulate t (tideOf σ))) u
+      → p ≡ bitLength k t → PutFields u p (tideFields (tideOf σ t)) w → PutFields s (bitLength k 0) (flatMap tideFields (tabulate (t + 1) (tideOf σ))) w
   tides-more s k t {p} {u} {w} a e b =
-      subst (λ fs. Puts s (bitLength k 0) fs w) more (puts-then s (bitLength k 0) (flatMap tideFields (upTo t)) p (tideFields (tideOf σ t)) a (e ∙ tides-total k t) b)
+      subst (λ fs. PutFields s (bitLength k 0) fs w) more (puts-then s (bitLength k 0) (flatMap tideFields (upTo t)) p (tideFields (tideOf σ t)) a (e ∙ tides-total k t) b)
     where
       more : flatMap tideFields (upTo t) ++ tideFields (tideOf σ t) ≡ flatMap tideFields (upTo (t + 1))
       more =
@@ -135,14 +136,14 @@ module _ (σ : State) where
           ∙ sym (flatMap-append tideFields (upTo t) (tideOf σ t ∷ []))
           ∙ ap (flatMap tideFields) (sym (tabulate-suc t (tideOf σ)) ∙ ap (λ n. tabulate n (tideOf σ)) (sym (add-one t)))
 
-  pub tides-done : (s : List ℕ) (p t n : ℕ) {u : List ℕ} → t ≤ n → n ≤ t → Puts s p (flatMap tideFields (tabulate t (tideOf σ))) u → Puts s p (flatMap tideFields (tabulate n (tideOf σ))) u
-  tides-done s p t n {u} l m a = let e : t ≡ n = omega arith in subst (λ k. Puts s p (flatMap tideFields (upTo k)) u) e a
+  pub tides-done : (s : List ℕ) (p t n : ℕ) {u : List ℕ} → t ≤ n → n ≤ t → PutFields s p (flatMap tideFields (tabulate t (tideOf σ))) u → PutFields s p (flatMap tideFields (tabulate n (tideOf σ))) u
+  tides-done s p t n {u} l m a = let e : t ≡ n = omega arith in subst (λ k. PutFields s p (flatMap tideFields (upTo k)) u) e a
 
 -- ---- the whole file
 
-pub head-put : (r : Dataset) (s : List ℕ) {a b c d e : List ℕ} → Puts s 0 (field 8 0x54 ∷ []) a → Puts a 8 (field 7 (r .n) ∷ []) b
-    → Puts b 15 (field 4 (r .k) ∷ []) c → Puts c 19 (field 7 (r .minima .b0) ∷ []) d → Puts d 26 (field 16 (r .withdrawn) ∷ []) e
-    → Puts s 0 (headFields r) e
+pub head-put : (r : Dataset) (s : List ℕ) {a b c d e : List ℕ} → PutFields s 0 (field 8 0x54 ∷ []) a → PutFields a 8 (field 7 (r .n) ∷ []) b
+    → PutFields b 15 (field 4 (r .k) ∷ []) c → PutFields c 19 (field 7 (r .minima .b0) ∷ []) d → PutFields d 26 (field 16 (r .withdrawn) ∷ []) e
+    → PutFields s 0 (headFields r) e
 unfolding headFields
 head-put r s p q u v w =
     puts-then s 0 (field 8 0x54 ∷ field 7 (r .n) ∷ field 4 (r .k) ∷ field 7 (r .minima .b0) ∷ []) 26 (field 16 (r .withdrawn) ∷ [])
@@ -151,12 +152,12 @@ head-put r s p q u v w =
     (puts-then s 0 (field 8 0x54 ∷ []) 8 (field 7 (r .n) ∷ []) p refl q) refl u) refl v) refl w
 
 -- head, minima and tides, one after the other
-pub parts-put : (σ : State) (s : List ℕ) {t u w : List ℕ} → σ .dataset .k ≤ length (σ .dataset .minima .b) → Puts s 0 (headFields (σ .dataset)) t
-    → Puts t 42 (map (field 7) (tabulate (σ .dataset .k) (λ j. getD (σ .dataset .minima .b) j 0))) u
-    → Puts u (bitLength (σ .dataset .k) 0) (flatMap tideFields (tabulate (σ .dataset .n) (tideOf σ))) w → Puts s 0 (fields (contentsOf σ)) w
+pub parts-put : (σ : State) (s : List ℕ) {t u w : List ℕ} → σ .dataset .k ≤ length (σ .dataset .minima .b) → PutFields s 0 (headFields (σ .dataset)) t
+    → PutFields t 42 (map (field 7) (tabulate (σ .dataset .k) (λ j. getD (σ .dataset .minima .b) j 0))) u
+    → PutFields u (bitLength (σ .dataset .k) 0) (flatMap tideFields (tabulate (σ .dataset .n) (tideOf σ))) w → PutFields s 0 (fields (contentsOf σ)) w
 unfolding fields contentsOf studyOf headFields bitLength
 parts-put σ s {t} {u} {w} l a b c =
-    subst (λ fs. Puts s 0 fs w) all
+    subst (λ fs. PutFields s 0 fs w) all
     (puts-then s 0 (headFields r) 42 (small ++ tides) a refl
     (puts-then t 42 small (bitLength (r .k) 0) tides b place c))
   where
@@ -186,6 +187,6 @@ over-none : (s : List ℕ) → s ≡ over s []
 unfolding over packed pack tabulate
 over-none s = refl
 
-pub file-written : (H : Contents) (s : List ℕ) {t : List ℕ} → Puts s 0 (fields H) t → t ≡ fileOf H ++ drop (length (fileOf H)) s
+pub file-written : (H : Contents) (s : List ℕ) {t : List ℕ} → PutFields s 0 (fields H) t → t ≡ fileOf H ++ drop (length (fileOf H)) s
 unfolding fileOf over
 file-written H s a = a .next s [] (record { is = over-none s; place = refl; bits = λ p. lit≤ tt; room = omega arith }) .is

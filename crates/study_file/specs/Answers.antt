@@ -9,7 +9,7 @@ use Rattle.file_format.specs.File.{fileOf, decoded, readReasons}
 use Rattle.validity.specs.Memory.{State, contentsOf, stored}
 use Rattle.dataset.specs.Answers.{freshAnswer, heldAnswer}
 use Rattle.study_file.specs.declared.Written.{Written}
-use Rattle.study_file.specs.declared.Written.the-variants as Outcome
+use Rattle.study_file.specs.declared.Written.the-variants as Writes
 
 -- ---- Read
 
@@ -39,5 +39,5 @@ writeLeaves s bytes =
 
 -- the code's answer, by document 01's number and values
 abbrev pub writtenOf : Written → Reply ℕ
-writtenOf (Outcome.Done n) = value n
-writtenOf (Outcome.Refused r) = refusal (numbered r)
+writtenOf (Writes.Done n) = value n
+writtenOf (Writes.Refused r) = refusal (numbered r)

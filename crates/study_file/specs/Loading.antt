@@ -4,6 +4,7 @@ use mathlib.Core.Path.{_≡_}
 use mathlib.Core.List.{List, [], _∷_}
 use lib.ListN.{length}
 use Rattle.lists.specs.Lists.{tabulate}
+use Rattle.study.specs.Limits.{maxTides, tableSize}
 use Rattle.study.specs.Study.{Contents}
 use Rattle.study.specs.Refusals.{Verdict, accepted, refused, firstOf, numbered}
 use Rattle.file_format.specs.Bits.{bitsAt}
@@ -13,15 +14,15 @@ use Rattle.validity.specs.Memory.{distancesOf, settingsOf}
 use Rattle.study.specs.declared.Refusal.{Refusal}
 use Rattle.study.specs.declared.Answer.{Answer}
 use Rattle.study.specs.declared.Answer.the-variants.{Done, Refused}
-use Rattle.study.specs.Calls.{Pair, firstPair}
+use Rattle.study.specs.Calls.{Pair, firstViolation}
 
 -- mark, number of tides and k have passed
 pub record Begun (s : List ℕ) (k n : ℕ) : Type 0 where
   pub six : 6 ≤ length s
   pub mark : bitsAt s 0 8 ≡ 84
   pub tides : n ≡ bitsAt s 8 7
-  pub few : n ≤ 120
-  pub kinds : k ≡ bitsAt s 15 4
+  pub few : n ≤ maxTides
+  pub k-is : k ≡ bitsAt s 15 4
   pub low : 1 ≤ k
   pub high : k ≤ 8
 
@@ -32,20 +33,20 @@ part s t =
     record { study = record { k = k; minima = minimaAt s k; tides = tabulate t (tideAt s k) }; withdrawals = bitsAt s 26 16 }
 
 -- memory that holds them, where no reason for a refusal was met
-pub record Loaded (s : List ℕ) (t : ℕ) (near kinds : List ℕ) : Type 0 where
+pub record Loaded (s : List ℕ) (t : ℕ) (matrix vector : List ℕ) : Type 0 where
   pub head : Head s
   pub clear : Clear s t
-  pub far : near ≡ distancesOf (part s t .study) near
-  pub settings : kinds ≡ settingsOf (part s t .study) kinds
-  pub long : 14400 ≤ length near
-  pub enough : 120 ≤ length kinds
+  pub far : matrix ≡ distancesOf (part s t .study) matrix
+  pub settings : vector ≡ settingsOf (part s t .study) vector
+  pub long : tableSize ≤ length matrix
+  pub enough : maxTides ≤ length vector
 
 -- an answer on the way: t tides are loaded, or the reading ends with Read's own refusal
-pub record Reading (s : List ℕ) (t : ℕ) (a : Answer) (near kinds : List ℕ) : Type 0 where
-  pub goes : a ≡ Done → Loaded s t near kinds
+pub record Reading (s : List ℕ) (t : ℕ) (a : Answer) (matrix vector : List ℕ) : Type 0 where
+  pub goes : a ≡ Done → Loaded s t matrix vector
   pub stops : (why : Refusal) → a ≡ Refused why → firstOf (readReasons s) ≡ refused (numbered why)
 
--- the answer of a row, by the pairs with which it breaks the three-tide rule
-abbrev pub pairVerdict : List Pair → Verdict
-pairVerdict [] = accepted
-pairVerdict (p ∷ ps) = refused (firstPair (p ∷ ps))
+-- the answer of a row, by the pairs with which it breaks the triangle rule
+abbrev pub violationVerdict : List Pair → Verdict
+violationVerdict [] = accepted
+violationVerdict (p ∷ ps) = refused (firstViolation (p ∷ ps))

@@ -2,7 +2,7 @@
 use Prim.Native.Nat.{ℕ, _*_, _≤_}
 use mathlib.Core.List.{List, [], _∷_}
 use lib.ListN.{length}
-use Rattle.lists.specs.Lists.{at}
+use Rattle.study.specs.Limits.{cell}
 use Rattle.study.specs.declared.Dataset.{Dataset}
 use Rattle.file_format.specs.Bits.{Field, field, allBits}
 use Rattle.file_format.specs.File.{bitLength}
@@ -17,8 +17,8 @@ pub record Writable (σ : State) (file : List ℕ) : Type 0 where
   pub room : bitLength (σ .dataset .k) (σ .dataset .n) ≤ 8 * length file
 
 -- the fields fs, written at a position
-abbrev pub Puts : List ℕ → ℕ → List Field → List ℕ → Type 0
-Puts s at fs s′ = Adds s at (allBits fs) s′
+abbrev pub PutFields : List ℕ → ℕ → List Field → List ℕ → Type 0
+PutFields s at fs s′ = Adds s at (allBits fs) s′
 
 unfoldable pub headFields : Dataset → List Field
 headFields r = field 8 0x54 ∷ field 7 (r .n) ∷ field 4 (r .k) ∷ field 7 (r .minima .b0) ∷ field 16 (r .withdrawn) ∷ []

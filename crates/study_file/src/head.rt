@@ -10,6 +10,7 @@ use study::Dataset;
 use study::Minima;
 use study::Refusal;
 use validity::valid_minima;
+use study::MAX_TIDES;
 ghost use mathlib.Core.Path.{_≡_};
 ghost use Prim.Native.Nat.{_+_, _-_, _*_, _^_, _≤_, _<_};
 ghost use lib.Dec.{eqb};
@@ -92,7 +93,7 @@ pub fn head_answer(file: &[u8]) -> Answer
         return Answer::Refused(Refusal::Mark);
     }
     let n = tides as usize;
-    if 120 < n {
+    if MAX_TIDES < n {
         return Answer::Refused(Refusal::TideCount);
     }
     let k = number(file, 15, 4) as usize;

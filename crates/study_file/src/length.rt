@@ -1,18 +1,19 @@
 // The length of a file.
 ghost use mathlib.Core.Path.{_≡_};
 ghost use Prim.Native.Nat.{_≤_};
+ghost use Rattle.study.specs.Limits.{maxTides};
 ghost use Rattle.file_format.specs.File.{bitLength, byteLength};
 
 // The bits without the fill bits; those of t tides end where tide t begins.
 pub fn bit_length(k: usize, n: usize) -> usize
-    requires { ⌜ (k ≤ 8) × (n ≤ 120) ⌝ }
+    requires { ⌜ (k ≤ 8) × (n ≤ maxTides) ⌝ }
     ensures { λ r. ⌜ (r ≡ bitLength k n) × (r ≤ 143258) ⌝ }
 {
     42 + 7 * k + 10 * (n * n) - 7 * n
 }
 
 pub fn byte_length(k: usize, n: usize) -> usize
-    requires { ⌜ (k ≤ 8) × (n ≤ 120) ⌝ }
+    requires { ⌜ (k ≤ 8) × (n ≤ maxTides) ⌝ }
     ensures { λ r. ⌜ (r ≡ byteLength k n) × (r ≤ 17908) ⌝ }
 {
     (bit_length(k, n) + 7) / 8

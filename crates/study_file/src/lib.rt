@@ -11,6 +11,8 @@ use study::Answer;
 use study::Dataset;
 use study::Outcome;
 use study::Refusal;
+use study::MAX_TIDES;
+use study::TABLE_SIZE;
 
 mod head;
 mod length;
@@ -21,7 +23,7 @@ mod writing;
 ghost use mathlib.Core.Path.{_≡_};
 ghost use lib.ListN.{length};
 ghost use Rattle.validity.specs.Memory.{stateOf};
-ghost use Rattle.dataset.specs.Told.{Passed};
+ghost use Rattle.dataset.specs.Accepted.{Passed};
 ghost use Rattle.study.specs.Refusals.{verdictOf};
 ghost use Rattle.study_file.specs.Answers.{readAnswer, readLeaves, writtenOf, writeReply, writeLeaves};
 
@@ -36,13 +38,13 @@ pub fn read(dataset: Dataset, distances: &mut [u32], settings: &mut [u8], file: 
     ensures answer { λ r. ⌜ verdictOf (r .answer) ≡ readAnswer (stateOf dataset (now (distances .entry)) (now (settings .entry))) (now (file .entry)) ⌝ }
     ensures leaves { λ r. ⌜ stateOf (r .dataset) (now (distances .exit)) (now (settings .exit)) ≡ readLeaves (stateOf dataset (now (distances .entry)) (now (settings .entry))) (now (file .entry)) ⌝ }
 {
-    if distances.len() < 14400 {
+    if distances.len() < TABLE_SIZE {
         return Outcome {
             answer: Answer::Refused(Refusal::ShortMemory),
             dataset,
         };
     }
-    if settings.len() < 120 {
+    if settings.len() < MAX_TIDES {
         return Outcome {
             answer: Answer::Refused(Refusal::ShortMemory),
             dataset,
@@ -56,14 +58,14 @@ pub fn read(dataset: Dataset, distances: &mut [u32], settings: &mut [u8], file: 
         };
     };
     let next = record_of(file);
-    let mut near = [0u32; 14400];
-    let mut kinds = [0u8; 120];
-    let answer = read_tides(file, next.k as usize, next.n, &mut near, &mut kinds);
+    let mut matrix = [0u32; TABLE_SIZE];
+    let mut vector = [0u8; MAX_TIDES];
+    let answer = read_tides(file, next.k as usize, next.n, &mut matrix, &mut vector);
     let Answer::Done = answer else {
         return Outcome { answer, dataset };
     };
-    copy_distances(distances, &near);
-    copy_settings(settings, &kinds);
+    copy_distances(distances, &matrix);
+    copy_settings(settings, &vector);
     Outcome {
         answer,
         dataset: next,

@@ -4,67 +4,69 @@ use bit_reader::Field;
 use bit_reader::read_field;
 use study::Answer;
 use study::Refusal;
-use three_tide::Found;
-use three_tide::first_broken;
+use triangle::Violation;
+use triangle::first_violation;
+use study::MAX_TIDES;
 ghost use mathlib.Core.Path.{_≡_};
 ghost use Prim.Native.Nat.{_+_, _*_, _^_, _≤_, _<_};
 ghost use lib.ListN.{length};
+ghost use Rattle.study.specs.Limits.{maxTides, tableSize};
+ghost use Rattle.study.specs.Limits.{cell};
 ghost use Rattle.study.specs.declared.Answer.the-variants.{Done};
 ghost use Rattle.study.specs.Refusals.{verdictOf};
-ghost use Rattle.study.specs.Calls.{breaking};
+ghost use Rattle.study.specs.Calls.{violations};
 ghost use Rattle.file_format.specs.Bits.{bitsAt};
-ghost use Rattle.lists.specs.Lists.{at};
 ghost use Rattle.storage.specs.Places.{withRow};
-ghost use Rattle.study_file.specs.Loading.{Loaded, Reading, pairVerdict};
+ghost use Rattle.study_file.specs.Loading.{Loaded, Reading, violationVerdict};
 ghost use Rattle.study_file.specs.Rows.{rowAt, RowRead};
 
 // The distances of tide t to the earlier tides, from a position on: into its row and its column.
-fn take_row(file: &[u8], start: usize, near: &mut [u32], t: usize) -> Answer
-    requires { ⌜ (t < 120) × (14400 ≤ length (now near)) ⌝ }
+fn take_row(file: &[u8], start: usize, matrix: &mut [u32], t: usize) -> Answer
+    requires { ⌜ (t < maxTides) × (tableSize ≤ length (now matrix)) ⌝ }
     requires { ⌜ (start + 20 * t ≤ 8 * length (now file)) × (start < 2 ^ 62) ⌝ }
-    ensures { λ r. ⌜ (r ≡ Done) × (now (near .exit) ≡ withRow (rowAt (now (file .entry)) start t) t (now (near .entry))) ⌝ }
+    ensures { λ r. ⌜ (r ≡ Done) × (now (matrix .exit) ≡ withRow (rowAt (now (file .entry)) start t) t (now (matrix .entry))) ⌝ }
 {
     let mut i: usize = 0;
     while i < t {
         let Field::Value(x) = read_field(file, start + 20 * i, 20) else {
             return Answer::Refused(Refusal::FileLength);
         };
-        near[t * 120 + i] = x;
-        near[i * 120 + t] = x;
+        matrix[t * MAX_TIDES + i] = x;
+        matrix[i * MAX_TIDES + t] = x;
         i += 1;
     }
     Answer::Done
 }
 
-// Whether tide t obeys the three-tide rule with every pair before it.
-fn row_answer(near: &[u32], t: usize) -> Answer
-    requires { ⌜ (t < 120) × (14400 ≤ length (now near)) ⌝ }
-    ensures { λ r. ⌜ verdictOf r ≡ pairVerdict (breaking (at (now (near .entry))) t (at (now (near .entry)) t)) ⌝ }
+// Whether tide t obeys the triangle rule with every pair before it.
+fn row_answer(matrix: &[u32], t: usize) -> Answer
+    requires { ⌜ (t < maxTides) × (tableSize ≤ length (now matrix)) ⌝ }
+    ensures { λ r. ⌜ verdictOf r ≡ violationVerdict (violations (cell (now (matrix .entry))) t (cell (now (matrix .entry)) t)) ⌝ }
 {
-    let line = t * 120;
-    let found = first_broken(near, &near[line..line + t]);
+    let line = t * MAX_TIDES;
+    let found = first_violation(matrix, &matrix[line..line + t]);
     match found {
-        Found::Pair(i, j) => Answer::Refused(Refusal::ThreeTideRule(i, j)),
-        Found::Nothing => Answer::Done,
+        Violation::Pair(i, j) => Answer::Refused(Refusal::TriangleInequality(i, j)),
+        Violation::Nothing => Answer::Done,
     }
 }
 
-// Tide t's row: its distances into memory, and the three-tide rule.
-fn read_row(file: &[u8], start: usize, near: &mut [u32], t: usize) -> Answer
-    requires { ⌜ (t < 120) × (14400 ≤ length (now near)) ⌝ }
+// Tide t's row: its distances into memory, and the triangle rule.
+fn read_row(file: &[u8], start: usize, matrix: &mut [u32], t: usize) -> Answer
+    requires { ⌜ (t < maxTides) × (tableSize ≤ length (now matrix)) ⌝ }
     requires { ⌜ (start + 20 * t ≤ 8 * length (now file)) × (start < 2 ^ 62) ⌝ }
-    ensures { λ r. ⌜ RowRead (now (file .entry)) start t (now (near .entry)) (now (near .exit)) r ⌝ }
+    ensures { λ r. ⌜ RowRead (now (file .entry)) start t (now (matrix .entry)) (now (matrix .exit)) r ⌝ }
 {
-    let taken = take_row(file, start, near, t);
+    let taken = take_row(file, start, matrix, t);
     let Answer::Done = taken else {
         return taken;
     };
-    row_answer(near, t)
+    row_answer(matrix, t)
 }
 
-fn read_tide(file: &[u8], k: usize, near: &mut [u32], kinds: &mut [u8], t: usize) -> Answer
-    requires { ⌜ (k ≡ bitsAt (now file) 15 4) × (t < bitsAt (now file) 8 7) × Loaded (now file) t (now near) (now kinds) ⌝ }
-    ensures { λ r. ⌜ Reading (now (file .entry)) (t + 1) r (now (near .exit)) (now (kinds .exit)) ⌝ }
+fn read_tide(file: &[u8], k: usize, matrix: &mut [u32], vector: &mut [u8], t: usize) -> Answer
+    requires { ⌜ (k ≡ bitsAt (now file) 15 4) × (t < bitsAt (now file) 8 7) × Loaded (now file) t (now matrix) (now vector) ⌝ }
+    ensures { λ r. ⌜ Reading (now (file .entry)) (t + 1) r (now (matrix .exit)) (now (vector .exit)) ⌝ }
 {
     let start = bit_length(k, t);
     let Field::Value(less) = read_field(file, start, 3) else {
@@ -73,22 +75,22 @@ fn read_tide(file: &[u8], k: usize, near: &mut [u32], kinds: &mut [u8], t: usize
     if k <= less as usize {
         return Answer::Refused(Refusal::Setting);
     }
-    let answer = read_row(file, start + 3, near, t);
+    let answer = read_row(file, start + 3, matrix, t);
     let Answer::Done = answer else {
         return answer;
     };
-    kinds[t] = (less + 1) as u8;
+    vector[t] = (less + 1) as u8;
     Answer::Done
 }
 
 // All n tides.
-pub fn read_tides(file: &[u8], k: usize, n: usize, near: &mut [u32], kinds: &mut [u8]) -> Answer
-    requires { ⌜ (k ≡ bitsAt (now file) 15 4) × (n ≡ bitsAt (now file) 8 7) × Loaded (now file) 0 (now near) (now kinds) ⌝ }
-    ensures { λ r. ⌜ Reading (now (file .entry)) n r (now (near .exit)) (now (kinds .exit)) ⌝ }
+pub fn read_tides(file: &[u8], k: usize, n: usize, matrix: &mut [u32], vector: &mut [u8]) -> Answer
+    requires { ⌜ (k ≡ bitsAt (now file) 15 4) × (n ≡ bitsAt (now file) 8 7) × Loaded (now file) 0 (now matrix) (now vector) ⌝ }
+    ensures { λ r. ⌜ Reading (now (file .entry)) n r (now (matrix .exit)) (now (vector .exit)) ⌝ }
 {
     let mut t: usize = 0;
     while t < n {
-        let answer = read_tide(file, k, near, kinds, t);
+        let answer = read_tide(file, k, matrix, vector, t);
         let Answer::Done = answer else {
             return answer;
         };

@@ -1,18 +1,21 @@
 // A file is written over the front of the lent bytes, field after field. A byte's first bits clear it, so that zero bits fill the last one.
 use crate::length::bit_length;
 use study::Dataset;
+use study::MAX_TIDES;
 ghost use mathlib.Core.Path.{_≡_};
 ghost use mathlib.Core.Bool.{cond};
 ghost use mathlib.Core.List.{[], _∷_, map, flatMap};
 ghost use Prim.Native.Nat.{ℕ, _+_, _*_, _%_, _^_, _≤_, _<_};
 ghost use lib.Dec.{eqb};
 ghost use lib.ListN.{length, getD};
-ghost use Rattle.lists.specs.Lists.{tabulate, at};
+ghost use Rattle.lists.specs.Lists.{tabulate};
+ghost use Rattle.study.specs.Limits.{maxTides, tableSize};
+ghost use Rattle.study.specs.Limits.{cell};
 ghost use Rattle.file_format.specs.Bits.{field, bitsOf};
 ghost use Rattle.file_format.specs.File.{tideFields, fields, bitLength};
 ghost use Rattle.validity.specs.Memory.{stateOf, tideOf, contentsOf};
 ghost use Rattle.study_file.specs.Writing.{Adds};
-ghost use Rattle.study_file.specs.Putting.{Puts, Writable, headFields};
+ghost use Rattle.study_file.specs.Putting.{PutFields, Writable, headFields};
 
 fn wide(x: u8) -> u32
     ensures { λ r. ⌜ (r ≡ x) × (r < 256) ⌝ }
@@ -60,7 +63,7 @@ fn taken(at: usize, left: usize) -> usize
 fn put_field(file: &mut [u8], at: usize, width: usize, value: u32)
     requires { ⌜ (width ≤ 20) × (at + width ≤ 8 * length (now file)) ⌝ }
     requires { ⌜ at < 2 ^ 63 ⌝ }
-    ensures { λ _. ⌜ Puts (now (file .entry)) at (field width value ∷ []) (now (file .exit)) ⌝ }
+    ensures { λ _. ⌜ PutFields (now (file .entry)) at (field width value ∷ []) (now (file .exit)) ⌝ }
 {
     let mut done: usize = 0;
     while done < width {
@@ -73,8 +76,8 @@ fn put_field(file: &mut [u8], at: usize, width: usize, value: u32)
 }
 
 fn put_head(file: &mut [u8], dataset: Dataset)
-    requires { ⌜ (6 ≤ length (now file)) × (dataset .n ≤ 120) ⌝ }
-    ensures { λ _. ⌜ Puts (now (file .entry)) 0 (headFields dataset) (now (file .exit)) ⌝ }
+    requires { ⌜ (6 ≤ length (now file)) × (dataset .n ≤ maxTides) ⌝ }
+    ensures { λ _. ⌜ PutFields (now (file .entry)) 0 (headFields dataset) (now (file .exit)) ⌝ }
 {
     let minima = dataset.minima;
     put_field(file, 0, 8, 0x54);
@@ -87,7 +90,7 @@ fn put_head(file: &mut [u8], dataset: Dataset)
 // The b's of the settings 1 to k.
 fn put_minima(file: &mut [u8], k: usize, b: [u8; 8])
     requires { ⌜ (k ≤ 8) × (42 + 7 * k ≤ 8 * length (now file)) ⌝ }
-    ensures { λ _. ⌜ Puts (now (file .entry)) 42 (map (field 7) (tabulate k (λ (j : ℕ). getD b j 0))) (now (file .exit)) ⌝ }
+    ensures { λ _. ⌜ PutFields (now (file .entry)) 42 (map (field 7) (tabulate k (λ (j : ℕ). getD b j 0))) (now (file .exit)) ⌝ }
 {
     let mut j: usize = 0;
     while j < k {
@@ -98,13 +101,13 @@ fn put_minima(file: &mut [u8], k: usize, b: [u8; 8])
 
 // The distances of tide t to the tides before it.
 fn put_row(file: &mut [u8], start: usize, distances: &[u32], t: usize)
-    requires { ⌜ (t < 120) × (14400 ≤ length (now distances)) ⌝ }
+    requires { ⌜ (t < maxTides) × (tableSize ≤ length (now distances)) ⌝ }
     requires { ⌜ (start + 20 * t ≤ 8 * length (now file)) × (start < 2 ^ 62) ⌝ }
-    ensures { λ _. ⌜ Puts (now (file .entry)) start (map (field 20) (tabulate t (at (now (distances .entry)) t))) (now (file .exit)) ⌝ }
+    ensures { λ _. ⌜ PutFields (now (file .entry)) start (map (field 20) (tabulate t (cell (now (distances .entry)) t))) (now (file .exit)) ⌝ }
 {
     let mut i: usize = 0;
     while i < t {
-        put_field(file, start + 20 * i, 20, distances[t * 120 + i]);
+        put_field(file, start + 20 * i, 20, distances[t * MAX_TIDES + i]);
         i += 1;
     }
 }
@@ -117,9 +120,9 @@ fn put_tide(
     settings: &[u8],
     t: usize,
 )
-    requires { ⌜ (t < 120) × (14400 ≤ length (now distances)) × (t < length (now settings)) × (1 ≤ getD (now settings) t 0) ⌝ }
+    requires { ⌜ (t < maxTides) × (tableSize ≤ length (now distances)) × (t < length (now settings)) × (1 ≤ getD (now settings) t 0) ⌝ }
     requires { ⌜ (start + (3 + 20 * t) ≤ 8 * length (now file)) × (start < 2 ^ 61) ⌝ }
-    ensures { λ _. ⌜ Puts (now (file .entry)) start (tideFields (tideOf (stateOf dataset (now (distances .entry)) (now (settings .entry))) t)) (now (file .exit)) ⌝ }
+    ensures { λ _. ⌜ PutFields (now (file .entry)) start (tideFields (tideOf (stateOf dataset (now (distances .entry)) (now (settings .entry))) t)) (now (file .exit)) ⌝ }
 {
     put_field(file, start, 3, wide(settings[t]) - 1);
     put_row(file, start + 3, distances, t);
@@ -127,7 +130,7 @@ fn put_tide(
 
 fn put_tides(file: &mut [u8], dataset: Dataset, distances: &[u32], settings: &[u8])
     requires { ⌜ Writable (stateOf dataset (now distances) (now settings)) (now file) ⌝ }
-    ensures { λ _. ⌜ Puts (now (file .entry)) (bitLength (dataset .k) 0) (flatMap tideFields (tabulate (dataset .n) (tideOf (stateOf dataset (now (distances .entry)) (now (settings .entry)))))) (now (file .exit)) ⌝ }
+    ensures { λ _. ⌜ PutFields (now (file .entry)) (bitLength (dataset .k) 0) (flatMap tideFields (tabulate (dataset .n) (tideOf (stateOf dataset (now (distances .entry)) (now (settings .entry)))))) (now (file .exit)) ⌝ }
 {
     let k = dataset.k as usize;
     let n = dataset.n;
@@ -142,7 +145,7 @@ fn put_tides(file: &mut [u8], dataset: Dataset, distances: &[u32], settings: &[u
 // All fields of the file.
 pub fn put_fields(file: &mut [u8], dataset: Dataset, distances: &[u32], settings: &[u8])
     requires { ⌜ Writable (stateOf dataset (now distances) (now settings)) (now file) ⌝ }
-    ensures { λ _. ⌜ Puts (now (file .entry)) 0 (fields (contentsOf (stateOf dataset (now (distances .entry)) (now (settings .entry))))) (now (file .exit)) ⌝ }
+    ensures { λ _. ⌜ PutFields (now (file .entry)) 0 (fields (contentsOf (stateOf dataset (now (distances .entry)) (now (settings .entry))))) (now (file .exit)) ⌝ }
 {
     let k = dataset.k as usize;
     let minima = dataset.minima;

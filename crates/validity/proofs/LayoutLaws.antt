@@ -9,9 +9,10 @@ use mathlib.Core.List.{List}
 use lib.Dec.{T, ltb, ltb→lt, lt→ltb}
 use lib.Arith.{le→nltb}
 use lib.ListN.{length, drop, getD, List·getD-eq-default}
-use Rattle.lists.specs.Lists.{tabulate, at}
+use Rattle.lists.specs.Lists.{tabulate}
 use Rattle.lists.proofs.Tests.{T-true, T-false, split, cond-yes, cond-no}
 use Rattle.lists.proofs.Tables.{tabulate-is, length-overwrite, getD-overwrite, drop-overwrite, overwrite-same}
+use Rattle.study.specs.Limits.{cell}
 use Rattle.study.specs.Study.{Tide, Study, Contents, size, noTide, tide, distance}
 use Rattle.study.specs.Theorems.{ValidContents}
 use Rattle.study.proofs.StudyLaws.{validMinima-T, distance-both-ways, distance-itself}
@@ -49,7 +50,7 @@ module _ (S : Study) where
 -- ---- the places of a layout
 
 module _ (S : Study) (l : List ℕ) where
-  stored-distance : (i j : ℕ) → i < 120 → j < 120 → at (distancesOf S l) i j ≡ distance S i j
+  stored-distance : (i j : ℕ) → i < 120 → j < 120 → cell (distancesOf S l) i j ≡ distance S i j
   unfolding distancesOf
   stored-distance i j a b =
       let e : (i * 120 + j) / 120 ≡ i = omega arith in
@@ -69,10 +70,10 @@ module _ (H : Contents) (ok : ValidContents H) (s : State) where
   in-front : (i : ℕ) → i < size S → i < 120
   in-front i l = omega (arith, ok .study .few)
 
-  far : (i j : ℕ) → i < 120 → j < 120 → at (distancesOf S (s .distances)) i j ≡ distance S i j
+  far : (i j : ℕ) → i < 120 → j < 120 → cell (distancesOf S (s .distances)) i j ≡ distance S i j
   far = stored-distance S (s .distances)
 
-  held : (i j : ℕ) → i < size S → j < size S → at (distancesOf S (s .distances)) i j ≡ distance S i j
+  held : (i j : ℕ) → i < size S → j < size S → cell (distancesOf S (s .distances)) i j ≡ distance S i j
   held i j a b = far i j (in-front i a) (in-front j b)
 
   set : (i : ℕ) → i < size S → getD (settingsOf S (s .settings)) i 0 ≡ tide S i .setting
@@ -89,10 +90,10 @@ module _ (H : Contents) (ok : ValidContents H) (s : State) where
         minima = validMinima-T (S .k) (S .minima) .0 (ok .study .minima);
         setting-low = λ i l. rw (set i l) (ok .study .setting-low i l);
         setting-high = λ i l. rw (set i l) (ok .study .setting-high i l);
-        near = λ i j a b. omega (arith, held i j a b, ok .study .near i j a b);
+        distance-high = λ i j a b. omega (arith, held i j a b, ok .study .distance-high i j a b);
         both-ways = λ i j a b. held i j a b ∙ distance-both-ways S i j ∙ sym (held j i b a);
         itself = λ i a. held i i a a ∙ distance-itself S i;
-        three-tide = λ t u v a b c. omega (arith, held t v a c, held t u a b, held u v b c, ok .study .three-tide t u v a b c);
+        triangle = λ t u v a b c. omega (arith, held t v a c, held t u a b, held u v b c, ok .study .triangle t u v a b c);
         setting-beyond = λ i l m. stored-setting S (s .settings) i m ∙ setting-none S i l;
         beyond = λ i j a b o. far i j a b ∙ distance-none S i j o;
       }
@@ -104,12 +105,12 @@ module _ (H : Contents) (ok : ValidContents H) (s : State) where
   unfolding tideOf stored distance
   stored-tide t l = λ i. record { setting = set t l i; row = rows i }
     where
-      one : (u : ℕ) → u < t → at (distancesOf S (s .distances)) t u ≡ getD (tide S t .row) u 0
+      one : (u : ℕ) → u < t → cell (distancesOf S (s .distances)) t u ≡ getD (tide S t .row) u 0
       one u k =
           held t u l (omega arith) ∙ cond-no (ltb t u) _ _ (le→nltb t u (omega arith)) ∙ cond-yes (ltb u t) _ _ (lt→ltb u t k)
 
-      rows : tabulate t (at (distancesOf S (s .distances)) t) ≡ tide S t .row
-      rows = tabulate-is t (at (distancesOf S (s .distances)) t) 0 (tide S t .row) (ok .study .row-length t l) one
+      rows : tabulate t (cell (distancesOf S (s .distances)) t) ≡ tide S t .row
+      rows = tabulate-is t (cell (distancesOf S (s .distances)) t) 0 (tide S t .row) (ok .study .row-length t l) one
 
   -- reading back what was stored
   pub stored-contents : contentsOf (stored H s) ≡ H
@@ -167,10 +168,10 @@ module _ (H : Contents) (s : State) where
 
 module _ (s : State) (D : IsDataset s) where
   -- the study's distances are those in memory, also beyond the tides held
-  pub memory-distance : (i j : ℕ) → i < 120 → j < 120 → distance (studyOf s) i j ≡ at (s .distances) i j
+  pub memory-distance : (i j : ℕ) → i < 120 → j < 120 → distance (studyOf s) i j ≡ cell (s .distances) i j
   memory-distance i j a b = by (split i (s .dataset .n)) (split j (s .dataset .n))
     where
-      by : (i < s .dataset .n) ⊎ (s .dataset .n ≤ i) → (j < s .dataset .n) ⊎ (s .dataset .n ≤ j) → distance (studyOf s) i j ≡ at (s .distances) i j
+      by : (i < s .dataset .n) ⊎ (s .dataset .n ≤ i) → (j < s .dataset .n) ⊎ (s .dataset .n ≤ j) → distance (studyOf s) i j ≡ cell (s .distances) i j
       by (inl p) (inl q) = study-distance s D i j p q
       by (inl p) (inr q) = distance-none (studyOf s) i j (inr (omega (arith, study-size s))) ∙ sym (D .beyond i j a b (inr q))
       by (inr p) q = distance-none (studyOf s) i j (inl (omega (arith, study-size s))) ∙ sym (D .beyond i j a b (inl p))

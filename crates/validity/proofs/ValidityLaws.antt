@@ -10,21 +10,22 @@ use lib.Dec.{T, leb, ltb, eqb, leb→le, le→leb, ltb→lt, lt→ltb, nltb→le
 use lib.Arith.{le→nltb}
 use borrow.Author.Tests.{le-leb, eq-eqb}
 use lib.ListN.{length, getD}
-use Rattle.lists.specs.Lists.{between, each, every, sumBelow, at}
+use Rattle.lists.specs.Lists.{between, each, every, sumBelow}
 use Rattle.lists.proofs.Tests.{and-T, T-left, T-right, test, between-T, Each, each-at, each-of, cond-yes, cond-no, every-at, every-of, eq→eqb}
 use Rattle.lists.proofs.Tables.{length-tabulate, getD-tabulate}
 use Rattle.lists.proofs.Scans.{and-true, each-fails}
+use Rattle.study.specs.Limits.{cell}
 use Rattle.study.specs.declared.Minima.{Minima}
 use Rattle.study.specs.Study.{Tide, size, noTide, tide, distance, validMinima}
-use Rattle.study.specs.Calls.{breaking}
+use Rattle.study.specs.Calls.{violations}
 use Rattle.study.specs.Theorems.{ValidContents}
 use Rattle.study.proofs.StudyLaws.{validMinima-T, distance-both-ways, distance-itself}
 use Rattle.study.specs.Triangle.{Triangle}
-use Rattle.study.proofs.TriangleLaws.{unbroken, unbroken-of, ordered-rule}
-use Rattle.three_tide.specs.declared.Found.{Found}
-use Rattle.three_tide.specs.declared.Found.the-variants as Search
-use Rattle.three_tide.specs.Pairs.{foundOf}
-use Rattle.three_tide.proofs.PairLaws.{found-nothing, found-pair, rowIn, part-found}
+use Rattle.study.proofs.TriangleLaws.{obeyed, obeyed-of, ordered-triangle}
+use Rattle.triangle.specs.declared.Violation.{Violation}
+use Rattle.triangle.specs.declared.Violation.the-variants as Violations
+use Rattle.triangle.specs.Pairs.{violationOf}
+use Rattle.triangle.proofs.PairLaws.{found-nothing, found-pair, rowIn, part-found}
 use Rattle.validity.specs.Memory.{State, validSetting, validPlace, validRow, isDataset, tideOf, studyOf, contentsOf}
 use Rattle.validity.specs.Validity.{IsDataset}
 
@@ -43,28 +44,28 @@ module _ (s : State) where
   unfolding tideOf
   study-setting t l = ap (λ (x : Tide). x .setting) (study-tide t l)
 
-  study-row : (t u : ℕ) → t < s .dataset .n → u < t → getD (tide (studyOf s) t .row) u 0 ≡ at (s .distances) t u
+  study-row : (t u : ℕ) → t < s .dataset .n → u < t → getD (tide (studyOf s) t .row) u 0 ≡ cell (s .distances) t u
   unfolding tideOf
-  study-row t u l k = ap (λ (x : Tide). getD (x .row) u 0) (study-tide t l) ∙ getD-tabulate t (at (s .distances) t) u 0 k
+  study-row t u l k = ap (λ (x : Tide). getD (x .row) u 0) (study-tide t l) ∙ getD-tabulate t (cell (s .distances) t) u 0 k
 
-  module _ (both-ways : (i j : ℕ) → i < s .dataset .n → j < s .dataset .n → at (s .distances) i j ≡ at (s .distances) j i)
-      (itself : (i : ℕ) → i < s .dataset .n → at (s .distances) i i ≡ 0) where
-    distance-by : (t u : ℕ) → t < s .dataset .n → u < s .dataset .n → distance (studyOf s) t u ≡ at (s .distances) t u
+  module _ (both-ways : (i j : ℕ) → i < s .dataset .n → j < s .dataset .n → cell (s .distances) i j ≡ cell (s .distances) j i)
+      (itself : (i : ℕ) → i < s .dataset .n → cell (s .distances) i i ≡ 0) where
+    distance-by : (t u : ℕ) → t < s .dataset .n → u < s .dataset .n → distance (studyOf s) t u ≡ cell (s .distances) t u
     unfolding distance
     distance-by t u a b =
         ⊎-elim (λ p. cond-yes (ltb t u) _ _ p ∙ study-row u t b (ltb→lt t u p) ∙ both-ways u t b a)
         (λ p. cond-no (ltb t u) _ _ p
         ∙ ⊎-elim (λ q. cond-yes (ltb u t) _ _ q ∙ study-row t u a (ltb→lt u t q))
-        (λ q. cond-no (ltb u t) _ _ q ∙ sym (subst (λ z. at (s .distances) t z ≡ 0) (omega (arith, nltb→le t u p, nltb→le u t q)) (itself t a)))
+        (λ q. cond-no (ltb u t) _ _ q ∙ sym (subst (λ z. cell (s .distances) t z ≡ 0) (omega (arith, nltb→le t u p, nltb→le u t q)) (itself t a)))
         (test (ltb u t)))
         (test (ltb t u))
 
     -- each tide obeys the rule with every pair before it, so any three do
     rule-by : T (every (s .dataset .n) (validRow (s .distances))) → (t u v : ℕ) → t < s .dataset .n → u < s .dataset .n → v < s .dataset .n
-        → at (s .distances) t v ≤ at (s .distances) t u + at (s .distances) u v
+        → cell (s .distances) t v ≤ cell (s .distances) t u + cell (s .distances) u v
     unfolding validRow
     rule-by h t u v a b c =
-        let r = ordered-rule (distance (studyOf s)) (distance-both-ways (studyOf s)) (distance-itself (studyOf s)) (s .dataset .n) triple t u v a b c in
+        let r = ordered-triangle (distance (studyOf s)) (distance-both-ways (studyOf s)) (distance-itself (studyOf s)) (s .dataset .n) triple t u v a b c in
         omega (arith, distance-by t v a c, distance-by t u a b, distance-by u v b c)
       where
         triple : (i j l : ℕ) → i < j → j < l → l < s .dataset .n
@@ -73,7 +74,7 @@ module _ (s : State) where
             let a : i < s .dataset .n = omega arith in
             let b : j < s .dataset .n = omega arith in
             rw (distance-by i j a b, distance-by i l a m, distance-by j l b m, both-ways i l a m, both-ways j l b m)
-            (unbroken (at (s .distances)) l (at (s .distances) l) (every-at (s .dataset .n) (validRow (s .distances)) h l m) i j p q)
+            (obeyed (cell (s .distances)) l (cell (s .distances) l) (every-at (s .dataset .n) (validRow (s .distances)) h l m) i j p q)
 
 -- ---- a test that goes by another
 
@@ -118,8 +119,8 @@ module _ (s : State) where
   abbrev held? : ℕ → ℕ → Bool
   held? i j = ltb i n && ltb j n
 
-  abbrev cell : ℕ → ℕ → List Bool
-  cell i j = leb (at d i j) 1048575 ∷ eqb (at d i j) (at d j i) ∷ cond (eqb i j) (eqb (at d i j) 0) true ∷ []
+  abbrev cellTests : ℕ → ℕ → List Bool
+  cellTests i j = leb (cell d i j) 1048575 ∷ eqb (cell d i j) (cell d j i) ∷ cond (eqb i j) (eqb (cell d i j) 0) true ∷ []
 
   inside : (i j : ℕ) → i < n → j < n → T (held? i j)
   inside i j a b = and-T (ltb i n) (ltb j n) (lt→ltb i n a) (lt→ltb j n b)
@@ -140,11 +141,11 @@ module _ (s : State) where
     place-at i j a b =
         every-at 120 (validPlace (s .dataset) d i) (every-at 120 (λ i. every 120 (validPlace (s .dataset) d i)) (passed .1 .1 .1 .1 .1 .0) i a) j b
 
-    cell-at : (i j : ℕ) → i < n → j < n → Each (cell i j)
+    cell-at : (i j : ℕ) → i < n → j < n → Each (cellTests i j)
     unfolding validPlace
     cell-at i j a b =
-        each-at (cell i j)
-        (from-yes (held? i j) (each (cell i j)) (eqb (at d i j) 0) (inside i j a b) (place-at i j (omega (arith, few)) (omega (arith, few))))
+        each-at (cellTests i j)
+        (from-yes (held? i j) (each (cellTests i j)) (eqb (cell d i j) 0) (inside i j a b) (place-at i j (omega (arith, few)) (omega (arith, few))))
 
     setting-at : (i : ℕ) → i < n → (1 ≤ getD g i 0) × (getD g i 0 ≤ s .dataset .k)
     unfolding validSetting
@@ -153,11 +154,11 @@ module _ (s : State) where
         (from-yes (ltb i n) (between 1 (s .dataset .k) (getD g i 0)) (eqb (getD g i 0) 0) (lt→ltb i n l)
         (every-at 120 (validSetting (s .dataset) g) (passed .1 .1 .1 .1 .0) i (omega (arith, few))))
 
-    same-ways : (i j : ℕ) → i < n → j < n → at d i j ≡ at d j i
-    same-ways i j a b = eqb→eq (at d i j) (at d j i) (cell-at i j a b .1 .0)
+    same-ways : (i j : ℕ) → i < n → j < n → cell d i j ≡ cell d j i
+    same-ways i j a b = eqb→eq (cell d i j) (cell d j i) (cell-at i j a b .1 .0)
 
-    at-itself : (i : ℕ) → i < n → at d i i ≡ 0
-    at-itself i a = eqb→eq (at d i i) 0 (from-yes (eqb i i) (eqb (at d i i) 0) true (eqb-refl i) (cell-at i i a a .1 .1 .0))
+    at-itself : (i : ℕ) → i < n → cell d i i ≡ 0
+    at-itself i a = eqb→eq (cell d i i) 0 (from-yes (eqb i i) (eqb (cell d i i) 0) true (eqb-refl i) (cell-at i i a a .1 .1 .0))
 
     told : IsDataset s
     unfolding validPlace validSetting
@@ -171,16 +172,16 @@ module _ (s : State) where
           minima = validMinima-T (s .dataset .k) (s .dataset .minima) .0 (passed .1 .1 .1 .0);
           setting-low = λ i l. setting-at i l .0;
           setting-high = λ i l. setting-at i l .1;
-          near = λ i j a b. leb→le (at d i j) 1048575 (cell-at i j a b .0);
+          distance-high = λ i j a b. leb→le (cell d i j) 1048575 (cell-at i j a b .0);
           both-ways = same-ways;
           itself = at-itself;
-          three-tide = rule-by s same-ways at-itself (passed .1 .1 .1 .1 .1 .1 .0);
+          triangle = rule-by s same-ways at-itself (passed .1 .1 .1 .1 .1 .1 .0);
           setting-beyond = λ i l m.
               eqb→eq (getD g i 0) 0
               (from-no (ltb i n) (between 1 (s .dataset .k) (getD g i 0)) (eqb (getD g i 0) 0) (le→nltb i n l)
               (every-at 120 (validSetting (s .dataset) g) (passed .1 .1 .1 .1 .0) i m));
           beyond = λ i j a b o.
-              eqb→eq (at d i j) 0 (from-no (held? i j) (each (cell i j)) (eqb (at d i j) 0) (outside i j o) (place-at i j a b));
+              eqb→eq (cell d i j) 0 (from-no (held? i j) (each (cellTests i j)) (eqb (cell d i j) 0) (outside i j o) (place-at i j a b));
         }
 
   module _ (D : IsDataset s) where
@@ -191,14 +192,14 @@ module _ (s : State) where
         (λ h. between-T 1 (s .dataset .k) (getD g i 0) .1 (D .setting-low i (ltb→lt i n h), D .setting-high i (ltb→lt i n h)))
         (λ h. eq→eqb (getD g i 0) 0 (D .setting-beyond i (nltb→le i n h) l))
 
-    cell-of : (i j : ℕ) → i < n → j < n → Each (cell i j)
+    cell-of : (i j : ℕ) → i < n → j < n → Each (cellTests i j)
     cell-of i j a b = (
-      le→leb (at d i j) 1048575 (D .near i j a b),
+      le→leb (cell d i j) 1048575 (D .distance-high i j a b),
       (
-        eq→eqb (at d i j) (at d j i) (D .both-ways i j a b),
+        eq→eqb (cell d i j) (cell d j i) (D .both-ways i j a b),
         (
-          to-cond (eqb i j) (eqb (at d i j) 0) true
-              (λ h. eq→eqb (at d i j) 0 (subst (λ z. at d i z ≡ 0) (eqb→eq i j h) (D .itself i a))) (λ h. tt),
+          to-cond (eqb i j) (eqb (cell d i j) 0) true
+              (λ h. eq→eqb (cell d i j) 0 (subst (λ z. cell d i z ≡ 0) (eqb→eq i j h) (D .itself i a))) (λ h. tt),
           tt,
         ),
       ),
@@ -207,21 +208,21 @@ module _ (s : State) where
     place-of : (i j : ℕ) → i < 120 → j < 120 → T (validPlace (s .dataset) d i j)
     unfolding validPlace
     place-of i j a b =
-        to-cond (held? i j) (each (cell i j)) (eqb (at d i j) 0)
-        (λ h. each-of (cell i j) (cell-of i j (ltb→lt i n (T-left (ltb i n) (ltb j n) h)) (ltb→lt j n (T-right (ltb i n) (ltb j n) h))))
-        (λ h. eq→eqb (at d i j) 0
+        to-cond (held? i j) (each (cellTests i j)) (eqb (cell d i j) 0)
+        (λ h. each-of (cellTests i j) (cell-of i j (ltb→lt i n (T-left (ltb i n) (ltb j n) h)) (ltb→lt j n (T-right (ltb i n) (ltb j n) h))))
+        (λ h. eq→eqb (cell d i j) 0
         (D .beyond i j a b (⊎-elim (λ q. inl (nltb→le i n q)) (λ q. inr (nltb→le j n q)) (not-both (ltb i n) (ltb j n) h))))
 
     row-of : (t : ℕ) → t < n → T (validRow d t)
     unfolding validRow
     row-of t l =
-        unbroken-of (at d) t (at d t) (λ i j a b.
+        obeyed-of (cell d) t (cell d t) (λ i j a b.
         let p : i < n = omega arith in
         let q : j < n = omega arith in
         record {
-          first = omega (arith, D .three-tide i t j p l q, D .both-ways i t p l);
-          second = omega (arith, D .three-tide t j i l q p, D .both-ways j i q p);
-          third = omega (arith, D .three-tide t i j l p q);
+          first = omega (arith, D .triangle i t j p l q, D .both-ways i t p l);
+          second = omega (arith, D .triangle t j i l q p, D .both-ways j i q p);
+          third = omega (arith, D .triangle t i j l p q);
         })
 
     tested : T (isDataset s)
@@ -284,22 +285,22 @@ module _ (k : ℕ) (M : Minima) where
   unfolding validMinima
   zeros-decide a b c = rw (a, eq-eqb (length (M .b)) 8 b, c) (and-true (every 8 (λ j. cond (ltb j k) true (eqb (getD (M .b) j 0) 0))))
 
--- ---- the three-tide rule of a tide, by what the search finds
+-- ---- the triangle rule of a tide, by what the search finds
 
-module _ (d : List ℕ) (t : ℕ) (fits : 14400 ≤ length d) (held : t < 120) {r : Found}
-    (e : r ≡ foundOf (breaking (at d) (length (rowIn d t)) (λ i. getD (rowIn d t) i 0))) where
-  pub row-holds : r ≡ Search.Nothing → true ≡ validRow d t
+module _ (d : List ℕ) (t : ℕ) (fits : 14400 ≤ length d) (held : t < 120) {r : Violation}
+    (e : r ≡ violationOf (violations (cell d) (length (rowIn d t)) (λ i. getD (rowIn d t) i 0))) where
+  pub row-holds : r ≡ Violations.Nothing → true ≡ validRow d t
   unfolding validRow
-  row-holds q = sym (found-nothing (breaking (at d) t (at d t)) (sym (part-found d t fits held e) ∙ q))
+  row-holds q = sym (found-nothing (violations (cell d) t (cell d t)) (sym (part-found d t fits held e) ∙ q))
 
-  pub row-breaks : {i j : ℕ} → r ≡ Search.Pair i j → false ≡ validRow d t
+  pub row-breaks : {i j : ℕ} → r ≡ Violations.Pair i j → false ≡ validRow d t
   unfolding validRow
-  row-breaks {i} {j} q = sym (found-pair (breaking (at d) t (at d t)) i j (sym (part-found d t fits held e) ∙ q) .0)
+  row-breaks {i} {j} q = sym (found-pair (violations (cell d) t (cell d t)) i j (sym (part-found d t fits held e) ∙ q) .0)
 
 -- ---- the contents of a dataset
 
 module _ (s : State) (D : IsDataset s) where
-  pub study-distance : (t u : ℕ) → t < s .dataset .n → u < s .dataset .n → distance (studyOf s) t u ≡ at (s .distances) t u
+  pub study-distance : (t u : ℕ) → t < s .dataset .n → u < s .dataset .n → distance (studyOf s) t u ≡ cell (s .distances) t u
   study-distance = distance-by s (D .both-ways) (D .itself)
 
   held : (t : ℕ) → t < size (studyOf s) → t < s .dataset .n
@@ -316,15 +317,15 @@ module _ (s : State) (D : IsDataset s) where
           minima = validMinima-T (s .dataset .k) (s .dataset .minima) .1 (D .minima);
           setting-low = λ t l. rw (study-setting s t (held t l)) (D .setting-low t (held t l));
           setting-high = λ t l. rw (study-setting s t (held t l)) (D .setting-high t (held t l));
-          row-length = λ t l. ap (λ (x : Tide). length (x .row)) (study-tide s t (held t l)) ∙ length-tabulate t (at (s .distances) t);
-          near = λ t u a b. omega (arith, study-distance t u (held t a) (held u b), D .near t u (held t a) (held u b));
-          three-tide = λ t u v a b c.
+          row-length = λ t l. ap (λ (x : Tide). length (x .row)) (study-tide s t (held t l)) ∙ length-tabulate t (cell (s .distances) t);
+          distance-high = λ t u a b. omega (arith, study-distance t u (held t a) (held u b), D .distance-high t u (held t a) (held u b));
+          triangle = λ t u v a b c.
               omega (
                 arith,
                 study-distance t v (held t a) (held v c),
                 study-distance t u (held t a) (held u b),
                 study-distance u v (held u b) (held v c),
-                D .three-tide t u v (held t a) (held u b) (held v c),
+                D .triangle t u v (held t a) (held u b) (held v c),
               );
         };
         counted = D .counted;

@@ -5,10 +5,11 @@ use mathlib.Core.Bool.{Bool, true, cond, _&&_, _||_}
 use mathlib.Core.List.{List, [], _∷_}
 use lib.Dec.{leb, ltb, eqb}
 use lib.ListN.{length, getD}
-use Rattle.lists.specs.Lists.{at, between, each, every, tabulate, overwrite, isEmpty}
+use Rattle.lists.specs.Lists.{between, each, every, tabulate, overwrite, isEmpty}
+use Rattle.study.specs.Limits.{cell, maxTides, tableSize, maxDistance, maxWithdrawals}
 use Rattle.study.specs.declared.Dataset.{Dataset}
 use Rattle.study.specs.Study.{Tide, Study, Contents, size, tide, distance, validMinima}
-use Rattle.study.specs.Calls.{breaking}
+use Rattle.study.specs.Calls.{violations}
 
 pub record State : Type 0 where
   pub dataset : Dataset
@@ -20,7 +21,7 @@ stateOf r d s = record { dataset = r; distances = d; settings = s }
 
 -- the memory: 14,400 distances in rows of 120, and 120 setting bytes
 unfoldable pub short : State → Bool
-short s = ltb (length (s .distances)) 14400 || ltb (length (s .settings)) 120
+short s = ltb (length (s .distances)) tableSize || ltb (length (s .settings)) maxTides
 
 -- ---- reason 21
 
@@ -32,30 +33,30 @@ validSetting r s i = cond (ltb i (r .n)) (between 1 (r .k) (getD s i 0)) (eqb (g
 unfoldable pub validPlace : Dataset → List ℕ → ℕ → ℕ → Bool
 validPlace r d i j =
     cond (ltb i (r .n) && ltb j (r .n))
-    (each (leb (at d i j) 1048575 ∷ eqb (at d i j) (at d j i) ∷ cond (eqb i j) (eqb (at d i j) 0) true ∷ []))
-    (eqb (at d i j) 0)
+    (each (leb (cell d i j) maxDistance ∷ eqb (cell d i j) (cell d j i) ∷ cond (eqb i j) (eqb (cell d i j) 0) true ∷ []))
+    (eqb (cell d i j) 0)
 
--- a tide obeys the three-tide rule with every pair before it
+-- a tide obeys the triangle rule with every pair before it
 unfoldable pub validRow : List ℕ → ℕ → Bool
-validRow d t = isEmpty (breaking (at d) t (at d t))
+validRow d t = isEmpty (violations (cell d) t (cell d t))
 
 unfoldable pub isDataset : State → Bool
 isDataset s =
     let r = s .dataset in
     each
     (between 1 8 (r .k)
-    ∷ leb (r .n) 120
-    ∷ leb (r .withdrawn) 65535
+    ∷ leb (r .n) maxTides
+    ∷ leb (r .withdrawn) maxWithdrawals
     ∷ validMinima (r .k) (r .minima)
-    ∷ every 120 (validSetting r (s .settings))
-    ∷ every 120 (λ i. every 120 (validPlace r (s .distances) i))
+    ∷ every maxTides (validSetting r (s .settings))
+    ∷ every maxTides (λ i. every maxTides (validPlace r (s .distances) i))
     ∷ every (r .n) (validRow (s .distances))
     ∷ [])
 
 -- ---- the contents of a dataset
 
 unfoldable pub tideOf : State → ℕ → Tide
-tideOf s i = record { setting = getD (s .settings) i 0; row = tabulate i (at (s .distances) i) }
+tideOf s i = record { setting = getD (s .settings) i 0; row = tabulate i (cell (s .distances) i) }
 
 unfoldable pub studyOf : State → Study
 studyOf s = record { k = s .dataset .k; minima = s .dataset .minima; tides = tabulate (s .dataset .n) (tideOf s) }
@@ -69,10 +70,10 @@ unfoldable pub recordOf : Contents → Dataset
 recordOf H = record { k = H .study .k; n = size (H .study); minima = H .study .minima; withdrawn = H .withdrawals }
 
 unfoldable pub distancesOf : Study → List ℕ → List ℕ
-distancesOf S l = overwrite 14400 (λ p. distance S (p / 120) (p % 120)) l
+distancesOf S l = overwrite tableSize (λ p. distance S (p / maxTides) (p % maxTides)) l
 
 unfoldable pub settingsOf : Study → List ℕ → List ℕ
-settingsOf S l = overwrite 120 (λ i. tide S i .setting) l
+settingsOf S l = overwrite maxTides (λ i. tide S i .setting) l
 
 unfoldable pub stored : Contents → State → State
 stored H s =

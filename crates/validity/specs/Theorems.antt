@@ -4,6 +4,7 @@ use mathlib.Core.Logic.{_↔_}
 use mathlib.Core.Bool.{false}
 use lib.Dec.{T}
 use lib.ListN.{drop}
+use Rattle.study.specs.Limits.{maxTides, tableSize}
 use Rattle.study.specs.Study.{Contents}
 use Rattle.study.specs.Theorems.{ValidContents}
 use Rattle.validity.specs.Memory.{State, short, isDataset, contentsOf, stored}
@@ -20,5 +21,5 @@ pub record ForDatasets : Type 0 where
   pub read-back : (H : Contents) (s : State) → ValidContents H → contentsOf (stored H s) ≡ H
   -- it keeps the length of the memory, and what stands past the 14,400 and the 120 places
   pub as-long : (H : Contents) (s : State) → short s ≡ false → short (stored H s) ≡ short s
-  pub excess-distances : (H : Contents) (s : State) → drop 14400 (stored H s .distances) ≡ drop 14400 (s .distances)
-  pub excess-settings : (H : Contents) (s : State) → drop 120 (stored H s .settings) ≡ drop 120 (s .settings)
+  pub excess-distances : (H : Contents) (s : State) → drop tableSize (stored H s .distances) ≡ drop tableSize (s .distances)
+  pub excess-settings : (H : Contents) (s : State) → drop maxTides (stored H s .settings) ≡ drop maxTides (s .settings)

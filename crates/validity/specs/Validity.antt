@@ -4,34 +4,34 @@ use Prim.Native.Nat.{ℕ, _+_, _≤_, _<_}
 use mathlib.Core.Path.{_≡_}
 use mathlib.Core.Logic.{_⊎_}
 use lib.ListN.{length, getD}
-use Rattle.lists.specs.Lists.{at}
+use Rattle.study.specs.Limits.{cell, maxTides, tableSize, maxDistance, maxWithdrawals}
 use Rattle.validity.specs.Memory.{State}
 use Rattle.study.specs.Minima.{MinimaFit}
 
 -- document 01 on what a book is, of a record and its memory; tides are numbered from 0
 pub record IsDataset (s : State) : Type 0 where
   -- it holds 0 to 120 tides; k is 1 to 8; it counts withdrawals, 0 to 65,535
-  pub few : s .dataset .n ≤ 120
+  pub few : s .dataset .n ≤ maxTides
   pub k-low : 1 ≤ s .dataset .k
   pub k-high : s .dataset .k ≤ 8
-  pub counted : s .dataset .withdrawn ≤ 65535
+  pub counted : s .dataset .withdrawn ≤ maxWithdrawals
   -- b0 is 1 to 120; there are 8 b's, together at most b0, those above k are 0
   pub minima : MinimaFit (s .dataset .k) (s .dataset .minima)
   -- each tide has a setting from 1 to k
   pub setting-low : (i : ℕ) → i < s .dataset .n → 1 ≤ getD (s .settings) i 0
   pub setting-high : (i : ℕ) → i < s .dataset .n → getD (s .settings) i 0 ≤ s .dataset .k
   -- two tides have a distance from 0 to 1,048,575, the same both ways; a tide is at 0 from itself
-  pub near : (i j : ℕ) → i < s .dataset .n → j < s .dataset .n → at (s .distances) i j ≤ 1048575
-  pub both-ways : (i j : ℕ) → i < s .dataset .n → j < s .dataset .n → at (s .distances) i j ≡ at (s .distances) j i
-  pub itself : (i : ℕ) → i < s .dataset .n → at (s .distances) i i ≡ 0
+  pub distance-high : (i j : ℕ) → i < s .dataset .n → j < s .dataset .n → cell (s .distances) i j ≤ maxDistance
+  pub both-ways : (i j : ℕ) → i < s .dataset .n → j < s .dataset .n → cell (s .distances) i j ≡ cell (s .distances) j i
+  pub itself : (i : ℕ) → i < s .dataset .n → cell (s .distances) i i ≡ 0
   -- for any three tides, no distance exceeds the sum of the other two
-  pub three-tide : (t u v : ℕ) → t < s .dataset .n → u < s .dataset .n → v < s .dataset .n
-      → at (s .distances) t v ≤ at (s .distances) t u + at (s .distances) u v
+  pub triangle : (t u v : ℕ) → t < s .dataset .n → u < s .dataset .n → v < s .dataset .n
+      → cell (s .distances) t v ≤ cell (s .distances) t u + cell (s .distances) u v
   -- everything beyond the tides held is zero, in rows of 120
-  pub setting-beyond : (i : ℕ) → s .dataset .n ≤ i → i < 120 → getD (s .settings) i 0 ≡ 0
-  pub beyond : (i j : ℕ) → i < 120 → j < 120 → (s .dataset .n ≤ i) ⊎ (s .dataset .n ≤ j) → at (s .distances) i j ≡ 0
+  pub setting-beyond : (i : ℕ) → s .dataset .n ≤ i → i < maxTides → getD (s .settings) i 0 ≡ 0
+  pub beyond : (i j : ℕ) → i < maxTides → j < maxTides → (s .dataset .n ≤ i) ⊎ (s .dataset .n ≤ j) → cell (s .distances) i j ≡ 0
 
 -- long enough for 14,400 distances and 120 settings
 pub record Long (s : State) : Type 0 where
-  pub distances : 14400 ≤ length (s .distances)
-  pub settings : 120 ≤ length (s .settings)
+  pub distances : tableSize ≤ length (s .distances)
+  pub settings : maxTides ≤ length (s .settings)

@@ -2,13 +2,18 @@
 // A dataset (document 01: book) is a record and lent memory: 14,400 distances in rows of 120, and 120 setting bytes.
 use study::Dataset;
 use study::Minima;
-use three_tide::Found;
+use study::MAX_K;
+use study::MAX_BLOCK_MINIMUM;
+use triangle::Violation;
+use study::MAX_TIDES;
+use study::MAX_DISTANCE;
 ghost use mathlib.Core.Path.{_≡_};
 ghost use mathlib.Core.Bool.{true, cond};
 ghost use Prim.Native.Nat.{_≤_, _<_};
 ghost use lib.Dec.{leb, ltb, eqb};
 ghost use lib.ListN.{length, getD};
 ghost use Rattle.lists.specs.Lists.{every, sumBelow};
+ghost use Rattle.study.specs.Limits.{maxTides, tableSize, maxDistance};
 ghost use Rattle.study.specs.Study.{validMinima};
 ghost use Rattle.validity.specs.Memory.{stateOf, validSetting, validPlace, validRow, isDataset};
 
@@ -35,11 +40,11 @@ fn valid_setting(dataset: Dataset, settings: &[u8], i: usize) -> bool
 }
 
 fn valid_settings(dataset: Dataset, settings: &[u8]) -> bool
-    requires { ⌜ 120 ≤ length (now settings) ⌝ }
-    ensures { λ r. ⌜ r ≡ every 120 (validSetting dataset (now (settings .entry))) ⌝ }
+    requires { ⌜ maxTides ≤ length (now settings) ⌝ }
+    ensures { λ r. ⌜ r ≡ every maxTides (validSetting dataset (now (settings .entry))) ⌝ }
 {
     let mut i: usize = 0;
-    while i < 120 {
+    while i < MAX_TIDES {
         if !valid_setting(dataset, settings, i) {
             return false;
         }
@@ -49,22 +54,22 @@ fn valid_settings(dataset: Dataset, settings: &[u8]) -> bool
 }
 
 fn valid_place(dataset: Dataset, distances: &[u32], i: usize, j: usize) -> bool
-    requires { ⌜ 14400 ≤ length (now distances) ⌝ }
-    requires { ⌜ (i < 120) × (j < 120) ⌝ }
+    requires { ⌜ tableSize ≤ length (now distances) ⌝ }
+    requires { ⌜ (i < maxTides) × (j < maxTides) ⌝ }
     ensures { λ r. ⌜ r ≡ validPlace dataset (now (distances .entry)) i j ⌝ }
 {
     let n = dataset.n;
-    let x = distances[i * 120 + j];
+    let x = distances[i * MAX_TIDES + j];
     if n <= i {
         return x == 0;
     }
     if n <= j {
         return x == 0;
     }
-    if 1048575 < x {
+    if MAX_DISTANCE < x {
         return false;
     }
-    if x != distances[j * 120 + i] {
+    if x != distances[j * MAX_TIDES + i] {
         return false;
     }
     if i == j {
@@ -75,12 +80,12 @@ fn valid_place(dataset: Dataset, distances: &[u32], i: usize, j: usize) -> bool
 
 // Row i of the memory.
 fn valid_places(dataset: Dataset, distances: &[u32], i: usize) -> bool
-    requires { ⌜ 14400 ≤ length (now distances) ⌝ }
-    requires { ⌜ i < 120 ⌝ }
-    ensures { λ r. ⌜ r ≡ every 120 (validPlace dataset (now (distances .entry)) i) ⌝ }
+    requires { ⌜ tableSize ≤ length (now distances) ⌝ }
+    requires { ⌜ i < maxTides ⌝ }
+    ensures { λ r. ⌜ r ≡ every maxTides (validPlace dataset (now (distances .entry)) i) ⌝ }
 {
     let mut j: usize = 0;
-    while j < 120 {
+    while j < MAX_TIDES {
         if !valid_place(dataset, distances, i, j) {
             return false;
         }
@@ -90,11 +95,11 @@ fn valid_places(dataset: Dataset, distances: &[u32], i: usize) -> bool
 }
 
 fn valid_distances(dataset: Dataset, distances: &[u32]) -> bool
-    requires { ⌜ 14400 ≤ length (now distances) ⌝ }
-    ensures { λ r. ⌜ r ≡ every 120 (λ i. every 120 (validPlace dataset (now (distances .entry)) i)) ⌝ }
+    requires { ⌜ tableSize ≤ length (now distances) ⌝ }
+    ensures { λ r. ⌜ r ≡ every maxTides (λ i. every maxTides (validPlace dataset (now (distances .entry)) i)) ⌝ }
 {
     let mut i: usize = 0;
-    while i < 120 {
+    while i < MAX_TIDES {
         if !valid_places(dataset, distances, i) {
             return false;
         }
@@ -103,24 +108,24 @@ fn valid_distances(dataset: Dataset, distances: &[u32]) -> bool
     true
 }
 
-// Whether tide t obeys the three-tide rule with every pair before it: its row in memory is searched as Enter searches a new one.
+// Whether tide t obeys the triangle rule with every pair before it: its row in memory is searched as Enter searches a new one.
 fn valid_row(distances: &[u32], t: usize) -> bool
-    requires { ⌜ 14400 ≤ length (now distances) ⌝ }
-    requires { ⌜ t < 120 ⌝ }
+    requires { ⌜ tableSize ≤ length (now distances) ⌝ }
+    requires { ⌜ t < maxTides ⌝ }
     ensures { λ r. ⌜ r ≡ validRow (now (distances .entry)) t ⌝ }
 {
-    let from = t * 120;
+    let from = t * MAX_TIDES;
     let to = from + t;
-    let found = three_tide::first_broken(distances, &distances[from..to]);
+    let found = triangle::first_violation(distances, &distances[from..to]);
     match found {
-        Found::Pair(_, _) => false,
-        Found::Nothing => true,
+        Violation::Pair(_, _) => false,
+        Violation::Nothing => true,
     }
 }
 
 fn valid_rows(distances: &[u32], n: usize) -> bool
-    requires { ⌜ 14400 ≤ length (now distances) ⌝ }
-    requires { ⌜ n ≤ 120 ⌝ }
+    requires { ⌜ tableSize ≤ length (now distances) ⌝ }
+    requires { ⌜ n ≤ maxTides ⌝ }
     ensures { λ r. ⌜ r ≡ every n (validRow (now (distances .entry))) ⌝ }
 {
     let mut t: usize = 0;
@@ -160,7 +165,7 @@ fn zeros_above(b: [u8; 8], k: u8) -> bool
 }
 
 // The b's together, with room for all of them.
-fn together(b: [u8; 8]) -> usize
+fn sum_minima(b: [u8; 8]) -> usize
     ensures { λ r. ⌜ r ≡ sumBelow 8 (λ j. getD b j 0) ⌝ }
 {
     let mut total: usize = 0;
@@ -181,30 +186,30 @@ pub fn valid_minima(minima: Minima, k: u8) -> bool
     if b0 < 1 {
         return false;
     }
-    if 120 < b0 {
+    if MAX_BLOCK_MINIMUM < b0 {
         return false;
     }
-    if byte(b0) < together(b) {
+    if byte(b0) < sum_minima(b) {
         return false;
     }
     zeros_above(b, k)
 }
 
-fn is_near(row: &[u32], i: usize) -> bool
+fn in_range(row: &[u32], i: usize) -> bool
     requires { ⌜ i < length (now row) ⌝ }
-    ensures { λ r. ⌜ r ≡ leb (getD (now (row .entry)) i 0) 1048575 ⌝ }
+    ensures { λ r. ⌜ r ≡ leb (getD (now (row .entry)) i 0) maxDistance ⌝ }
 {
-    row[i] <= 1048575
+    row[i] <= MAX_DISTANCE
 }
 
 // Whether every distance of a row is at most 1,048,575.
-pub fn near(row: &[u32]) -> bool
-    ensures { λ r. ⌜ r ≡ every (length (now (row .entry))) (λ i. leb (getD (now (row .entry)) i 0) 1048575) ⌝ }
+pub fn row_in_range(row: &[u32]) -> bool
+    ensures { λ r. ⌜ r ≡ every (length (now (row .entry))) (λ i. leb (getD (now (row .entry)) i 0) maxDistance) ⌝ }
 {
     let n = row.len();
     let mut i: usize = 0;
     while i < n {
-        if !is_near(row, i) {
+        if !in_range(row, i) {
             return false;
         }
         i += 1;
@@ -214,19 +219,19 @@ pub fn near(row: &[u32]) -> bool
 
 // Of memory that is not short.
 pub fn is_dataset(dataset: Dataset, distances: &[u32], settings: &[u8]) -> bool
-    requires { ⌜ 14400 ≤ length (now distances) ⌝ }
-    requires { ⌜ 120 ≤ length (now settings) ⌝ }
+    requires { ⌜ tableSize ≤ length (now distances) ⌝ }
+    requires { ⌜ maxTides ≤ length (now settings) ⌝ }
     ensures { λ r. ⌜ r ≡ isDataset (stateOf dataset (now (distances .entry)) (now (settings .entry))) ⌝ }
 {
     let k = dataset.k;
     if k < 1 {
         return false;
     }
-    if 8 < k {
+    if MAX_K < k {
         return false;
     }
     let n = dataset.n;
-    if 120 < n {
+    if MAX_TIDES < n {
         return false;
     }
     let minima = dataset.minima;

@@ -1,14 +1,14 @@
 -- A record that is too short, or what the call leaves. Assumes nothing.
 use borrow.Author.Needs.{needs}
 use Rattle.c_api.specs.Api.{openVerdict, openLeft}
-use Rattle.c_api.proofs.CallLaws.{lacks-yes, storable, open-sound, left-scant, open-left}
+use Rattle.c_api.proofs.CallLaws.{lacks-yes, storable, open-sound, left-tooShort, open-left}
 use Rattle.dataset.specs.Answers.{openLeaves}
 use Rattle.c_api.proofs.tides_open.Statement.{statement}
 use Rattle.c_api.proofs.tides_open.Tie as tie
 
 returns : tie.Need-returns
 unfolding openVerdict openLeft
-returns c = left-scant _ _ _ (lacks-yes 12 _ (c .if1 .taken))
+returns c = left-tooShort _ _ _ (lacks-yes 12 _ (c .if1 .taken))
 
 settle-requires : tie.Need-settle-requires
 unfolding openLeaves

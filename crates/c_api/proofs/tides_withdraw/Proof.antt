@@ -1,14 +1,14 @@
 -- A record that is too short, or what the call leaves. Assumes nothing.
 use borrow.Author.Needs.{needs}
 use Rattle.c_api.specs.Api.{withdrawVerdict, withdrawLeft}
-use Rattle.c_api.proofs.CallLaws.{lacks-yes, storable, withdraw-sound, left-scant, withdraw-left}
+use Rattle.c_api.proofs.CallLaws.{lacks-yes, storable, withdraw-sound, left-tooShort, withdraw-left}
 use Rattle.dataset.specs.Answers.{withdrawLeaves}
 use Rattle.c_api.proofs.tides_withdraw.Statement.{statement}
 use Rattle.c_api.proofs.tides_withdraw.Tie as tie
 
 returns : tie.Need-returns
 unfolding withdrawVerdict withdrawLeft
-returns c = left-scant _ _ _ (lacks-yes 12 _ (c .if1 .taken))
+returns c = left-tooShort _ _ _ (lacks-yes 12 _ (c .if1 .taken))
 
 settle-requires : tie.Need-settle-requires
 unfolding withdrawLeaves

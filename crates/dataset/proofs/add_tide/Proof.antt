@@ -1,7 +1,7 @@
 -- `add_tide` meets its contract: what it writes lays out the study with one tide more. Assumes nothing.
 use mathlib.Core.Path.{refl}
 use borrow.Author.Needs.{needs}
-use Rattle.dataset.proofs.Ways.{entered-state}
+use Rattle.dataset.proofs.AnswerLaws.{entered-state}
 use Rattle.dataset.proofs.add_tide.Statement.{statement}
 use Rattle.dataset.proofs.add_tide.Tie as tie
 

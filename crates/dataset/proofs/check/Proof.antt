@@ -3,7 +3,7 @@ use mathlib.Core.Logic.{inl, inr}
 use mathlib.Core.Path.{sym, _∙_}
 use borrow.Author.Needs.{needs}
 use Rattle.study.specs.Refusals.{firstOf}
-use Rattle.dataset.proofs.Ways.{held-1, held-21, held-own}
+use Rattle.dataset.proofs.AnswerLaws.{held-1, held-21, held-own}
 use Rattle.validity.proofs.LayoutLaws.{short-yes, short-no}
 use Rattle.dataset.proofs.check.Statement.{statement}
 use Rattle.dataset.proofs.check.Tie as tie

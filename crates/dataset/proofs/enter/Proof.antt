@@ -1,6 +1,6 @@
 -- `enter` meets its contract: a refused call leaves everything, an accepted one what `add_tide` ensures. Assumes nothing.
 use borrow.Author.Needs.{needs}
-use Rattle.dataset.proofs.Ways.{held-refused, passed, enter-stays, enter-told}
+use Rattle.dataset.proofs.AnswerLaws.{held-refused, passed, enter-stays, enter-accepted}
 use Rattle.dataset.specs.Answers.{enterAnswer}
 use Rattle.dataset.proofs.enter.Statement.{statement}
 use Rattle.dataset.proofs.enter.Tie as tie
@@ -18,7 +18,7 @@ returns-2 : tie.Need-returns-2
 returns-2 c = (c .before .before .enter-answer .ensures, enter-stays _ (c .enum-told4 .given .1) _ _ (c .before .before .enter-answer .ensures))
 
 add-tide-requires : tie.Need-add-tide-requires
-add-tide-requires c κs = enter-told _ _ _ (c .before .before .enum-told3 .given .1) (c .before .before .before .before .enter-answer .ensures)
+add-tide-requires c κs = enter-accepted _ _ _ (c .before .before .enum-told3 .given .1) (c .before .before .before .before .enter-answer .ensures)
 
 returns-3 : tie.Need-returns-3
 returns-3 c = let e = c .before .before .before .before in (e .before .before .before .before .before .enter-answer .ensures, e .add-tide .ensures)

@@ -1,7 +1,7 @@
 -- `enter_answer` meets its contract: one law of Ways for each way out. Assumes nothing.
 use native.Mathlib.Omega.{arith}
 use borrow.Author.Needs.{needs}
-use Rattle.dataset.proofs.Ways.{enter-22, enter-4, enter-5, enter-6, enter-7, enter-done}
+use Rattle.dataset.proofs.AnswerLaws.{enter-22, enter-4, enter-5, enter-6, enter-7, enter-done}
 use Rattle.lists.proofs.Scans.{between-in, between-low, between-high, test-passes, test-fails}
 use Rattle.dataset.proofs.enter_answer.Statement.{statement}
 use Rattle.dataset.proofs.enter_answer.Tie as tie
@@ -27,24 +27,24 @@ returns-5 c =
     let k = c .before .before in
     let e = k .before .before .before in
     enter-6 _ _ _ (e .before .before .before .before .pre) (e .if1 .left) (k .before .before .if2 .left) (between-in 1 _ _ (k .before .if3 .left) (k .if4 .left))
-    (test-fails (c .before .near .ensures) (c .if5 .taken))
+    (test-fails (c .before .row-in-range .ensures) (c .if5 .taken))
 
-first-broken-requires : tie.Need-first-broken-requires
-first-broken-requires c κs = (c .before .before .before .before .before .before .before .before .before .pre .long .distances, omega arith)
+first-violation-requires : tie.Need-first-violation-requires
+first-violation-requires c κs = (c .before .before .before .before .before .before .before .before .before .pre .long .distances, omega arith)
 
 returns-6 : tie.Need-returns-6
 returns-6 c =
     let k = c .before .before .before .before .before .before in
     let e = k .before .before .before in
     enter-7 _ _ _ (e .before .before .before .before .pre) (e .if1 .left) (k .before .before .if2 .left) (between-in 1 _ _ (k .before .if3 .left) (k .if4 .left))
-    (test-passes (c .before .before .before .before .before .near .ensures) (c .before .before .before .before .if5 .left)) (c .before .before .before .first-broken .ensures) _ _ (c .before .found .given .1)
+    (test-passes (c .before .before .before .before .before .row-in-range .ensures) (c .before .before .before .before .if5 .left)) (c .before .before .before .first-violation .ensures) _ _ (c .before .found .given .1)
 
 returns-7 : tie.Need-returns-7
 returns-7 c =
     let k = c .before .before .before .before .before in
     let e = k .before .before .before in
     enter-done _ _ _ (e .before .before .before .before .pre) (e .if1 .left) (k .before .before .if2 .left) (between-in 1 _ _ (k .before .if3 .left) (k .if4 .left))
-    (test-passes (c .before .before .before .before .near .ensures) (c .before .before .before .if5 .left)) (c .before .before .first-broken .ensures) (c .enum-told .given .1)
+    (test-passes (c .before .before .before .before .row-in-range .ensures) (c .before .before .before .if5 .left)) (c .before .before .first-violation .ensures) (c .enum-told .given .1)
 
 pub enter-answer-spec : {M : Type 1} → statement M
 enter-answer-spec =
@@ -56,7 +56,7 @@ enter-answer-spec =
     returns-4
     (λ c κs. search needs)
     returns-5
-    first-broken-requires
+    first-violation-requires
     (λ c. search needs)
     (λ c. search needs)
     returns-6

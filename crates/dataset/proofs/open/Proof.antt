@@ -1,7 +1,7 @@
 -- `open` meets its contract: one law of Ways for each way out. Assumes nothing.
 use mathlib.Core.Logic.{inl, inr}
 use borrow.Author.Needs.{needs}
-use Rattle.dataset.proofs.Ways.{open-1, open-2, opened-state}
+use Rattle.dataset.proofs.AnswerLaws.{open-1, open-2, opened-state}
 use Rattle.lists.proofs.Scans.{between-in, between-low, between-high}
 use Rattle.validity.proofs.LayoutLaws.{short-yes, short-no}
 use Rattle.dataset.proofs.open.Statement.{statement}

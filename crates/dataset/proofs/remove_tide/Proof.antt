@@ -1,6 +1,6 @@
 -- `remove_tide` meets its contract: what it writes lays out the study with one tide fewer. Assumes nothing.
 use borrow.Author.Needs.{needs}
-use Rattle.dataset.proofs.Ways.{withdrawn-state}
+use Rattle.dataset.proofs.AnswerLaws.{withdrawn-state}
 use Rattle.dataset.proofs.remove_tide.Statement.{statement}
 use Rattle.dataset.proofs.remove_tide.Tie as tie
 

@@ -2,7 +2,7 @@
 use mathlib.Core.Path.{ap, _∙_}
 use borrow.Author.Needs.{needs}
 use Rattle.study.specs.Refusals.{verdictOf}
-use Rattle.dataset.proofs.Ways.{held-refused, passed, minima-stays, minima-3, minima-done}
+use Rattle.dataset.proofs.AnswerLaws.{held-refused, passed, minima-stays, minima-3, minima-done}
 use Rattle.dataset.specs.Answers.{minimaAnswer}
 use Rattle.lists.proofs.Scans.{test-passes, test-fails}
 use Rattle.dataset.proofs.set_minima.Statement.{statement}

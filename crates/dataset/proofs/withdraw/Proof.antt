@@ -1,6 +1,6 @@
 -- `withdraw` meets its contract: a refused call leaves everything, an accepted one what `remove_tide` ensures. Assumes nothing.
 use borrow.Author.Needs.{needs}
-use Rattle.dataset.proofs.Ways.{held-refused, passed, withdraw-stays, withdraw-told}
+use Rattle.dataset.proofs.AnswerLaws.{held-refused, passed, withdraw-stays, withdraw-accepted}
 use Rattle.dataset.specs.Answers.{withdrawAnswer}
 use Rattle.dataset.proofs.withdraw.Statement.{statement}
 use Rattle.dataset.proofs.withdraw.Tie as tie
@@ -18,7 +18,7 @@ returns-2 : tie.Need-returns-2
 returns-2 c = (c .before .before .withdraw-answer .ensures, withdraw-stays _ (c .enum-told4 .given .1) _ (c .before .before .withdraw-answer .ensures))
 
 remove-tide-requires : tie.Need-remove-tide-requires
-remove-tide-requires c κs = withdraw-told _ _ (c .before .before .enum-told3 .given .1) (c .before .before .before .before .withdraw-answer .ensures)
+remove-tide-requires c κs = withdraw-accepted _ _ (c .before .before .enum-told3 .given .1) (c .before .before .before .before .withdraw-answer .ensures)
 
 returns-3 : tie.Need-returns-3
 returns-3 c = let e = c .before .before .before .before in (e .before .before .before .before .before .withdraw-answer .ensures, e .remove-tide .ensures)

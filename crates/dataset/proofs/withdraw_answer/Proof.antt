@@ -1,5 +1,5 @@
 -- `withdraw_answer` meets its contract: one law of Ways for each way out. Assumes nothing.
-use Rattle.dataset.proofs.Ways.{withdraw-23, withdraw-26, withdraw-done}
+use Rattle.dataset.proofs.AnswerLaws.{withdraw-23, withdraw-26, withdraw-done}
 use Rattle.lists.proofs.Scans.{between-in, between-low, between-high}
 use Rattle.dataset.proofs.withdraw_answer.Statement.{statement}
 use Rattle.dataset.proofs.withdraw_answer.Tie as tie

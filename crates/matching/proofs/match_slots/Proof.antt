@@ -11,8 +11,8 @@ use Rattle.matching.proofs.match_slots.Tie as tie
 mul-slots : tie.Need-mul-slots
 mul-slots c = let l = slots-bound _ _ _ _ _ _ (c .before .before .before .before .pre .0) in omega arith
 
-adopt-requires : tie.Need-adopt-requires
-adopt-requires c κs =
+start-matching-requires : tie.Need-start-matching-requires
+start-matching-requires c κs =
     let p = c .before .before .before .before .before .before .before .before .pre in
     let z = sized _ _ _ _ _ _ _ _ (p .0) (p .1 .0) (p .1 .1) in
     (z, (p .0 .list-long, blank-matching _ _ _ (z .few-slots) (z .few-tides)))
@@ -20,7 +20,7 @@ adopt-requires c κs =
 saturate-requires : tie.Need-saturate-requires
 saturate-requires c κs =
     let p = c .before .before .before .before .before .before .before .before .before .before .before .pre in
-    (sized _ _ _ _ _ _ _ _ (p .0) (p .1 .0) (p .1 .1), c .before .before .adopt .ensures)
+    (sized _ _ _ _ _ _ _ _ (p .0) (p .1 .0) (p .1 .1), c .before .before .start-matching .ensures)
 
 write-partial-requires : tie.Need-write-partial-requires
 write-partial-requires c κs =
@@ -68,7 +68,7 @@ match-slots-spec =
     (tie.spec
     (λ c. search needs)
     mul-slots
-    adopt-requires
+    start-matching-requires
     saturate-requires
     write-partial-requires
     same-length

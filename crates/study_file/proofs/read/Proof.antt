@@ -1,5 +1,5 @@
 -- `read` meets its contract: one law for each way out. Assumes nothing.
-use Rattle.study_file.proofs.ReadWays.{head-passed, tides-begin, read-short, read-head, read-tide, read-done}
+use Rattle.study_file.proofs.ReadCallLaws.{head-passed, tides-begin, read-short, read-head, read-tide, read-done}
 use Rattle.validity.specs.Memory.{stateOf}
 use mathlib.Core.Logic.{inl, inr}
 use mathlib.Core.Path.{refl}

@@ -1,6 +1,6 @@
 -- `write` meets its contract: what the test of a dataset refuses, Write refuses. Assumes nothing.
-use Rattle.study_file.proofs.WriteWays.{write-refused}
-use Rattle.dataset.proofs.Ways.{passed}
+use Rattle.study_file.proofs.WriteCallLaws.{write-refused}
+use Rattle.dataset.proofs.AnswerLaws.{passed}
 use Rattle.validity.specs.Memory.{stateOf}
 use borrow.Author.Needs.{needs}
 use Rattle.study_file.proofs.write.Statement.{statement}

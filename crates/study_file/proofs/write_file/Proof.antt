@@ -1,5 +1,5 @@
 -- `write_file` meets its contract: there is no room, or all fields are written. Assumes nothing.
-use Rattle.study_file.proofs.WriteWays.{write-short, writable, write-done}
+use Rattle.study_file.proofs.WriteCallLaws.{write-short, writable, write-done}
 use Rattle.validity.specs.Memory.{stateOf}
 use borrow.Author.Needs.{needs}
 use Rattle.study_file.proofs.write_file.Statement.{statement}

@@ -14,7 +14,7 @@ returns-2 : tie.Need-returns-2
 returns-2 c = no-minima _ _ 0 (between-high 1 120 _ (c .if2 .taken))
 
 returns-3 : tie.Need-returns-3
-returns-3 c = no-minima _ _ 2 (beyond-leb (c .before .together .ensures) (c .before .before .byte .ensures .0) (c .if3 .taken))
+returns-3 c = no-minima _ _ 2 (beyond-leb (c .before .sum-minima .ensures) (c .before .before .byte .ensures .0) (c .if3 .taken))
 
 returns-4 : tie.Need-returns-4
 returns-4 c =
@@ -22,7 +22,7 @@ returns-4 c =
     let eight : length (c .before .before .before .before .before .before .before .args .minima .b) ≡ 8 = search needs in
     c .zeros-above .ensures
     ∙ zeros-decide _ _ (between-in 1 120 _ (e .before .if1 .left) (e .if2 .left)) eight
-    (within-leb (c .before .before .together .ensures) (c .before .before .before .byte .ensures .0) (c .before .if3 .left))
+    (within-leb (c .before .before .sum-minima .ensures) (c .before .before .before .byte .ensures .0) (c .before .if3 .left))
 
 pub valid-minima-spec : {M : Type 1} → statement M
 valid-minima-spec =

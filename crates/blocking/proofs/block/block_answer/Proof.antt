@@ -1,9 +1,9 @@
 -- One law for each way out. Assumes nothing.
 use borrow.Author.Needs.{needs}
-use Rattle.dataset.proofs.Ways.{held-refused, passed}
+use Rattle.dataset.proofs.AnswerLaws.{held-refused, passed}
 use borrow.Author.Tests.{not-true, not-false}
 use Rattle.blocking.specs.Answers.{blockAnswer}
-use Rattle.blocking.proofs.Linked.{sized}
+use Rattle.blocking.proofs.ProblemOfArrays.{sized-arrays}
 use Rattle.blocking.proofs.BlockLaws.{block-24, block-25, block-1-list, block-1-records, block-done}
 use Rattle.blocking.proofs.block.block_answer.Statement.{statement}
 use Rattle.blocking.proofs.block.block_answer.Tie as tie
@@ -18,7 +18,7 @@ returns-2 c = block-24 _ _ _ (passed _ (c .before .enum-told .given .1) (c .befo
 ball-meets-requires : tie.Need-ball-meets-requires
 ball-meets-requires c κs =
     let p = passed _ (c .before .enum-told .given .1) (c .before .before .before .check .ensures) in
-    (sized _ (p .dataset) (p .long), c .if1 .left)
+    (sized-arrays _ (p .dataset) (p .long), c .if1 .left)
 
 returns-3 : tie.Need-returns-3
 returns-3 c = block-25 _ _ _ (passed _ (c .before .before .before .enum-told .given .1) (c .before .before .before .before .before .check .ensures)) (c .before .before .if1 .left) (c .before .ball-meets .ensures) (not-true _ (c .if2 .taken))

@@ -1,6 +1,6 @@
 -- A refusal, or what is computed. Assumes nothing.
 use borrow.Author.Needs.{needs}
-use Rattle.blocking.proofs.BlockLaws.{block-told, block-refusal, no-rows, block-list-stays}
+use Rattle.blocking.proofs.BlockLaws.{block-accepted, block-refusal, no-rows, block-list-stays}
 use mathlib.Core.Path.{refl}
 use Rattle.blocking.proofs.block.block_core.Statement.{statement}
 use Rattle.blocking.proofs.block.block_core.Tie as tie
@@ -12,7 +12,7 @@ returns c =
     (block-refusal _ _ _ e q, (no-rows _ _ _ e q _ refl, block-list-stays _ _ _ e q))
 
 compute-requires : tie.Need-compute-requires
-compute-requires c κs = block-told _ _ _ (c .before .enum-told .given .1) (c .before .before .before .block-answer .ensures)
+compute-requires c κs = block-accepted _ _ _ (c .before .enum-told .given .1) (c .before .before .before .block-answer .ensures)
 
 returns-2 : tie.Need-returns-2
 returns-2 c = search needs

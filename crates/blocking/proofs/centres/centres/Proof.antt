@@ -1,6 +1,6 @@
 -- The front of the list that `centres_into` leaves, and the number of its answer. Assumes nothing.
 use mathlib.Core.Path.{refl, ap, _∙_}
-use Rattle.refusal_numbers.specs.Numbers.{refusalNumber}
+use Rattle.study.specs.Numbers.{refusalNumber}
 use Rattle.blocking.proofs.CentresLaws.{centres-part}
 use borrow.Author.Needs.{needs}
 use Rattle.blocking.proofs.centres.centres.Statement.{statement}

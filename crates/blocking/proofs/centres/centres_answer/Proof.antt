@@ -1,7 +1,7 @@
 -- One law for each way out. Assumes nothing.
 use Rattle.blocking.proofs.CentresLaws.{centres-24, centres-1, centres-done}
 use Rattle.blocking.specs.Answers.{centresAnswer}
-use Rattle.dataset.proofs.Ways.{held-refused, passed}
+use Rattle.dataset.proofs.AnswerLaws.{held-refused, passed}
 use borrow.Author.Needs.{needs}
 use Rattle.blocking.proofs.centres.centres_answer.Statement.{statement}
 use Rattle.blocking.proofs.centres.centres_answer.Tie as tie

@@ -1,5 +1,5 @@
 -- A refused call leaves the list, an accepted one what `fill_front` ensures. Assumes nothing.
-use Rattle.blocking.proofs.CentresLaws.{centres-refused, centres-told}
+use Rattle.blocking.proofs.CentresLaws.{centres-refused, centres-accepted}
 use borrow.Author.Needs.{needs}
 use Rattle.blocking.proofs.centres.centres_into.Statement.{statement}
 use Rattle.blocking.proofs.centres.centres_into.Tie as tie
@@ -8,7 +8,7 @@ returns : tie.Need-returns
 returns c = let r = centres-refused _ _ _ (c .enum-told2 .given .1) (c .before .before .centres-answer .ensures) in (c .before .before .centres-answer .ensures, r)
 
 fill-front-requires : tie.Need-fill-front-requires
-fill-front-requires c κs = centres-told _ _ (c .before .enum-told .given .1) (c .before .before .before .centres-answer .ensures)
+fill-front-requires c κs = centres-accepted _ _ (c .before .enum-told .given .1) (c .before .before .before .centres-answer .ensures)
 
 returns-2 : tie.Need-returns-2
 returns-2 c = (c .before .before .before .before .before .before .centres-answer .ensures, c .before .before .fill-front .ensures)

@@ -1,12 +1,12 @@
 -- From the rows of the core. Assumes nothing.
 use borrow.Author.Needs.{needs}
 use native.Mathlib.Omega.{arith}
-use Rattle.blocking.proofs.BlockLaws.{told-sized, told-proper, block-value, block-rows, block-list}
+use Rattle.blocking.proofs.BlockLaws.{accepted-sized, accepted-valid-arrays, block-value, block-rows, block-list}
 use Rattle.blocking.proofs.computing.compute.Statement.{statement}
 use Rattle.blocking.proofs.computing.compute.Tie as tie
 
 block-rows-requires : tie.Need-block-rows-requires
-block-rows-requires c κs = let p = c .before .before .before .before .pre in (told-sized _ _ _ p, (told-proper _ _ _ p, (p .some-tide, p .list-room)))
+block-rows-requires c κs = let p = c .before .before .before .before .pre in (accepted-sized _ _ _ p, (accepted-valid-arrays _ _ _ p, (p .some-tide, p .list-room)))
 
 put-centres-requires : tie.Need-put-centres-requires
 put-centres-requires c κs =

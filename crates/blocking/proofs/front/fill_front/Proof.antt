@@ -1,7 +1,7 @@
 -- The centres of the problem in memory are those of the study. Assumes nothing.
 use native.Mathlib.Omega.{arith}
 use Rattle.blocking.proofs.CentresLaws.{centres-filled}
-use Rattle.radius.proofs.FrontLaws.{front-fits, front-few, front-below}
+use Rattle.radius_search.proofs.FrontLaws.{front-fits, front-few, front-below}
 use borrow.Author.Needs.{needs}
 use Rattle.blocking.proofs.front.fill_front.Statement.{statement}
 use Rattle.blocking.proofs.front.fill_front.Tie as tie

@@ -2,7 +2,7 @@
 use borrow.Author.Needs.{needs}
 use native.Mathlib.Omega.{arith}
 use borrow.Author.Tests.{not-true, not-false}
-use Rattle.blocking.proofs.JudgeLaws.{judge-told, judge-refused, listed, judge-number, judge-few, judge-yes}
+use Rattle.blocking.proofs.JudgeLaws.{judge-accepted, judge-refused, judged-arrays, judge-number, judge-few, judge-yes}
 use Rattle.blocking.proofs.judge.judge.Statement.{statement}
 use Rattle.blocking.proofs.judge.judge.Tie as tie
 
@@ -10,25 +10,25 @@ returns : tie.Need-returns
 returns c = judge-refused _ _ (c .before .answer .given .1) (c .before .before .before .judge-answer .ensures)
 
 numbers-valid-requires : tie.Need-numbers-valid-requires
-numbers-valid-requires c κs = listed _ _ (judge-told _ _ (c .enum-told .given .1) (c .before .before .judge-answer .ensures)) .list-long
+numbers-valid-requires c κs = judged-arrays _ _ (judge-accepted _ _ (c .enum-told .given .1) (c .before .before .judge-answer .ensures)) .list-long
 
 returns-2 : tie.Need-returns-2
-returns-2 c = judge-number _ _ (judge-told _ _ (c .before .before .enum-told .given .1) (c .before .before .before .before .judge-answer .ensures)) (c .before .numbers-valid .ensures) (not-true _ (c .if1 .taken))
+returns-2 c = judge-number _ _ (judge-accepted _ _ (c .before .before .enum-told .given .1) (c .before .before .before .before .judge-answer .ensures)) (c .before .numbers-valid .ensures) (not-true _ (c .if1 .taken))
 
 blocks-meet-requires : tie.Need-blocks-meet-requires
-blocks-meet-requires c κs = listed _ _ (judge-told _ _ (c .before .before .enum-told .given .1) (c .before .before .before .before .judge-answer .ensures))
+blocks-meet-requires c κs = judged-arrays _ _ (judge-accepted _ _ (c .before .before .enum-told .given .1) (c .before .before .before .before .judge-answer .ensures))
 
 returns-3 : tie.Need-returns-3
-returns-3 c = judge-few _ _ (judge-told _ _ (c .before .before .before .before .enum-told .given .1) (c .before .before .before .before .before .before .judge-answer .ensures)) (c .before .before .before .numbers-valid .ensures) (not-false _ (c .before .before .if1 .left)) (c .before .blocks-meet .ensures) (not-true _ (c .if2 .taken))
+returns-3 c = judge-few _ _ (judge-accepted _ _ (c .before .before .before .before .enum-told .given .1) (c .before .before .before .before .before .before .judge-answer .ensures)) (c .before .before .before .numbers-valid .ensures) (not-false _ (c .before .before .if1 .left)) (c .before .blocks-meet .ensures) (not-true _ (c .if2 .taken))
 
 widest-requires : tie.Need-widest-requires
 widest-requires c κs =
-    let p = (judge-told _ _ (c .before .before .before .before .enum-told .given .1) (c .before .before .before .before .before .before .judge-answer .ensures)) in
-    let l = listed _ _ p in
+    let p = (judge-accepted _ _ (c .before .before .before .before .enum-told .given .1) (c .before .before .before .before .before .before .judge-answer .ensures)) in
+    let l = judged-arrays _ _ p in
     (l .few, omega (arith, l .few, p .passed .long .distances), l .list-long)
 
 returns-4 : tie.Need-returns-4
-returns-4 c = judge-yes _ _ (judge-told _ _ (c .before .before .before .before .before .enum-told .given .1) (c .before .before .before .before .before .before .before .judge-answer .ensures)) (c .before .before .before .before .numbers-valid .ensures) (not-false _ (c .before .before .before .if1 .left)) (c .before .before .blocks-meet .ensures) (not-false _ (c .before .if2 .left)) (c .widest .ensures)
+returns-4 c = judge-yes _ _ (judge-accepted _ _ (c .before .before .before .before .before .enum-told .given .1) (c .before .before .before .before .before .before .before .judge-answer .ensures)) (c .before .before .before .before .numbers-valid .ensures) (not-false _ (c .before .before .before .if1 .left)) (c .before .before .blocks-meet .ensures) (not-false _ (c .before .if2 .left)) (c .widest .ensures)
 
 pub judge-spec : {M : Type 1} → statement M
 judge-spec =

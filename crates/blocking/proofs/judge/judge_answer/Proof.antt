@@ -1,6 +1,6 @@
 -- The reasons, one after the other. Assumes nothing.
 use borrow.Author.Needs.{needs}
-use Rattle.dataset.proofs.Ways.{held-refused, passed}
+use Rattle.dataset.proofs.AnswerLaws.{held-refused, passed}
 use Rattle.blocking.specs.Answers.{judgeAnswer}
 use Rattle.blocking.proofs.JudgeLaws.{judge-24, judge-12, judge-done}
 use Rattle.blocking.proofs.judge.judge_answer.Statement.{statement}

@@ -1,7 +1,7 @@
 -- By its counts. Assumes nothing.
 use borrow.Author.Needs.{needs}
 use mathlib.Core.Path.{_∙_}
-use Rattle.radius.proofs.TallyLaws.{tallied-long, met-meets}
+use Rattle.radius_search.proofs.TallyLaws.{tallied-long, met-meets}
 use Rattle.blocking.proofs.judging.block_meets.Statement.{statement}
 use Rattle.blocking.proofs.judging.block_meets.Tie as tie
 

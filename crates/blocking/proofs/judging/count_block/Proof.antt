@@ -4,8 +4,8 @@ use native.Mathlib.Omega.{arith}
 use Prim.Native.Nat.{_≤_, _<_, _-_}
 use mathlib.Core.Path.{_≡_}
 use Rattle.study.specs.Problem.{block, labels}
-use Rattle.radius.specs.Tally.{Tallied}
-use Rattle.radius.proofs.TallyLaws.{tallied-none, tallied-more, tallied-done, tallied-long, tallied-few, tallied-small}
+use Rattle.radius_search.specs.Tally.{Tallied}
+use Rattle.radius_search.proofs.TallyLaws.{tallied-none, tallied-more, tallied-done, tallied-long, tallied-few, tallied-small}
 use Rattle.blocking.proofs.judging.count_block.Statement.{statement}
 use Rattle.blocking.proofs.judging.count_block.Tie as tie
 

@@ -2,12 +2,12 @@
 use native.Mathlib.Omega.{arith}
 use Prim.Native.Nat.{_-_, _≤_}
 use Rattle.matching.proofs.Writing.{rest-start, rest-set}
-use Rattle.matching.specs.Steps.{Rest}
+use Rattle.lists.specs.Lists.{TailKept}
 use Rattle.matching.proofs.assign.write_partial.Statement.{statement}
 use Rattle.matching.proofs.assign.write_partial.Tie as tie
 
 abbrev Inv-loop : tie.InvT-loop
-Inv-loop n owner slots slot list₀ t₀ list t = (t ≤ n) × Rest n list₀ list
+Inv-loop n owner slots slot list₀ t₀ list t = (t ≤ n) × TailKept n list₀ list
 
 abbrev μ-loop : tie.MeasureT-loop
 μ-loop n owner slots slot list₀ t₀ list t = n - t

@@ -4,7 +4,7 @@ use mathlib.Core.Path.{refl}
 use Prim.Native.Nat.{_-_, _<_}
 use Rattle.matching.proofs.Turns.{Growing, grow-start, grow-in-tree, grow-none, grow-found, grow-again}
 use Rattle.matching.specs.Graph.{Edge, Marked}
-use Rattle.matching.specs.Matching.{at}
+use Rattle.lists.specs.Lists.{at}
 use Rattle.matching.proofs.augment.grow.Statement.{statement}
 use Rattle.matching.proofs.augment.grow.Tie as tie
 

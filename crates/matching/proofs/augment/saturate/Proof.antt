@@ -25,13 +25,13 @@ mul-if1 c = let z = c .before .before .before .before .pre .0 .few-slots in omeg
 element-copy-out-if1 : tie.Need-element-copy-out-if1 Inv-loop μ-loop
 element-copy-out-if1 c = let z = c .before .before .before .before .pre .0 .few-slots in omega arith
 
-improve-requires : tie.Need-improve-requires Inv-loop μ-loop
-improve-requires c κs =
+augment-from-requires : tie.Need-augment-from-requires Inv-loop μ-loop
+augment-from-requires c κs =
     let p = c .before .before .before .before .before .before .before .before .pre in
     (p .0, (c .before .before .before .before .before .loop .inv .1 .matching, (omega arith, c .before .before .if1 .taken)))
 
 returns : tie.Need-returns Inv-loop μ-loop
-returns c = (λ e. absurd (false≢true e), λ _. c .before .improve .ensures .1 (not-true _ (c .if2 .taken)))
+returns c = (λ e. absurd (false≢true e), λ _. c .before .augment-from .ensures .1 (not-true _ (c .if2 .taken)))
 
 loop-again : tie.Need-loop-again Inv-loop μ-loop
 loop-again c =
@@ -51,7 +51,7 @@ saturate-spec =
     (λ c. omega arith)
     mul-if1
     element-copy-out-if1
-    improve-requires
+    augment-from-requires
     returns
     (λ c. omega arith)
     (λ c. omega arith)

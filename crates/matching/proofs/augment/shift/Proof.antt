@@ -1,6 +1,6 @@
 -- `shift` meets its contract. Each turn gives one slot its new tide; the measure is the slot's rank, which falls on the way to the root. Assumes nothing.
 use native.Mathlib.Omega.{arith}
-use Rattle.matching.specs.Matching.{at}
+use Rattle.lists.specs.Lists.{at}
 use Rattle.matching.specs.Graph.{Edge, Shifting}
 use Rattle.matching.proofs.Turns.{shift-again, shift-end, shift-falls}
 use Rattle.matching.proofs.augment.shift.Statement.{statement}

@@ -25,7 +25,7 @@ returns c =
 cast-class : tie.Need-cast-class
 cast-class c =
     let p = c .before .before .before .before .before .before .pre in
-    let k = p .0 .kinds _ (p .1 .0) in
+    let k = p .0 .kind-high _ (p .1 .0) in
     omega arith
 
 add-class : tie.Need-add-class

@@ -7,13 +7,13 @@ use borrow.Author.Needs.{needs}
 use lib.ListN.{length, take}
 use Rattle.sheet_text.specs.Text.{lines}
 use Rattle.sheet_text.proofs.LineLaws.{lines-none, lines-more, lines-all}
-use Rattle.sheet_text.specs.Putting.{Puts}
+use Rattle.sheet_text.specs.Putting.{PutText}
 use Rattle.sheet_text.proofs.PuttingLaws.{puts-as}
 use Rattle.sheet_text.proofs.lines.put_lines.Statement.{statement}
 use Rattle.sheet_text.proofs.lines.put_lines.Tie as tie
 
 abbrev Inv-loop : tie.InvT-loop
-Inv-loop out₀ at blocks records end₀ i₀ out end i = ((i ≤ 120) × (i ≤ blocks) × (end ≤ at + 23 * i)) × Puts out₀ at (lines 1 (take i records)) end out
+Inv-loop out₀ at blocks records end₀ i₀ out end i = ((i ≤ 120) × (i ≤ blocks) × (end ≤ at + 23 * i)) × PutText out₀ at (lines 1 (take i records)) end out
 
 abbrev μ-loop : tie.MeasureT-loop
 μ-loop out₀ at blocks records end₀ i₀ out end i = 120 - i

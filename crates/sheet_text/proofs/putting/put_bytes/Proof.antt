@@ -2,13 +2,13 @@
 use Prim.Native.Nat.{_+_, _-_, _≤_}
 use native.Mathlib.Omega.{arith}
 use lib.ListN.{length, take}
-use Rattle.sheet_text.specs.Putting.{Puts}
+use Rattle.sheet_text.specs.Putting.{PutText}
 use Rattle.sheet_text.proofs.PuttingLaws.{copied-none, copied-more, copied-done}
 use Rattle.sheet_text.proofs.putting.put_bytes.Statement.{statement}
 use Rattle.sheet_text.proofs.putting.put_bytes.Tie as tie
 
 abbrev Inv-loop : tie.InvT-loop
-Inv-loop out₀ at text i₀ out i = (i ≤ length text) × Puts out₀ at (take i text) (at + i) out
+Inv-loop out₀ at text i₀ out i = (i ≤ length text) × PutText out₀ at (take i text) (at + i) out
 
 abbrev μ-loop : tie.MeasureT-loop
 μ-loop out₀ at text i₀ out i = length text - i

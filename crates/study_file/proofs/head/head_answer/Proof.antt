@@ -1,6 +1,6 @@
 -- `head_answer` meets its contract: one law for each way out. Assumes nothing.
 use native.Mathlib.Omega.{arith}
-use Rattle.study_file.proofs.HeadLaws.{head-short, head-mark, head-count, head-kinds, begun}
+use Rattle.study_file.proofs.HeadLaws.{head-short, head-mark, head-count, head-k, begun}
 use Rattle.lists.proofs.Scans.{between-low, between-high}
 use Rattle.bit_reader.proofs.FieldLaws.{got-start, no-end-start}
 use borrow.Author.Needs.{needs}
@@ -26,12 +26,12 @@ returns-4 c =
 returns-5 : tie.Need-returns-5
 returns-5 c =
     let args = c .before .before .before .before .before .before .before .before .before .before .args in
-    head-kinds (args .file .now) (c .before .before .before .before .before .before .before .before .if1 .left) (c .before .before .before .before .before .mark .given .0 .0) (c .before .before .before .before .before .mark .given .0 .1 .0) (got-start (args .file .now) (c .before .before .before .before .before .before .before .read-start .ensures) (c .before .before .before .before .before .mark .given .1)) (c .before .before .before .if2 .left) (c .before .before .if3 .left) (c .before .number .result) (c .before .number .ensures .0) (between-low 1 8 _ (c .if4 .taken))
+    head-k (args .file .now) (c .before .before .before .before .before .before .before .before .if1 .left) (c .before .before .before .before .before .mark .given .0 .0) (c .before .before .before .before .before .mark .given .0 .1 .0) (got-start (args .file .now) (c .before .before .before .before .before .before .before .read-start .ensures) (c .before .before .before .before .before .mark .given .1)) (c .before .before .before .if2 .left) (c .before .before .if3 .left) (c .before .number .result) (c .before .number .ensures .0) (between-low 1 8 _ (c .if4 .taken))
 
 returns-6 : tie.Need-returns-6
 returns-6 c =
     let args = c .before .before .before .before .before .before .before .before .before .before .before .args in
-    head-kinds (args .file .now) (c .before .before .before .before .before .before .before .before .before .if1 .left) (c .before .before .before .before .before .before .mark .given .0 .0) (c .before .before .before .before .before .before .mark .given .0 .1 .0) (got-start (args .file .now) (c .before .before .before .before .before .before .before .before .read-start .ensures) (c .before .before .before .before .before .before .mark .given .1)) (c .before .before .before .before .if2 .left) (c .before .before .before .if3 .left) (c .before .before .number .result) (c .before .before .number .ensures .0) (between-high 1 8 _ (c .if5 .taken))
+    head-k (args .file .now) (c .before .before .before .before .before .before .before .before .before .if1 .left) (c .before .before .before .before .before .before .mark .given .0 .0) (c .before .before .before .before .before .before .mark .given .0 .1 .0) (got-start (args .file .now) (c .before .before .before .before .before .before .before .before .read-start .ensures) (c .before .before .before .before .before .before .mark .given .1)) (c .before .before .before .before .if2 .left) (c .before .before .before .if3 .left) (c .before .before .number .result) (c .before .before .number .ensures .0) (between-high 1 8 _ (c .if5 .taken))
 
 body-answer-requires : tie.Need-body-answer-requires
 body-answer-requires c κs =

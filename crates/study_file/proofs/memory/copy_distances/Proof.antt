@@ -9,10 +9,10 @@ use Rattle.study_file.proofs.memory.copy_distances.Statement.{statement
 use Rattle.study_file.proofs.memory.copy_distances.Tie as tie
 
 abbrev Inv-loop : tie.InvT-loop
-Inv-loop distances₀ near p₀ distances p = (p ≤ 14400) × (distances ≡ overwrite p (λ (z : ℕ). getD near z 0) distances₀) × (length distances ≡ length distances₀)
+Inv-loop distances₀ matrix p₀ distances p = (p ≤ 14400) × (distances ≡ overwrite p (λ (z : ℕ). getD matrix z 0) distances₀) × (length distances ≡ length distances₀)
 
 abbrev μ-loop : tie.MeasureT-loop
-μ-loop distances₀ near p₀ distances p = 14400 - p
+μ-loop distances₀ matrix p₀ distances p = 14400 - p
 
 loop-holds : tie.Need-loop-holds Inv-loop μ-loop
 loop-holds c = (omega arith, overwrite-none _ _, refl)

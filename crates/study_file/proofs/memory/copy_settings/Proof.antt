@@ -9,10 +9,10 @@ use Rattle.study_file.proofs.memory.copy_settings.Statement.{statement}
 use Rattle.study_file.proofs.memory.copy_settings.Tie as tie
 
 abbrev Inv-loop : tie.InvT-loop
-Inv-loop settings₀ kinds i₀ settings i = (i ≤ 120) × (settings ≡ overwrite i (λ (z : ℕ). getD kinds z 0) settings₀) × (length settings ≡ length settings₀)
+Inv-loop settings₀ vector i₀ settings i = (i ≤ 120) × (settings ≡ overwrite i (λ (z : ℕ). getD vector z 0) settings₀) × (length settings ≡ length settings₀)
 
 abbrev μ-loop : tie.MeasureT-loop
-μ-loop settings₀ kinds i₀ settings i = 120 - i
+μ-loop settings₀ vector i₀ settings i = 120 - i
 
 loop-holds : tie.Need-loop-holds Inv-loop μ-loop
 loop-holds c = (omega arith, overwrite-none _ _, refl)

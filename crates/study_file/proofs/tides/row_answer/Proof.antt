@@ -8,12 +8,12 @@ use Rattle.study_file.proofs.tides.row_answer.Tie as tie
 returns : tie.Need-returns
 returns c =
     let args = c .before .before .before .before .before .before .args in
-    row-breaks (args .near .now) (args .t) (omega arith) (omega arith) (c .before .before .before .first-broken .ensures) (c .before .found .given .1)
+    row-breaks (args .matrix .now) (args .t) (omega arith) (omega arith) (c .before .before .before .first-violation .ensures) (c .before .found .given .1)
 
 returns-2 : tie.Need-returns-2
 returns-2 c =
     let args = c .before .before .before .before .before .args in
-    row-holds (args .near .now) (args .t) (omega arith) (omega arith) (c .before .before .first-broken .ensures) (c .enum-told .given .1)
+    row-holds (args .matrix .now) (args .t) (omega arith) (omega arith) (c .before .before .first-violation .ensures) (c .enum-told .given .1)
 
 pub row-answer-spec : {M : Type 1} → statement M
 row-answer-spec =

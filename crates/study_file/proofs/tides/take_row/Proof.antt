@@ -13,10 +13,10 @@ use Rattle.study_file.proofs.tides.take_row.Statement.{statement}
 use Rattle.study_file.proofs.tides.take_row.Tie as tie
 
 abbrev Inv-loop : tie.InvT-loop
-Inv-loop file start near₀ t i₀ near i = (i ≤ t) × (near ≡ withRow (rowAt file start t) i near₀) × (length near ≡ length near₀)
+Inv-loop file start near₀ t i₀ matrix i = (i ≤ t) × (matrix ≡ withRow (rowAt file start t) i near₀) × (length matrix ≡ length near₀)
 
 abbrev μ-loop : tie.MeasureT-loop
-μ-loop file start near₀ t i₀ near i = t - i
+μ-loop file start near₀ t i₀ matrix i = t - i
 
 loop-holds : tie.Need-loop-holds Inv-loop μ-loop
 loop-holds c = (omega arith, row-none _ _, refl)
@@ -32,8 +32,8 @@ returns c =
     let args = c .before .before .before .before .before .before .before .args in
     absurd (no-end (args .file .now) (args .start + 20 * c .before .before .before .before .loop .i) 20 (c .before .before .read-field .ensures) (c .enum-told .given .1) (omega arith))
 
-slice-write-near-2 : tie.Need-slice-write-near-2 Inv-loop μ-loop
-slice-write-near-2 c = simp length-set (omega arith)
+slice-write-matrix-2 : tie.Need-slice-write-matrix-2 Inv-loop μ-loop
+slice-write-matrix-2 c = simp length-set (omega arith)
 
 loop-again : tie.Need-loop-again Inv-loop μ-loop
 loop-again c =
@@ -68,7 +68,7 @@ take-row-spec =
     (λ c. omega arith)
     (λ c. omega arith)
     (λ c. omega arith)
-    slice-write-near-2
+    slice-write-matrix-2
     (λ c. omega arith)
     (λ c. omega arith)
     loop-again

@@ -1,7 +1,8 @@
 -- `put_row` meets its contract: the loop's invariant: the first i distances are written. Assumes nothing.
 use native.Mathlib.Omega.{arith}
-use Rattle.lists.specs.Lists.{at, tabulate}
-use Rattle.study_file.specs.Putting.{Puts}
+use Rattle.lists.specs.Lists.{tabulate}
+use Rattle.study.specs.Limits.{cell}
+use Rattle.study_file.specs.Putting.{PutFields}
 use Rattle.study_file.proofs.PuttingLaws.{run-none, run-more, run-done}
 use Rattle.file_format.specs.Bits.{field}
 use mathlib.Core.Path.{refl}
@@ -11,7 +12,7 @@ use Rattle.study_file.proofs.writing.put_row.Statement.{statement}
 use Rattle.study_file.proofs.writing.put_row.Tie as tie
 
 abbrev Inv-loop : tie.InvT-loop
-Inv-loop file₀ start distances t i₀ file i = (i ≤ t) × Puts file₀ start (map (field 20) (tabulate i (at distances t))) file
+Inv-loop file₀ start distances t i₀ file i = (i ≤ t) × PutFields file₀ start (map (field 20) (tabulate i (cell distances t))) file
 
 abbrev μ-loop : tie.MeasureT-loop
 μ-loop file₀ start distances t i₀ file i = t - i

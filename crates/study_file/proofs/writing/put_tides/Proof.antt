@@ -1,6 +1,6 @@
 -- `put_tides` meets its contract: the loop's invariant: the first t tides are written. Assumes nothing.
 use native.Mathlib.Omega.{arith}
-use Rattle.study_file.specs.Putting.{Puts}
+use Rattle.study_file.specs.Putting.{PutFields}
 use Rattle.study_file.proofs.PuttingLaws.{tide-room, tides-none, tides-more, tides-done}
 use Rattle.validity.specs.Memory.{stateOf, tideOf}
 use Rattle.file_format.specs.File.{tideFields, bitLength}
@@ -11,7 +11,7 @@ use Rattle.study_file.proofs.writing.put_tides.Statement.{statement}
 use Rattle.study_file.proofs.writing.put_tides.Tie as tie
 
 abbrev Inv-loop : tie.InvT-loop
-Inv-loop file₀ dataset distances settings k n t₀ file t = (t ≤ n) × Puts file₀ (bitLength k 0) (flatMap tideFields (tabulate t (tideOf (stateOf dataset distances settings)))) file
+Inv-loop file₀ dataset distances settings k n t₀ file t = (t ≤ n) × PutFields file₀ (bitLength k 0) (flatMap tideFields (tabulate t (tideOf (stateOf dataset distances settings)))) file
 
 abbrev μ-loop : tie.MeasureT-loop
 μ-loop file₀ dataset distances settings k n t₀ file t = n - t

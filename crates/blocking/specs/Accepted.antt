@@ -1,0 +1,35 @@
+-- What an accepted call tells; the function that computes or writes requires it. Assumes nothing.
+use Prim.Native.Nat.{ℕ, _≤_, _<_}
+use mathlib.Core.Path.{_≡_}
+use mathlib.Core.Bool.{true}
+use mathlib.Core.List.{List}
+use lib.Dec.{T}
+use lib.ListN.{length, getD}
+use Rattle.study.specs.Limits.{maxTides}
+use Rattle.study.specs.Study.{sufficient}
+use Rattle.study.specs.Refusals.{accepted}
+use Rattle.validity.specs.Memory.{State, studyOf}
+use Rattle.dataset.specs.Accepted.{Passed}
+use Rattle.blocking.specs.Answers.{blockAnswer, centresAnswer}
+
+-- what an accepted Block tells, lent a list and records of these lengths
+pub record BlockAccepted (s : State) (list room : ℕ) : Type 0 where
+  pub passed : Passed s
+  pub some-tide : 0 < s .dataset .n
+  pub enough : T (sufficient (studyOf s) (λ t. true))
+  pub list-room : s .dataset .n ≤ list
+  pub record-room : s .dataset .n ≤ room
+  pub answer : accepted ≡ blockAnswer s list room
+
+-- what an accepted Centres tells
+pub record CentresAccepted (s : State) (list : List ℕ) : Type 0 where
+  pub passed : Passed s
+  pub room : s .dataset .n ≤ length list
+  pub answer : accepted ≡ centresAnswer s list
+
+-- settings and block numbers of n tides, long enough and each setting 1 to 8
+pub record JudgedArrays (s : List ℕ) (n : ℕ) (list : List ℕ) : Type 0 where
+  pub few : n ≤ maxTides
+  pub settings-long : n ≤ length s
+  pub setting-high : (t : ℕ) → t < n → getD s t 0 ≤ 8
+  pub list-long : n ≤ length list

@@ -1,0 +1,148 @@
+-- The radius, centres and list that the search ends with are those of the problem. Assumes nothing.
+use Prim.Native.Nat.{ℕ, suc, _+_, _-_, _≤_, _<_}
+use native.Mathlib.Omega.{arith}
+use native.Mathlib.Numerals.{add-one}
+use mathlib.Core.Path.{_≡_, sym, ap, ap₂, _∙_, subst}
+use mathlib.Core.List.{List, _++_}
+use lib.ListN.{length, getD, take, drop, set}
+use lib.Seq.{getD-take}
+use Rattle.lists.specs.Lists.{tabulate, overwrite, countBelow, TailKept}
+use Rattle.lists.proofs.Counts.{count-same}
+use Rattle.lists.proofs.Tables.{length-tabulate, getD-tabulate, tabulate-is, getD-overwrite, getD-past, length-overwrite, overwrite-none, overwrite-step, overwrite-done}
+use Rattle.study.specs.Problem.{Problem, centresAmong, centres, block, labels, radius, blocking}
+use Rattle.study.specs.Theorems.{Assignment, FirstAssignment}
+use Rattle.study.proofs.ProblemLaws.{mem-choices, blocks-same, diameter-same, greatestDiameter-same}
+use Rattle.study.proofs.Dictionary.{choice-before, blocking-found}
+use Rattle.promise.specs.Promise.{Test}
+use Rattle.radius_theory.specs.Arrays.{within, arrayProblem, ValidArrays}
+use Rattle.radius_theory.proofs.RadiiLaws.{lowest-radius}
+use Rattle.radius_search.specs.Front.{Front}
+use Rattle.radius_search.proofs.FrontLaws.{front-at, front-few, front-below, centres-few}
+use Rattle.radius_search.proofs.AssigningLaws.{numbered, numbered-at, allowed-by, assigns}
+use Rattle.radius_search.specs.Ascents.{Least}
+use Rattle.blocking_core.specs.First.{First, Agree}
+use Rattle.blocking_core.specs.Measured.{Measured}
+use Rattle.blocking_core.proofs.MeasuredLaws.{across-diameter, widest-diameter}
+use Rattle.blocking_core.specs.Core.{Blocks, Assigns}
+
+module _ {d : List ℕ} {n : ℕ} {E : Test} (Q : ValidArrays d n E) {g count₁ : ℕ} {cs lent allowed found list : List ℕ} (L : Least d n E g count₁ cs lent allowed found)
+    (F : First n count₁ E allowed list) where
+  abbrev P : Problem
+  P = arrayProblem d n E
+
+  abbrev xs : List ℕ
+  xs = numbered n (labels list)
+
+  listed : Front cs count₁ (centres P g)
+  unfolding centres arrayProblem
+  listed = L .centres .front
+
+  assignment : Assignment P g xs
+  assignment = assigns Q g count₁ cs listed allowed (L .table .here) (labels list) (F .assigned)
+
+  pub radius-is : radius P ≡ g
+  radius-is = lowest-radius P g (L .lowest) xs assignment
+
+  -- another assignment that agrees before t
+  agrees : (t : ℕ) → t < n → (ys : List ℕ) → take t ys ≡ take t xs → Agree t (labels list) (λ x. labels ys x - 1)
+  unfolding labels
+  agrees t l ys e x k =
+      let a : getD ys x 0 ≡ getD xs x 0 = sym (getD-take t ys x 0 k) ∙ ap (λ z. getD z x 0) e ∙ getD-take t xs x 0 k in
+      omega (arith, numbered-at n (labels list) x (omega arith))
+
+  first : FirstAssignment P g xs
+  unfolding arrayProblem
+  first =
+      record {
+        assignment = assignment;
+        foremost = λ t c l b ys A e q.
+            let m = mem-choices P g (centres P g) t (labels xs t) (record { low = assignment .low t l; high = assignment .high t l; in-radius = assignment .in-radius t l }) in
+            omega (
+              arith,
+              choice-before P g (centres P g) t (labels xs t) c m b,
+              numbered-at n (labels list) t l,
+              A .low t l,
+              F .least (λ x. labels ys x - 1) (allowed-by Q g count₁ cs listed allowed (L .table .here) ys A) t l (agrees t l ys e),
+            );
+      }
+
+  pub blocking-is : blocking P ≡ xs
+  blocking-is = blocking-found P xs (subst (λ z. FirstAssignment P z xs) (sym radius-is) first)
+
+-- ---- the answer
+
+-- from the search, the first assignment there, and its numbering
+pub assigned-core : {d : List ℕ} {n : ℕ} {E : Test} (Q : ValidArrays d n E) {g count₁ : ℕ} {cs lent allowed found first old list : List ℕ} → n ≤ 120 → Least d n E g count₁ cs lent allowed found
+    → First n count₁ E allowed first → TailKept n old found → TailKept n found first → n ≤ length old → list ≡ overwrite n (λ t. labels first t + 1) first → Assigns d n E g count₁ cs old list
+unfolding numbered overwrite labels
+assigned-core {d} {n} {E} Q {g} {count₁} {cs} {first = first} {old = old} {list = list} few L F K J long e =
+    record {
+      radius-of = sym (radius-is Q L F);
+      centres-of = L .centres;
+      list-of = whole;
+      same-length = ap length e ∙ length-overwrite (λ t. labels first t + 1) first n (omega (arith, K .same-length, J .same-length)) ∙ J .same-length ∙ K .same-length;
+      low = λ t l. omega (arith, at t l);
+      high = λ t l. omega (arith, at t l, F .assigned .below t l, front-few few (L .centres));
+      same = λ t l. at t l ∙ sym (ap (λ z. labels z t) (blocking-is Q L F) ∙ numbered-at n (labels first) t l ∙ sym (add-one (labels first t)));
+    }
+  where
+    at : (t : ℕ) → t < n → labels list t ≡ labels first t + 1
+    at t l = ap (λ z. getD z t 0) e ∙ getD-overwrite (λ t. labels first t + 1) first n t 0 l
+
+    front : tabulate n (λ t. labels first t + 1) ≡ blocking (arrayProblem d n E)
+    front =
+        tabulate-is n (λ t. labels first t + 1) 0 (numbered n (labels first)) (length-tabulate n (λ t. suc (labels first t)))
+        (λ t l. add-one (labels first t) ∙ sym (getD-tabulate n (λ t. suc (labels first t)) t 0 l))
+        ∙ sym (blocking-is Q L F)
+
+    whole : list ≡ blocking (arrayProblem d n E) ++ drop n old
+    whole = e ∙ ap₂ (λ a b. a ++ b) front (J .rest ∙ K .rest)
+
+pub core-blocks : {d : List ℕ} {n : ℕ} {E : Test} {g count₁ widest : ℕ} {cs old list sizes diameters : List ℕ} → n ≤ 120 → Assigns d n E g count₁ cs old list
+    → Measured d n (labels list) n sizes diameters widest → Blocks d n E count₁ g widest cs sizes diameters
+unfolding centres arrayProblem
+core-blocks {d} {n} {E} {g} {count₁} {cs = cs} {list = list} few A R =
+    record {
+      few = omega (arith, F .long, centres-few (within d n) g n);
+      centres-long = F .size;
+      centre-below = front-below (A .centres-of);
+      count-is = sym (F .long) ∙ ap (λ z. length (centresAmong (within d n) z n)) (A .radius-of);
+      radius-of = A .radius-of;
+      widest-of = R .greatest-is ∙ widest-diameter d n E (labels list) ∙ greatestDiameter-same P (labels list) (labels (blocking P)) (A .same);
+      centre-of = λ i l. front-at F i l ∙ ap (λ z. getD (centresAmong (within d n) z n) i 0) (A .radius-of);
+      size-of = λ i l. R .size i (omega (arith, F .long, centres-few (within d n) g n)) ∙ block-same i;
+      diameter-of = λ i l.
+          R .across i (omega (arith, F .long, centres-few (within d n) g n)) ∙ across-diameter d n E (labels list) (suc i)
+          ∙ diameter-same P (labels list) (labels (blocking P)) (suc i) (A .same);
+    }
+  where
+    P : Problem
+    P = arrayProblem d n E
+
+    F : Front cs count₁ (centresAmong (within d n) g n)
+    F = A .centres-of .front
+
+    block-same : (i : ℕ) → countBelow n (block (labels list) (suc i)) ≡ countBelow n (block (labels (blocking P)) (suc i))
+    block-same i = count-same n (block (labels list) (suc i)) (block (labels (blocking P)) (suc i)) (λ t l. blocks-same (labels list) (labels (blocking P)) (suc i) t (A .same t l))
+
+-- ---- the first t places are one more
+
+pub record NumberedTo (t : ℕ) (old list : List ℕ) : Type 0 where
+  pub is : list ≡ overwrite t (λ x. labels old x + 1) old
+
+pub numbered-none : (old : List ℕ) → NumberedTo 0 old old
+numbered-none old = record { is = overwrite-none (λ x. labels old x + 1) old }
+
+pub numbered-length : {t : ℕ} {old list : List ℕ} → NumberedTo t old list → t ≤ length old → length list ≡ length old
+numbered-length {t} {old} N l = ap length (N .is) ∙ length-overwrite (λ x. labels old x + 1) old t l
+
+pub numbered-here : {t : ℕ} {old list : List ℕ} → NumberedTo t old list → getD list t 0 ≡ labels old t
+unfolding labels
+numbered-here {t} {old} N = ap (λ z. getD z t 0) (N .is) ∙ getD-past (λ x. labels old x + 1) old t t 0 (omega arith)
+
+pub numbered-more : {t : ℕ} {old list : List ℕ} → NumberedTo t old list → t < length old → NumberedTo (t + 1) old (set list t (getD list t 0 + 1))
+numbered-more {t} {old} {list} N l =
+    record { is = overwrite-step (λ x. labels old x + 1) old (getD list t 0 + 1) (N .is) (ap (λ z. z + 1) (numbered-here N)) l }
+
+pub numbered-done : {t n : ℕ} {old list : List ℕ} → t ≡ n → NumberedTo t old list → list ≡ overwrite n (λ x. labels old x + 1) old
+numbered-done {old = old} e N = overwrite-done (λ x. labels old x + 1) old e (N .is)

@@ -1,0 +1,56 @@
+-- Tide after tide. Assumes nothing.
+use native.Mathlib.Omega.{arith}
+use Rattle.blocking_core.proofs.FirstLaws.{Fixed, fixed-start, fixed-more, fixed-end}
+use Rattle.promise.proofs.PromiseLaws.{asked-on}
+use Rattle.promise.specs.Promise.{meeting}
+use Rattle.lists.specs.Lists.{TailKept}
+use Rattle.radius_search.proofs.AscentLaws.{kept-same, kept-on}
+use Prim.Native.Nat.{_≤_, _-_}
+use Rattle.blocking_core.proofs.first.first_assignment.Statement.{statement}
+use Rattle.blocking_core.proofs.first.first_assignment.Tie as tie
+
+abbrev Inv-loop : tie.InvT-loop
+Inv-loop n blocks minima settings allowed₀ list₀ t₀ allowed list t = (t ≤ n) × TailKept n list₀ list × Fixed n blocks (meeting minima n settings) t allowed₀ allowed list
+
+abbrev μ-loop : tie.MeasureT-loop
+μ-loop n blocks minima settings allowed₀ list₀ t₀ allowed list t = n - t
+
+loop-holds : tie.Need-loop-holds Inv-loop μ-loop
+loop-holds c = (omega arith, kept-same _ _, fixed-start (c .before .before .before .pre .1))
+
+settle-requires : tie.Need-settle-requires Inv-loop μ-loop
+settle-requires c κs =
+    let turn = c .before .before .before .loop in
+    (asked-on (c .before .before .before .before .before .before .before .pre .0) (turn .inv .2 .same-length) (turn .inv .1 .same-length), (turn .inv .2 .assigned, c .before .before .loop-test .taken))
+
+add-t : tie.Need-add-t Inv-loop μ-loop
+add-t c = let f = c .before .before .before .before .before .before .before .before .before .before .before .before .pre .0 .few-tides in omega arith
+
+loop-again : tie.Need-loop-again Inv-loop μ-loop
+loop-again c =
+    let turn = c .before .before .before .before .before .before .before .before .loop in
+    (omega arith, kept-on (turn .inv .1) (c .before .before .before .before .settle .ensures .1), fixed-more (turn .inv .2) (c .before .before .before .before .settle .ensures .0))
+
+same-length : tie.Need-same-length Inv-loop μ-loop
+same-length c = c .before .loop .inv .2 .same-length
+
+same-length-2 : tie.Need-same-length-2 Inv-loop μ-loop
+same-length-2 c = c .before .loop .inv .1 .same-length
+
+returns : tie.Need-returns Inv-loop μ-loop
+returns c = (fixed-end (c .before .loop .inv .2) (omega arith), c .before .loop .inv .1)
+
+pub first-assignment-spec : {M : Type 1} → statement M
+first-assignment-spec =
+    tie.close
+    (tie.spec
+    Inv-loop
+    μ-loop
+    loop-holds
+    settle-requires
+    add-t
+    (λ c. omega arith)
+    loop-again
+    same-length
+    same-length-2
+    returns)

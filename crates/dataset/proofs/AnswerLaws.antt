@@ -1,0 +1,335 @@
+-- The ways out of each call: of what the code has found out, what the call answers and leaves. Assumes nothing.
+use Prim.Native.Nat.{ℕ, suc, _+_, _-_, _≤_, _<_}
+use native.Mathlib.Omega.{arith}
+use native.Mathlib.Numerals.{add-one}
+use mathlib.Core.Path.{_≡_, refl, sym, ap, _∙_}
+use mathlib.Core.Bool.{Bool, true, false, cond}
+use mathlib.Core.List.{List, []}
+use lib.Dec.{leb, eqb}
+use lib.ListN.{length, getD, set, replicate}
+use borrow.Author.Tests.{le-leb, lt-leb, eq-eqb, ne-eqb}
+use Rattle.lists.specs.Lists.{between, every, overwrite}
+use Rattle.lists.proofs.Tests.{true-T}
+use Rattle.study.specs.Limits.{cell}
+use Rattle.study.specs.declared.Minima.{Minima}
+use Rattle.study.specs.declared.Refusal.{Refusal}
+use Rattle.study.specs.declared.Answer.{Answer}
+use Rattle.study.specs.declared.Answer.the-variants.{Done, Refused}
+use Rattle.study.specs.Study.{Study, Contents, size, tide, distance, validMinima}
+use Rattle.study.specs.Refusals.{Numbered, number, seven, numbered, Verdict, accepted, refused, verdictOf, settled, Reason, firstOf}
+use Rattle.study.specs.Calls.{openReasons, opened, opening, minimaReasons, withMinima, settingMinima, Pair, violations, enterReasons, entered, entering, withdrawReasons, withdrawn, withdrawing}
+use Rattle.study.proofs.CallLaws.{enters, entered-size, withdraws, withdrawn-size}
+use Rattle.validity.specs.Memory.{State, stateOf, short, isDataset, studyOf, contentsOf, recordOf, distancesOf, settingsOf, stored}
+use Rattle.dataset.specs.Answers.{freshAnswer, heldAnswer, openAnswer, openLeaves, minimaAnswer, minimaLeaves, enterAnswer, enterLeaves, withdrawAnswer, withdrawLeaves}
+use Rattle.validity.proofs.ValidityLaws.{isDataset-T, study-size, study-distance}
+use Rattle.validity.proofs.LayoutLaws.{long, own-layout}
+use Rattle.triangle.specs.Pairs.{violationOf}
+use Rattle.triangle.proofs.PairLaws.{found-nothing, found-pair, violations-same}
+use Rattle.storage.proofs.PlaceLaws.{cleared-distances, cleared-settings, entered-distances, entered-settings, withdrawn-distances, withdrawn-settings}
+use Rattle.storage.specs.Places.{withRow, movedDistance, movedSetting}
+use Rattle.triangle.specs.declared.Violation.{Violation}
+use Rattle.triangle.specs.declared.Violation.the-variants as Violations
+use Rattle.dataset.specs.Accepted.{Passed, EnterAccepted, WithdrawAccepted}
+
+-- a refused call leaves everything
+stays : {a : Answer} {x : Refusal} {v : Verdict} (new old : State) → a ≡ Refused x → verdictOf a ≡ v → old ≡ settled v new old
+stays {a} {x} {v} new old e f = ap (λ w. settled w new old) (sym (ap verdictOf e) ∙ f)
+
+-- ---- with what every call on a dataset begins
+
+module _ (s : State) where
+  pub held-1 : (own : Contents → List Reason) → short s ≡ true → refused (number 1) ≡ heldAnswer s own
+  unfolding heldAnswer freshAnswer
+  held-1 own e = rw e
+
+  pub held-21 : (own : Contents → List Reason) → short s ≡ false → isDataset s ≡ false → refused (number 21) ≡ heldAnswer s own
+  unfolding heldAnswer freshAnswer
+  held-21 own e f = rw (e, f)
+
+  pub held-own : (own : Contents → List Reason) → short s ≡ false → isDataset s ≡ true → firstOf (own (contentsOf s)) ≡ heldAnswer s own
+  unfolding heldAnswer freshAnswer
+  held-own own e f = rw (e, f)
+
+  -- what an accepted call tells
+  pub record HeldAccepted (own : Contents → List Reason) : Type 0 where
+    pub not-short : short s ≡ false
+    pub tested : isDataset s ≡ true
+    pub reasons : firstOf (own (contentsOf s)) ≡ accepted
+
+  pub accepted-held : (own : Contents → List Reason) → heldAnswer s own ≡ accepted → HeldAccepted own
+  unfolding heldAnswer freshAnswer
+  accepted-held own e = by (short s) (isDataset s) refl refl e
+    where
+      never : (r : Numbered) → refused r ≡ accepted → ⊥
+      never r q = let z : _≡_ {A = ℕ} 0 1 = cc in omega arith
+
+      by : (a b : Bool) → short s ≡ a → isDataset s ≡ b
+          → cond a (refused (number 1)) (cond b (firstOf (own (contentsOf s))) (refused (number 21))) ≡ accepted → HeldAccepted own
+      by true b p q h = absurd (never (number 1) h)
+      by false true p q h = record { not-short = p; tested = q; reasons = h }
+      by false false p q h = absurd (never (number 21) h)
+
+  -- what refuses before the call's own reasons refuses the call
+  pub held-refused : (own : Contents → List Reason) {a : Answer} {x : Refusal} → a ≡ Refused x → verdictOf a ≡ heldAnswer s (λ _. []) → verdictOf a ≡ heldAnswer s own
+  unfolding heldAnswer freshAnswer firstOf
+  held-refused own {a} {x} e f = f ∙ by (short s) (isDataset s) (sym (ap verdictOf e) ∙ f)
+    where
+      by : (a b : Bool) → refused (numbered x) ≡ cond a (refused (number 1)) (cond b accepted (refused (number 21)))
+          → cond a (refused (number 1)) (cond b accepted (refused (number 21)))
+          ≡ cond a (refused (number 1)) (cond b (firstOf (own (contentsOf s))) (refused (number 21)))
+      by true b h = refl
+      by false true h = let z : _≡_ {A = ℕ} 0 1 = cc in absurd (omega arith)
+      by false false h = refl
+
+  pub passed-by : short s ≡ false → isDataset s ≡ true → Passed s
+  passed-by e f = record { not-short = e; tested = f; dataset = isDataset-T s .0 (true-T (isDataset s) f); long = long s e }
+
+  pub passed : {a : Answer} → a ≡ Done → verdictOf a ≡ heldAnswer s (λ _. []) → Passed s
+  passed e f = let h = accepted-held (λ _. []) (sym (sym (ap verdictOf e) ∙ f)) in passed-by (h .not-short) (h .tested)
+
+-- ---- Open
+
+module _ (s : State) (k : ℕ) where
+  pub open-1 : short s ≡ true → (refused (number 1) ≡ openAnswer s k) × (s ≡ openLeaves s k)
+  unfolding openLeaves openAnswer freshAnswer
+  open-1 e = (rw e, rw e)
+
+  module _ (e : short s ≡ false) where
+    pub open-2 : between 1 8 k ≡ false → (refused (number 2) ≡ openAnswer s k) × (s ≡ openLeaves s k)
+    unfolding openLeaves openAnswer freshAnswer openReasons firstOf
+    open-2 f = (rw (e, f), rw (e, f))
+
+    open-done : between 1 8 k ≡ true → (accepted ≡ openAnswer s k) × (stored (opening k) s ≡ openLeaves s k)
+    unfolding openLeaves openAnswer freshAnswer openReasons firstOf
+    open-done f = (rw (e, f), rw (e, f))
+
+    -- the record that Open makes, over cleared memory
+    pub opened-state : {d g : List ℕ} → between 1 8 k ≡ true → d ≡ overwrite 14400 (λ _. 0) (s .distances) → g ≡ overwrite 120 (λ _. 0) (s .settings)
+        → (accepted ≡ openAnswer s k)
+        × (stateOf (record { k = k; n = 0; minima = record { b0 = 1; b = replicate 8 0 }; withdrawn = 0 }) d g ≡ openLeaves s k)
+    unfolding stored opening recordOf opened
+    opened-state {d} {g} f p q =
+        let w = open-done f in
+        (w .0, laid ∙ w .1)
+      where
+        far : d ≡ distancesOf (opened k) (s .distances)
+        far = p ∙ cleared-distances k (s .distances)
+
+        kinds : g ≡ settingsOf (opened k) (s .settings)
+        kinds = q ∙ cleared-settings k (s .settings)
+
+        laid : stateOf (record { k = k; n = 0; minima = record { b0 = 1; b = replicate 8 0 }; withdrawn = 0 }) d g ≡ stored (opening k) s
+        laid = λ i. record {
+          dataset = record { k = k; n = 0; minima = record { b0 = 1; b = replicate 8 0 }; withdrawn = 0 };
+          distances = far i;
+          settings = kinds i;
+        }
+
+-- ---- refused
+
+module _ (s : State) {a : Answer} {x : Refusal} (e : a ≡ Refused x) where
+  pub minima-stays : (M : Minima) → verdictOf a ≡ minimaAnswer s M → s ≡ minimaLeaves s M
+  unfolding minimaLeaves
+  minima-stays M f = stays (stored (settingMinima M (contentsOf s)) s) s e f
+
+  pub enter-stays : (setting : ℕ) (row : List ℕ) → verdictOf a ≡ enterAnswer s setting row → s ≡ enterLeaves s setting row
+  unfolding enterLeaves
+  enter-stays setting row f = stays (stored (entering setting row (contentsOf s)) s) s e f
+
+  pub withdraw-stays : (t : ℕ) → verdictOf a ≡ withdrawAnswer s t → s ≡ withdrawLeaves s t
+  unfolding withdrawLeaves
+  withdraw-stays t f = stays (stored (withdrawing t (contentsOf s)) s) s e f
+
+-- ---- Minima
+
+module _ (s : State) (M : Minima) (P : Passed s) where
+  minima-own : (v : Verdict) → firstOf (minimaReasons (studyOf s) M) ≡ v → v ≡ minimaAnswer s M
+  unfolding minimaAnswer contentsOf
+  minima-own v q = sym q ∙ held-own s (λ H. minimaReasons (H .study) M) (P .not-short) (P .tested)
+
+  pub minima-3 : validMinima (s .dataset .k) M ≡ false → (refused (number 3) ≡ minimaAnswer s M) × (s ≡ minimaLeaves s M)
+  unfolding minimaLeaves minimaReasons firstOf studyOf
+  minima-3 f =
+      let a = minima-own (refused (number 3)) (rw f) in
+      (a, ap (λ v. settled v (stored (settingMinima M (contentsOf s)) s) s) a)
+
+  -- the record with other minima, over the same memory
+  abbrev with-minima : State → State
+  with-minima t =
+      stateOf (record { k = t .dataset .k; n = t .dataset .n; minima = M; withdrawn = t .dataset .withdrawn }) (t .distances) (t .settings)
+
+  minima-laid : with-minima s ≡ stored (settingMinima M (contentsOf s)) s
+  unfolding stored recordOf settingMinima withMinima distancesOf settingsOf distance tide
+  minima-laid = sym (ap with-minima (own-layout s (P .dataset) (P .not-short)))
+
+  pub minima-done : validMinima (s .dataset .k) M ≡ true → (accepted ≡ minimaAnswer s M) × (with-minima s ≡ minimaLeaves s M)
+  unfolding minimaLeaves minimaReasons firstOf studyOf
+  minima-done f =
+      let a = minima-own accepted (rw f) in
+      (a, minima-laid ∙ ap (λ v. settled v (stored (settingMinima M (contentsOf s)) s) s) a)
+
+-- ---- Enter
+
+module _ (s : State) (setting : ℕ) (row : List ℕ) where
+  abbrev n : ℕ
+  n = s .dataset .n
+
+  abbrev S : Study
+  S = studyOf s
+
+  abbrev new : ℕ → ℕ
+  new i = getD row i 0
+
+  abbrev in-range : ℕ → Bool
+  in-range i = leb (getD row i 0) 1048575
+
+  module _ (P : Passed s) where
+    enter-own : (v : Verdict) → firstOf (enterReasons S setting row) ≡ v → v ≡ enterAnswer s setting row
+    unfolding enterAnswer contentsOf
+    enter-own v q = sym q ∙ held-own s (λ H. enterReasons (H .study) setting row) (P .not-short) (P .tested)
+
+    pub enter-22 : 120 ≤ n → refused (number 22) ≡ enterAnswer s setting row
+    unfolding enterReasons firstOf
+    enter-22 a = enter-own (refused (number 22)) (rw (le-leb 120 (size S) (omega (arith, study-size s))))
+
+    module _ (room : n < 120) where
+      past-22 : leb 120 (size S) ≡ false
+      past-22 = lt-leb 120 (size S) (omega (arith, study-size s))
+
+      pub enter-4 : (length row ≡ n → ⊥) → refused (number 4) ≡ enterAnswer s setting row
+      unfolding enterReasons firstOf
+      enter-4 f = enter-own (refused (number 4)) (rw (past-22, ne-eqb (length row) (size S) (λ e. f (e ∙ study-size s))))
+
+      module _ (long : length row ≡ n) where
+        past-4 : eqb (length row) (size S) ≡ true
+        past-4 = eq-eqb (length row) (size S) (long ∙ sym (study-size s))
+
+        pub enter-5 : between 1 (s .dataset .k) setting ≡ false → refused (number 5) ≡ enterAnswer s setting row
+        unfolding enterReasons firstOf studyOf
+        enter-5 f = enter-own (refused (number 5)) (rw (past-22, past-4, f))
+
+        module _ (kind : between 1 (s .dataset .k) setting ≡ true) where
+          pub enter-6 : every (length row) in-range ≡ false → refused (number 6) ≡ enterAnswer s setting row
+          unfolding enterReasons firstOf studyOf
+          enter-6 f = enter-own (refused (number 6)) (rw (past-22, past-4, kind, f))
+
+          module _ (row-fits : every (length row) in-range ≡ true) {r : Violation} (e : r ≡ violationOf (violations (cell (s .distances)) (length row) new)) where
+            abbrev broken : List Pair
+            broken = violations (distance S) (size S) new
+
+            -- the study's distances are those in memory
+            same : violationOf broken ≡ r
+            same =
+                ap (λ (k : ℕ). violationOf (violations (distance S) k new)) (study-size s ∙ sym long)
+                ∙ ap violationOf (violations-same (distance S) (cell (s .distances)) (length row) new new
+                (λ i j a b. study-distance s (P .dataset) i j (omega arith) (omega arith)) (λ i a. refl))
+                ∙ sym e
+
+            pub enter-7 : (i j : ℕ) → r ≡ Violations.Pair i j → refused (seven i j) ≡ enterAnswer s setting row
+            unfolding enterReasons firstOf studyOf
+            enter-7 i j q =
+                let f = found-pair broken i j (same ∙ q) in
+                enter-own (refused (seven i j)) (rw (past-22, past-4, kind, row-fits, f .0) (ap refused (f .1)))
+
+            pub enter-done : r ≡ Violations.Nothing → accepted ≡ enterAnswer s setting row
+            unfolding enterReasons firstOf studyOf
+            enter-done q = enter-own accepted (rw (past-22, past-4, kind, row-fits, found-nothing broken (same ∙ q)))
+
+  pub enter-accepted : {a : Answer} → a ≡ Done → verdictOf a ≡ enterAnswer s setting row → EnterAccepted s setting row
+  unfolding enterAnswer enterLeaves contentsOf
+  enter-accepted e f =
+      let q : accepted ≡ enterAnswer s setting row = sym (ap verdictOf e) ∙ f in
+      let h = accepted-held s (λ H. enterReasons (H .study) setting row) (sym q) in
+      let w = enters (studyOf s) setting row (h .reasons) in
+      record {
+        passed = passed-by s (h .not-short) (h .tested);
+        room = omega (arith, w .room, study-size s);
+        length-is = w .length-is ∙ study-size s;
+        leaves = ap (λ v. settled v (stored (entering setting row (contentsOf s)) s) s) q;
+      }
+
+  -- one tide more in the record, its row and column and its setting in memory
+  pub entered-state : {d g : List ℕ} → EnterAccepted s setting row → d ≡ withRow row (length row) (s .distances) → g ≡ set (s .settings) n setting
+      → stateOf (record { k = s .dataset .k; n = n + 1; minima = s .dataset .minima; withdrawn = s .dataset .withdrawn }) d g ≡ enterLeaves s setting row
+  unfolding stored recordOf contentsOf entering entered studyOf
+  entered-state {d} {g} A p q = laid ∙ A .leaves
+    where
+      count : n + 1 ≡ size (entered setting row S)
+      count = add-one n ∙ sym (entered-size setting row S ∙ ap suc (study-size s))
+
+      far : d ≡ distancesOf (entered setting row S) (s .distances)
+      far = p ∙ entered-distances s (A .passed .dataset) setting row (A .length-is) (A .room) (A .passed .long .distances)
+
+      kinds : g ≡ settingsOf (entered setting row S) (s .settings)
+      kinds = q ∙ entered-settings s (A .passed .dataset) setting row (A .length-is) (A .room) (A .passed .long .settings)
+
+      laid : stateOf (record { k = s .dataset .k; n = n + 1; minima = s .dataset .minima; withdrawn = s .dataset .withdrawn }) d g
+          ≡ stored (entering setting row (contentsOf s)) s
+      laid = λ i. record {
+        dataset = record { k = s .dataset .k; n = count i; minima = s .dataset .minima; withdrawn = s .dataset .withdrawn };
+        distances = far i;
+        settings = kinds i;
+      }
+
+-- ---- Withdraw
+
+module _ (s : State) (t : ℕ) where
+  module _ (P : Passed s) where
+    withdraw-own : (v : Verdict) → firstOf (withdrawReasons (contentsOf s) t) ≡ v → v ≡ withdrawAnswer s t
+    unfolding withdrawAnswer
+    withdraw-own v q = sym q ∙ held-own s (λ H. withdrawReasons H t) (P .not-short) (P .tested)
+
+    numbers : (b : Bool) → between 1 (s .dataset .n) t ≡ b → between 1 (size (studyOf s)) t ≡ b
+    numbers b e = ap (λ (z : ℕ). between 1 z t) (study-size s) ∙ e
+
+    pub withdraw-23 : between 1 (s .dataset .n) t ≡ false → refused (number 23) ≡ withdrawAnswer s t
+    unfolding withdrawReasons firstOf contentsOf
+    withdraw-23 e = withdraw-own (refused (number 23)) (rw (numbers false e))
+
+    module _ (held : between 1 (s .dataset .n) t ≡ true) where
+      pub withdraw-26 : 65535 ≤ s .dataset .withdrawn → refused (number 26) ≡ withdrawAnswer s t
+      unfolding withdrawReasons firstOf contentsOf
+      withdraw-26 h = withdraw-own (refused (number 26)) (rw (numbers true held, le-leb 65535 (s .dataset .withdrawn) h))
+
+      pub withdraw-done : s .dataset .withdrawn < 65535 → accepted ≡ withdrawAnswer s t
+      unfolding withdrawReasons firstOf contentsOf
+      withdraw-done h = withdraw-own accepted (rw (numbers true held, lt-leb 65535 (s .dataset .withdrawn) h))
+
+  pub withdraw-accepted : {a : Answer} → a ≡ Done → verdictOf a ≡ withdrawAnswer s t → WithdrawAccepted s t
+  unfolding withdrawAnswer withdrawLeaves contentsOf
+  withdraw-accepted e f =
+      let q : accepted ≡ withdrawAnswer s t = sym (ap verdictOf e) ∙ f in
+      let h = accepted-held s (λ H. withdrawReasons H t) (sym q) in
+      let w = withdraws (contentsOf s) t (h .reasons) in
+      record {
+        passed = passed-by s (h .not-short) (h .tested);
+        low = w .low;
+        high = omega (arith, w .high, study-size s);
+        countable = w .countable;
+        leaves = ap (λ v. settled v (stored (withdrawing t (contentsOf s)) s) s) q;
+      }
+
+  -- one tide fewer in the record and one withdrawal more, the later tides moved in memory
+  pub withdrawn-state : {d g : List ℕ} → WithdrawAccepted s t → d ≡ overwrite 14400 (movedDistance (s .distances) (t - 1)) (s .distances)
+      → g ≡ overwrite 120 (movedSetting (s .settings) (t - 1)) (s .settings)
+      → stateOf (record { k = s .dataset .k; n = s .dataset .n - 1; minima = s .dataset .minima; withdrawn = s .dataset .withdrawn + 1 }) d g
+      ≡ withdrawLeaves s t
+  unfolding stored recordOf contentsOf withdrawing withdrawn studyOf
+  withdrawn-state {d} {g} A p q = laid ∙ A .leaves
+    where
+      count : s .dataset .n - 1 ≡ size (withdrawn (t - 1) (studyOf s))
+      count = omega (arith, withdrawn-size (t - 1) (studyOf s) (omega (arith, A .low, A .high, study-size s)), study-size s)
+
+      far : d ≡ distancesOf (withdrawn (t - 1) (studyOf s)) (s .distances)
+      far = p ∙ withdrawn-distances s (A .passed .dataset) (t - 1)
+
+      kinds : g ≡ settingsOf (withdrawn (t - 1) (studyOf s)) (s .settings)
+      kinds = q ∙ withdrawn-settings s (A .passed .dataset) (t - 1)
+
+      laid : stateOf (record { k = s .dataset .k; n = s .dataset .n - 1; minima = s .dataset .minima; withdrawn = s .dataset .withdrawn + 1 }) d g
+          ≡ stored (withdrawing t (contentsOf s)) s
+      laid = λ i. record {
+        dataset = record { k = s .dataset .k; n = count i; minima = s .dataset .minima; withdrawn = s .dataset .withdrawn + 1 };
+        distances = far i;
+        settings = kinds i;
+      }

@@ -1,0 +1,33 @@
+-- Inner promises of the calls: what a call may rely on once it is accepted, or once short memory and 21 are past. Assumes nothing.
+use Prim.Native.Nat.{ℕ, _≤_, _<_}
+use mathlib.Core.Path.{_≡_}
+use mathlib.Core.Bool.{true, false}
+use mathlib.Core.List.{List}
+use lib.ListN.{length}
+use Rattle.study.specs.Limits.{maxTides, maxWithdrawals}
+use Rattle.study.specs.Calls.{entering, withdrawing}
+use Rattle.validity.specs.Memory.{State, short, isDataset, contentsOf, stored}
+use Rattle.dataset.specs.Answers.{enterLeaves, withdrawLeaves}
+use Rattle.validity.specs.Validity.{IsDataset, Long}
+
+-- what passes the tests of short memory and 21 is a dataset
+pub record Passed (s : State) : Type 0 where
+  pub not-short : short s ≡ false
+  pub tested : isDataset s ≡ true
+  pub dataset : IsDataset s
+  pub long : Long s
+
+-- what an accepted Enter tells
+pub record EnterAccepted (s : State) (setting : ℕ) (row : List ℕ) : Type 0 where
+  pub passed : Passed s
+  pub room : s .dataset .n < maxTides
+  pub length-is : length row ≡ s .dataset .n
+  pub leaves : stored (entering setting row (contentsOf s)) s ≡ enterLeaves s setting row
+
+-- what an accepted Withdraw tells
+pub record WithdrawAccepted (s : State) (t : ℕ) : Type 0 where
+  pub passed : Passed s
+  pub low : 1 ≤ t
+  pub high : t ≤ s .dataset .n
+  pub countable : s .dataset .withdrawn < maxWithdrawals
+  pub leaves : stored (withdrawing t (contentsOf s)) s ≡ withdrawLeaves s t

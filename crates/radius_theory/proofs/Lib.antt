@@ -1,0 +1,4 @@
+-- Laws, cited by the proofs of this crate and of those above it.
+pub mod ArrayLaws
+pub mod Gaps
+pub mod RadiiLaws

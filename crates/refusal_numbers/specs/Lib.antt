@@ -1,2 +1,0 @@
--- Statements: Numbers.
-pub mod Numbers

@@ -1,0 +1,22 @@
+-- The statement of specs/Cases.antt, by computation. Assumes nothing.
+use mathlib.Core.Path.{refl}
+use mathlib.Core.List.{flatMap, headD}
+use Rattle.lists.specs.Lists.{every, sumBelow, countBelow, greatest, tabulate}
+use Rattle.study.specs.Problem.{centresAmong, centres, centreOf, choices, block, labels, allSufficient, assignments, assignable}
+use Rattle.study.specs.Problem.{candidates, radius, blocking, diameter, greatestDiameter}
+use Rattle.study.specs.Study.{noTide, tide, distance, meets, sufficient, problem, validMinima}
+use Rattle.study.specs.Refusals.{firstOf}
+use Rattle.study.specs.Calls.{triangle, violations, blockReasons, figures, blockRecord}
+use Rattle.file_format.specs.Bits.{binary}
+use Rattle.file_format.specs.File.{bitLength, byteLength, tideAt, minimaAt, decoded, headReasons, tideReasons, readReasons}
+use Rattle.sheet_text.specs.Text.{digits, decimal, heading, line, lines, closing, refusedText}
+use Rattle.sheet_of_file.specs.Sheet.{sheetOf}
+use Rattle.sheet_of_file.specs.Cases.{Sheets}
+
+pub sheets : Sheets
+unfolding sheetOf readReasons headReasons tideReasons decoded minimaAt tideAt byteLength bitLength binary
+    triangle violations distance tide noTide validMinima every sumBelow tabulate flatMap firstOf blockReasons figures blockRecord
+    centresAmong centres centreOf choices block labels allSufficient assignments assignable candidates radius blocking
+    diameter greatestDiameter meets sufficient problem countBelow greatest headD
+    heading lines line closing refusedText decimal digits
+sheets = refl

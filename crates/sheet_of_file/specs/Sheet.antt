@@ -1,0 +1,29 @@
+-- The sheet that document 01 prints for given bytes, of the definitions of Read and Block alone. Assumes nothing.
+use Prim.Native.Nat.{ℕ}
+use mathlib.Core.List.{List, _++_}
+use Rattle.lists.specs.Lists.{tabulate}
+use Rattle.study.specs.Limits.{maxTides}
+use Rattle.study.specs.Study.{Contents}
+use Rattle.study.specs.Refusals.{Verdict, replied, firstOf}
+use Rattle.study.specs.Calls.{blockReasons, figures, blockRecord}
+use Rattle.file_format.specs.File.{decoded, readReasons}
+use Rattle.sheet_text.specs.Text.{sheetText}
+use Rattle.validity.specs.Memory.{State}
+use Rattle.blocking.specs.Answers.{blockReply, blockRecords}
+use Rattle.blocking.specs.Rows.{noRecords}
+
+-- accepted: the blocks of the study, and the withdrawals; otherwise the refusal
+abbrev pub printed : Verdict → Contents → List ℕ
+printed v H =
+    let F = figures (H .study) in
+    sheetText (replied v F) (tabulate (F .blocks) (blockRecord (H .study))) (H .withdrawals)
+
+-- Read's reasons come first, then Block's with room for 120 tides; the contents are what the fields hold
+unfoldable pub sheetOf : List ℕ → List ℕ
+sheetOf file =
+    let H = decoded file in
+    printed (firstOf (readReasons file ++ blockReasons (H .study) maxTides maxTides)) H
+
+-- what is printed of Block on a record and memory, with room for 120 tides
+unfoldable pub blockedText : State → List ℕ
+blockedText s = sheetText (blockReply s maxTides maxTides) (blockRecords s maxTides noRecords) (s .dataset .withdrawn)

@@ -1,0 +1,100 @@
+-- Read's answer and what it leaves, at each way out of the code. Assumes nothing.
+use Prim.Native.Nat.{ℕ, _≤_, _<_}
+use mathlib.Core.Path.{_≡_, refl, sym, ap, _∙_, subst}
+use mathlib.Core.Logic.{_⊎_, ⊎-elim}
+use mathlib.Core.Bool.{cond}
+use mathlib.Core.List.{List}
+use lib.ListN.{length, getD, replicate, length-replicate, getD-replicate, List·getD-eq-default}
+use Rattle.lists.specs.Lists.{overwrite}
+use Rattle.lists.proofs.Tests.{split}
+use Rattle.study.specs.declared.Dataset.{Dataset}
+use Rattle.study.specs.declared.Refusal.{Refusal}
+use Rattle.study.specs.declared.Answer.{Answer}
+use Rattle.study.specs.declared.Answer.the-variants.{Done, Refused}
+use Rattle.study.specs.Refusals.{number, Verdict, accepted, refused, settled, verdictOf, numbered, firstOf}
+use Rattle.file_format.specs.Bits.{bitsAt}
+use Rattle.file_format.specs.File.{decoded, headReasons, readReasons}
+use Rattle.file_format.proofs.DecodedLaws.{decoded-size}
+use Rattle.file_format.specs.Head.{Head}
+use Rattle.file_format.proofs.ReadLaws.{head-T, refused-head}
+use Rattle.validity.specs.Memory.{State, stateOf, recordOf, stored}
+use Rattle.dataset.specs.Answers.{freshAnswer}
+use Rattle.validity.proofs.LayoutLaws.{short-yes, short-no}
+use Rattle.study_file.specs.Answers.{readAnswer, readLeaves}
+use Rattle.study_file.specs.Loading.{Loaded, Reading}
+use Rattle.study_file.proofs.LoadingLaws.{loaded-none, loaded-accepted, copied-distances, copied-settings}
+
+-- ---- on the way
+
+count-is : (s : List ℕ) {r : Dataset} → r ≡ recordOf (decoded s) → r .n ≡ bitsAt s 8 7
+unfolding recordOf
+count-is s e = ap (λ (r : Dataset). r .n) e ∙ decoded-size s
+
+kinds-is : (s : List ℕ) {r : Dataset} → r ≡ recordOf (decoded s) → r .k ≡ bitsAt s 15 4
+unfolding recordOf decoded
+kinds-is s e = ap (λ (r : Dataset). r .k) e
+
+blank : (x n i : ℕ) → x ≡ 0 → getD (replicate n x) i 0 ≡ 0
+blank x n i e =
+    ⊎-elim (λ l. getD-replicate n i x 0 l ∙ e) (λ l. List·getD-eq-default (replicate n x) 0 (subst (λ z. z ≤ i) (sym (length-replicate n x)) l)) (split i n)
+
+-- where the reasons before any tide have passed
+module _ (s : List ℕ) {a : Answer} (verdict : verdictOf a ≡ firstOf (headReasons s)) (q : a ≡ Done) where
+  pub head-passed : Head s
+  head-passed = head-T s .0 (sym verdict ∙ ap verdictOf q)
+
+  pub tides-begin : {r : Dataset} → r ≡ recordOf (decoded s) → (matrix vector : List ℕ) → matrix ≡ replicate 14400 0 → vector ≡ replicate 120 0
+      → (r .k ≡ bitsAt s 15 4) × (r .n ≡ bitsAt s 8 7) × Loaded s 0 matrix vector
+  tides-begin e matrix vector x y = (
+    kinds-is s e,
+    count-is s e,
+    loaded-none s matrix vector head-passed (sym verdict ∙ ap verdictOf q)
+        (ap length x ∙ length-replicate {A = ℕ} 14400 0) (ap length y ∙ length-replicate {A = ℕ} 120 0)
+        (λ i. ap (λ (l : List ℕ). getD l i 0) x ∙ blank 0 14400 i refl) (λ i. ap (λ (l : List ℕ). getD l i 0) y ∙ blank 0 120 i refl),
+  )
+
+-- ---- the ways out
+
+module _ (σ : State) (file : List ℕ) where
+  by-verdict : (v : Verdict) → readAnswer σ file ≡ v → (v ≡ readAnswer σ file) × (settled v (stored (decoded file) σ) σ ≡ readLeaves σ file)
+  unfolding readLeaves
+  by-verdict v e = (sym e, ap (λ v. settled v (stored (decoded file) σ) σ) (sym e))
+
+  pub read-short : (length (σ .distances) < 14400) ⊎ (length (σ .settings) < 120) → (refused (number 1) ≡ readAnswer σ file) × (σ ≡ readLeaves σ file)
+  unfolding readAnswer freshAnswer
+  read-short o = by-verdict (refused (number 1)) (ap (λ b. cond b (refused (number 1)) (firstOf (readReasons file))) (short-yes σ o))
+
+  module _ (far : 14400 ≤ length (σ .distances)) (vector : 120 ≤ length (σ .settings)) where
+    own : readAnswer σ file ≡ firstOf (readReasons file)
+    unfolding readAnswer freshAnswer
+    own = ap (λ b. cond b (refused (number 1)) (firstOf (readReasons file))) (short-no σ far vector)
+
+    refuses : {a : Answer} {why : Refusal} → a ≡ Refused why → firstOf (readReasons file) ≡ refused (numbered why)
+        → (verdictOf a ≡ readAnswer σ file) × (σ ≡ readLeaves σ file)
+    refuses {a} {why} q f = let w = by-verdict (refused (numbered why)) (own ∙ f) in (ap verdictOf q ∙ w .0, w .1)
+
+    -- before any tide
+    pub read-head : {a : Answer} {why : Refusal} → verdictOf a ≡ firstOf (headReasons file) → a ≡ Refused why
+        → (verdictOf a ≡ readAnswer σ file) × (σ ≡ readLeaves σ file)
+    read-head {a} {why} e q = refuses q (refused-head file (sym e ∙ ap verdictOf q))
+
+    -- while a tide is read
+    pub read-tide : {a : Answer} {why : Refusal} (n : ℕ) (x y : List ℕ) → Reading file n a x y → a ≡ Refused why
+        → (verdictOf a ≡ readAnswer σ file) × (σ ≡ readLeaves σ file)
+    read-tide {a} {why} n x y r q = refuses q (r .stops why q)
+
+    pub read-done : {a : Answer} {r : Dataset} (x y : List ℕ) {d g : List ℕ} → Reading file (r .n) a x y → a ≡ Done → r ≡ recordOf (decoded file)
+        → d ≡ overwrite 14400 (λ (p : ℕ). getD x p 0) (σ .distances) → g ≡ overwrite 120 (λ (i : ℕ). getD y i 0) (σ .settings)
+        → (verdictOf a ≡ readAnswer σ file) × (stateOf r d g ≡ readLeaves σ file)
+    unfolding stored
+    read-done {a} {r} x y {d} {g} t q e f h =
+        let count : r .n ≡ bitsAt file 8 7 = count-is file e in
+        let L : Loaded file (bitsAt file 8 7) x y = subst (λ n. Loaded file n x y) count (t .goes q) in
+        let w = by-verdict accepted (own ∙ loaded-accepted file x y L) in (
+          ap verdictOf q ∙ w .0,
+          (λ i. record {
+            dataset = e i;
+            distances = (f ∙ copied-distances file x y L (σ .distances)) i;
+            settings = (h ∙ copied-settings file x y L (σ .settings)) i;
+          }) ∙ w .1,
+        )

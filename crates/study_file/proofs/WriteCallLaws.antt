@@ -1,0 +1,75 @@
+-- Write's answer and what it leaves, at each way out of the code. Assumes nothing.
+use Prim.Native.Nat.{ℕ, _≤_, _<_}
+use native.Mathlib.Omega.{arith}
+use mathlib.Core.Path.{_≡_, sym, ap, _∙_, subst}
+use mathlib.Core.Bool.{Bool, true, false, cond}
+use mathlib.Core.List.{List, [], _++_}
+use lib.Dec.{ltb, lt→ltb}
+use lib.Arith.{le→nltb}
+use lib.ListN.{length, drop}
+use Rattle.lists.proofs.Tests.{T-true, T-false}
+use Rattle.study.specs.declared.Refusal.{Refusal}
+use Rattle.study.specs.declared.Answer.{Answer}
+use Rattle.study.specs.declared.Answer.the-variants.{Refused}
+use Rattle.study.specs.Study.{Contents, size}
+use Rattle.study.specs.Refusals.{number, Verdict, accepted, refused, settled, value, refusal, replied, verdictOf, numbered, firstOf}
+use Rattle.file_format.specs.File.{fields, fileOf, byteLength}
+use Rattle.file_format.proofs.WrittenLaws.{file-length}
+use Rattle.validity.specs.Memory.{State, studyOf, contentsOf}
+use Rattle.dataset.specs.Answers.{heldAnswer}
+use Rattle.validity.proofs.ValidityLaws.{study-size, valid-contents}
+use Rattle.dataset.specs.Accepted.{Passed}
+use Rattle.dataset.proofs.AnswerLaws.{held-own, held-refused}
+use Rattle.study_file.specs.Answers.{writeReasons, writeAnswer, writeReply, writeLeaves}
+use Rattle.study_file.specs.Putting.{PutFields, Writable}
+use Rattle.study_file.proofs.PuttingLaws.{file-written}
+
+module _ (σ : State) (file : List ℕ) where
+  abbrev H : Contents
+  H = contentsOf σ
+
+  -- what an answer makes of reply and file
+  by-verdict : (v : Verdict) → writeAnswer σ (length file) ≡ v
+      → (replied v (length (fileOf (contentsOf σ))) ≡ writeReply σ (length file))
+      × (settled v (fileOf (contentsOf σ) ++ drop (length (fileOf (contentsOf σ))) file) file ≡ writeLeaves σ file)
+  unfolding writeReply writeLeaves
+  by-verdict v e = (
+    ap (λ v. replied v (length (fileOf H))) (sym e),
+    ap (λ v. settled v (fileOf H ++ drop (length (fileOf H)) file) file) (sym e),
+  )
+
+  -- short memory, or no dataset
+  pub write-refused : {a : Answer} {why : Refusal} → a ≡ Refused why → verdictOf a ≡ heldAnswer σ (λ _. [])
+      → (refusal (numbered why) ≡ writeReply σ (length file)) × (file ≡ writeLeaves σ file)
+  unfolding writeAnswer
+  write-refused {a} {why} e f =
+      by-verdict (refused (numbered why)) (sym (held-refused σ (λ H. writeReasons H (length file)) e f) ∙ ap verdictOf e)
+
+  module _ (P : Passed σ) where
+    size-is : length (fileOf H) ≡ byteLength (σ .dataset .k) (σ .dataset .n)
+    unfolding contentsOf studyOf
+    size-is = file-length H (valid-contents σ (P .dataset)) ∙ ap (byteLength (σ .dataset .k)) (study-size σ)
+
+    own : (b : Bool) → ltb (length file) (length (fileOf H)) ≡ b → writeAnswer σ (length file) ≡ cond b (refused (number 1)) accepted
+    unfolding writeAnswer writeReasons firstOf
+    own b e =
+        sym (held-own σ (λ H. writeReasons H (length file)) (P .not-short) (P .tested))
+        ∙ ap (λ b. cond b (refused (number 1)) accepted) e
+
+    pub write-short : (size : ℕ) → size ≡ byteLength (σ .dataset .k) (σ .dataset .n) → length file < size
+        → (refusal (number 1) ≡ writeReply σ (length file)) × (file ≡ writeLeaves σ file)
+    write-short size e l = by-verdict (refused (number 1)) (own true (T-true _ (lt→ltb _ _ (subst (λ n. length file < n) (e ∙ sym size-is) l))))
+
+    -- there is room
+    module _ (size : ℕ) (e : size ≡ byteLength (σ .dataset .k) (σ .dataset .n)) (room : size ≤ length file) where
+      pub writable : Writable σ file
+      unfolding byteLength
+      writable = record { dataset = P .dataset; long = P .long; room = omega (arith, e, room) }
+
+      pub write-done : {new : List ℕ} → PutFields file 0 (fields (contentsOf σ)) new
+          → (value size ≡ writeReply σ (length file)) × (new ≡ writeLeaves σ file)
+      write-done {new} a =
+          let w = by-verdict accepted (own false (T-false _ (le→nltb _ _ (subst (λ n. n ≤ length file) (e ∙ sym size-is) room)))) in (
+            ap value (e ∙ sym size-is) ∙ w .0,
+            file-written H file a ∙ w .1,
+          )

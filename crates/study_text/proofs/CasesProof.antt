@@ -1,0 +1,31 @@
+-- The statements of specs/Cases.antt, by computation. Assumes nothing.
+use mathlib.Core.Path.{refl}
+use mathlib.Core.List.{flatMap}
+use Rattle.lists.specs.Lists.{every, sumBelow, tabulate}
+use Rattle.study.specs.Study.{noTide, tide, distance, validMinima}
+use Rattle.study.specs.Refusals.{firstOf}
+use Rattle.study.specs.Calls.{openReasons, opened, opening, minimaReasons, withMinima, settingMinima}
+use Rattle.study.specs.Calls.{triangle, violations, enterReasons, entered, entering}
+use Rattle.file_format.specs.Bits.{binary, allBits, pack, packed}
+use Rattle.file_format.specs.File.{tideFields, fields, fileOf}
+use Rattle.study_text.specs.Words.{newlines, endsWord, begins, commentAfter, past, startOf, wordOf}
+use Rattle.study_text.specs.Words.{digit, withDigit, valueFrom, numeralOf, wordAt, nextOf}
+use Rattle.study_text.specs.Packing.{numberOf, numbersOf, minimaFrom, openingOf, minimaOf, headOf, tideOf}
+use Rattle.study_text.specs.Packing.{turnOf, turnsOf, textOf, packAnswer, packLeaves}
+use Rattle.study_text.specs.Cases.{cases, WorkedCases, OneTide}
+
+pub worked-cases : WorkedCases
+unfolding cases packAnswer textOf turnsOf turnOf tideOf headOf minimaOf openingOf minimaFrom numbersOf numberOf
+    nextOf wordAt numeralOf valueFrom withDigit digit wordOf startOf past commentAfter begins endsWord newlines
+    openReasons opening opened minimaReasons settingMinima withMinima validMinima enterReasons entering entered
+    violations triangle distance tide noTide firstOf every sumBelow tabulate flatMap
+    fileOf fields tideFields packed pack allBits binary
+worked-cases = refl
+
+pub one-tide : OneTide
+unfolding packLeaves textOf turnsOf turnOf tideOf headOf minimaOf openingOf minimaFrom numbersOf numberOf
+    nextOf wordAt numeralOf valueFrom withDigit digit wordOf startOf past commentAfter begins endsWord newlines
+    openReasons opening opened minimaReasons settingMinima withMinima validMinima enterReasons entering entered
+    violations triangle distance tide noTide firstOf every sumBelow tabulate flatMap
+    fileOf fields tideFields packed pack allBits binary
+one-tide = refl

@@ -1,0 +1,226 @@
+-- Turn after turn to the text's end. Assumes nothing.
+use Prim.Native.Nat.{ℕ, zero, suc, _+_, _-_}
+use native.Mathlib.Nat.{zero-add, suc-add}
+use native.Mathlib.Omega.{arith}
+use mathlib.Core.Path.{_≡_, refl, sym, ap, _∙_, subst}
+use mathlib.Core.List.{List}
+use Rattle.study.specs.declared.Dataset.{Dataset}
+use Rattle.study.specs.Study.{Contents, size}
+use Rattle.study.specs.Refusals.{Verdict, accepted, refused, firstOf}
+use Rattle.study.specs.Calls.{openReasons, opened, opening, minimaReasons, withMinima, settingMinima, enterReasons, entering}
+use Rattle.study.proofs.CallLaws.{entered-size}
+use Rattle.validity.specs.Memory.{State, stateOf, contentsOf}
+use Rattle.validity.proofs.ValidityLaws.{study-size}
+use Rattle.dataset.specs.Accepted.{Passed}
+use Rattle.study_text.specs.declared.Packed.{Packed}
+use Rattle.study_text.specs.declared.words.Cursor.{Cursor}
+use Rattle.study_text.specs.declared.words.Word.{Word}
+use Rattle.study_text.specs.declared.words.Word.the-variants as Next
+use Rattle.study_text.specs.declared.calls.Over.{Over}
+use Rattle.study_text.specs.declared.calls.Over.the-variants as Last
+use Rattle.study_text.specs.declared.calls.Step.the-variants as Went
+use Rattle.study_text.specs.declared.calls.Reached.{Reached}
+use Rattle.study_text.specs.Words.{nextOf, CursorWithin}
+use Rattle.study_text.specs.Packing.{reportOf, Got, got, stop, numberOf, numbersOf, onward, called, minimaFrom, openingOf, minimaOf, headOf, tideOf, Turn, going, ended, stopped, entered, turnFrom, turnOf, further, turnsOf, textOf}
+use Rattle.study_text.specs.Reached.{overIs, stepIs, reachedOf, Reaches, Begins, Finishes, stoppedAt}
+
+-- ---- one turn
+
+module _ (text : List ℕ) (c : Cursor) {w : Word} (e : w ≡ nextOf text c) where
+  turn-is : (H : Contents) {v : Word} → w ≡ v → turnFrom text H v ≡ turnOf text H c
+  unfolding turnOf
+  turn-is H h = ap (turnFrom text H) (sym h ∙ e)
+
+  pub turn-goes : (H : Contents) {x : ℕ} {f : Cursor} {r : Reached} {d s : List ℕ} → w ≡ Next.Number x f → Reaches text r d s (entered (tideOf text H x f))
+      → Reaches text r d s (turnOf text H c)
+  turn-goes H h R = record { is = R .is ∙ turn-is H h; alive = R .alive }
+
+  module _ {r : Dataset} {d s : List ℕ} (W : CursorWithin text c) (P : Passed (stateOf r d s)) where
+    pub turn-ends : {l : ℕ} → w ≡ Next.End l
+        → Reaches text (record { step = Went.Over (Last.End l); dataset = r; cursor = c }) d s (turnOf text (contentsOf (stateOf r d s)) c)
+    turn-ends h = record { is = turn-is (contentsOf (stateOf r d s)) h; alive = record { passed = P; within = W } }
+
+    pub turn-stops : {v : Word} {p : Packed} {q : Reached} → w ≡ v → stopped (reportOf p) ≡ turnFrom text (contentsOf (stateOf r d s)) v → q ≡ stoppedAt p r c
+        → Reaches text q d s (turnOf text (contentsOf (stateOf r d s)) c)
+    turn-stops h f k =
+        subst (λ q. Reaches text q d s (turnOf text (contentsOf (stateOf r d s)) c)) (sym k)
+        (record { is = f ∙ turn-is (contentsOf (stateOf r d s)) h; alive = record { passed = P; within = W } })
+
+-- ---- each turn brings one tide
+
+called-got : (Q : Contents → Type 0) (v : Verdict) (H : Contents) (c : Cursor) {K : Contents} {d : Cursor} → Q H → called v H c ≡ got K d → Q K
+called-got Q accepted H c {K} q e = let h : H ≡ K = cc in subst Q h q
+called-got Q (refused r) H c q e = absurd (let z : _≡_ {A = ℕ} 0 1 = cc in omega arith)
+
+entered-got : (g : Got Contents) {H : Contents} {c : Cursor} → entered g ≡ going H c → g ≡ got H c
+entered-got (got K d) e = cc
+entered-got (stop t) e = absurd (let z : _≡_ {A = ℕ} 0 1 = cc in omega arith)
+
+onward-got : {A : Type 0} (Q : Contents → Type 0) (g : Got A) (f : A → Cursor → Got Contents) {K : Contents} {d : Cursor}
+    → ((x : A) (c : Cursor) → g ≡ got x c → f x c ≡ got K d → Q K) → onward g f ≡ got K d → Q K
+onward-got Q (got x c) f q e = q x c refl e
+onward-got Q (stop t) f q e = absurd (let z : _≡_ {A = ℕ} 0 1 = cc in omega arith)
+
+tide-size : (text : List ℕ) (H : Contents) (x : ℕ) (c : Cursor) {K : Contents} {d : Cursor} → tideOf text H x c ≡ got K d
+    → size (K .study) ≡ suc (size (H .study))
+unfolding tideOf entering
+tide-size text H x c =
+    onward-got Q (numbersOf text (size (H .study)) c) (λ row e. called (firstOf (enterReasons (H .study) x row)) (entering x row H) e)
+    (λ row e h. called-got Q (firstOf (enterReasons (H .study) x row)) (entering x row H) e (entered-size x row (H .study)))
+  where
+    Q : Contents → Type 0
+    Q K = size (K .study) ≡ suc (size (H .study))
+
+turn-size : (text : List ℕ) (H : Contents) (c : Cursor) {K : Contents} {d : Cursor} → turnOf text H c ≡ going K d → size (K .study) ≡ suc (size (H .study))
+unfolding turnOf
+turn-size text H c {K} {d} = by (nextOf text c)
+  where
+    by : (w : Word) → turnFrom text H w ≡ going K d → size (K .study) ≡ suc (size (H .study))
+    by (Next.Number x e) h = tide-size text H x e (entered-got (tideOf text H x e) h)
+    by (Next.End l) h = absurd (let z : _≡_ {A = ℕ} 0 1 = cc in omega arith)
+    by (Next.Bad l) h = absurd (let z : _≡_ {A = ℕ} 0 1 = cc in omega arith)
+    by (Next.TooLarge l) h = absurd (let z : _≡_ {A = ℕ} 0 1 = cc in omega arith)
+
+abbrev Empty : Contents → Type 0
+Empty K = size (K .study) ≡ 0
+
+opening-empty : (text : List ℕ) (c : Cursor) {K : Contents} {d : Cursor} → openingOf text c ≡ got K d → Empty K
+unfolding openingOf opening opened
+opening-empty text c =
+    onward-got Empty (numberOf text c) (λ k d. called (firstOf (openReasons k)) (opening k) d)
+    (λ k d h. called-got Empty (firstOf (openReasons k)) (opening k) d refl)
+
+minima-empty : (text : List ℕ) (H : Contents) (c : Cursor) {K : Contents} {d : Cursor} → Empty H → minimaOf text H c ≡ got K d → Empty K
+unfolding minimaOf settingMinima withMinima
+minima-empty text H c h =
+    onward-got Empty (numbersOf text (suc (H .study .k)) c)
+    (λ xs d. called (firstOf (minimaReasons (H .study) (minimaFrom xs))) (settingMinima (minimaFrom xs) H) d)
+    (λ xs d g. called-got Empty (firstOf (minimaReasons (H .study) (minimaFrom xs))) (settingMinima (minimaFrom xs) H) d h)
+
+head-empty : (text : List ℕ) {K : Contents} {d : Cursor} → headOf text ≡ got K d → Empty K
+unfolding headOf
+head-empty text =
+    onward-got Empty (openingOf text (record { at = 0; line = 1 })) (minimaOf text)
+    (λ H c h. minima-empty text H c (opening-empty text (record { at = 0; line = 1 }) h))
+
+-- ---- the head
+
+over-stop : (g : Got Contents) (o : Over) (H : Contents) (f : Contents → Cursor → Got Contents) → overIs o H ≡ entered g → entered g ≡ entered (onward g f)
+over-stop (stop t) o H f e = refl
+over-stop (got K c) (Last.End l) H f e = absurd (let z : _≡_ {A = ℕ} 0 1 = cc in omega arith)
+over-stop (got K c) (Last.Stopped p) H f e = absurd (let z : _≡_ {A = ℕ} 0 1 = cc in omega arith)
+
+module _ {text : List ℕ} {r : Reached} {d s : List ℕ} where
+  -- where it stops
+  begins-over : {g : Got Contents} {o : Over} → Begins text r d s g → r .step ≡ Went.Over o → overIs o (contentsOf (stateOf (r .dataset) d s)) ≡ entered g
+  begins-over B h = sym (ap (λ t. stepIs t (contentsOf (stateOf (r .dataset) d s)) (r .cursor)) h) ∙ B .is
+
+  -- what goes on
+  begins-got : (g : Got Contents) → Begins text r d s g → r .step ≡ Went.Going → g ≡ got (contentsOf (stateOf (r .dataset) d s)) (r .cursor)
+  begins-got g B h = entered-got g (sym (B .is) ∙ ap (λ t. stepIs t (contentsOf (stateOf (r .dataset) d s)) (r .cursor)) h)
+
+  pub head-stops : {o : Over} → Begins text r d s (openingOf text (record { at = 0; line = 1 })) → r .step ≡ Went.Over o → Begins text r d s (headOf text)
+  unfolding headOf
+  head-stops {o} B h =
+      record {
+        is = B .is ∙ over-stop (openingOf text (record { at = 0; line = 1 })) o (contentsOf (stateOf (r .dataset) d s)) (minimaOf text) (begins-over B h);
+        alive = λ k. absurd (let z : _≡_ {A = ℕ} 0 1 = cc in omega arith);
+      }
+
+  pub head-goes : {q : Reached} → Begins text r d s (openingOf text (record { at = 0; line = 1 })) → r .step ≡ Went.Going
+      → Reaches text q d s (entered (minimaOf text (contentsOf (stateOf (r .dataset) d s)) (r .cursor))) → Begins text q d s (headOf text)
+  unfolding headOf
+  head-goes {q} B h R =
+      record {
+        is = R .is ∙ sym (ap (λ g. entered (onward g (minimaOf text))) (begins-got (openingOf text (record { at = 0; line = 1 })) B h));
+        alive = λ k. R .alive;
+      }
+
+-- ---- turn after turn
+
+-- no more turns after the end
+turns-over : (text : List ℕ) (t : Turn) (o : Over) (H : Contents) (m n : ℕ) → overIs o H ≡ turnsOf text m t → overIs o H ≡ turnsOf text (n + m) t
+unfolding turnsOf
+turns-over text t o H m zero e = e ∙ ap (λ k. turnsOf text k t) (sym (zero-add m))
+turns-over text t o H m (suc n) e =
+    still o ∙ ap (λ u. further u (turnOf text)) (turns-over text t o H m n e) ∙ ap (λ k. turnsOf text k t) (sym (suc-add n m))
+  where
+    still : (o : Over) → overIs o H ≡ further (overIs o H) (turnOf text)
+    still (Last.End l) = refl
+    still (Last.Stopped p) = refl
+
+pub record Midway (text : List ℕ) (r : Dataset) (d s : List ℕ) (c : Cursor) : Type 0 where
+  pub within : CursorWithin text c
+  pub passed : Passed (stateOf r d s)
+  pub turns : turnsOf text (r .n) (entered (headOf text)) ≡ going (contentsOf (stateOf r d s)) c
+
+contents-size : (s : State) → size (contentsOf s .study) ≡ s .dataset .n
+unfolding contentsOf
+contents-size s = study-size s
+
+module _ {text : List ℕ} {q : Dataset} {d s : List ℕ} {c : Cursor} {r : Reached} {e g : List ℕ} (M : Midway text q d s c)
+    (R : Reaches text r e g (turnOf text (contentsOf (stateOf q d s)) c)) where
+  next-turn : turnsOf text (suc (q .n)) (entered (headOf text)) ≡ reachedOf r e g
+  unfolding turnsOf
+  next-turn = ap (λ t. further t (turnOf text)) (M .turns) ∙ sym (R .is)
+
+  reached-going : r .step ≡ Went.Going → reachedOf r e g ≡ going (contentsOf (stateOf (r .dataset) e g)) (r .cursor)
+  reached-going h = ap (λ t. stepIs t (contentsOf (stateOf (r .dataset) e g)) (r .cursor)) h
+
+  pub midway-size : r .step ≡ Went.Going → r .dataset .n ≡ q .n + 1
+  midway-size h =
+      omega (
+        arith,
+        contents-size (stateOf (r .dataset) e g),
+        contents-size (stateOf q d s),
+        turn-size text (contentsOf (stateOf q d s)) c (sym (R .is) ∙ reached-going h),
+      )
+
+  pub midway-more : r .step ≡ Went.Going → Midway text (r .dataset) e g (r .cursor)
+  midway-more h =
+      let n : r .dataset .n ≡ suc (q .n) = omega (arith, midway-size h) in
+      record {
+        within = R .alive .within;
+        passed = R .alive .passed;
+        turns = ap (λ k. turnsOf text k (entered (headOf text))) n ∙ next-turn ∙ reached-going h;
+      }
+
+  pub midway-ends : {o : Over} → r .step ≡ Went.Over o → Finishes (record { over = o; dataset = r .dataset }) e g (textOf text)
+  unfolding textOf
+  midway-ends {o} h =
+      let H = contentsOf (stateOf (r .dataset) e g) in
+      let most : 120 - q .n + suc (q .n) ≡ 121 = omega (arith, M .passed .dataset .few) in
+      record {
+        is = turns-over text (entered (headOf text)) o H (suc (q .n)) (120 - q .n) (sym (next-turn ∙ ap (λ t. stepIs t H (r .cursor)) h))
+            ∙ ap (λ k. turnsOf text k (entered (headOf text))) most;
+        live = λ l k. R .alive .passed;
+      }
+
+-- ---- the whole text
+
+-- the head has no end of the text
+head-lasts : (g : Got Contents) (l : ℕ) (H : Contents) → ended H l ≡ entered g → ⊥
+head-lasts (got K c) l H e = let z : _≡_ {A = ℕ} 0 1 = cc in omega arith
+head-lasts (stop t) l H e = let z : _≡_ {A = ℕ} 0 1 = cc in omega arith
+
+module _ {text : List ℕ} {r : Reached} {d s : List ℕ} (B : Begins text r d s (headOf text)) where
+  pub text-begins : r .step ≡ Went.Going → Midway text (r .dataset) d s (r .cursor)
+  unfolding turnsOf
+  text-begins h =
+      let n : 0 ≡ r .dataset .n = sym (head-empty text (begins-got (headOf text) B h)) ∙ contents-size (stateOf (r .dataset) d s) in
+      record {
+        within = B .alive h .within;
+        passed = B .alive h .passed;
+        turns = ap (λ k. turnsOf text k (entered (headOf text))) (sym n) ∙ sym (B .is)
+            ∙ ap (λ t. stepIs t (contentsOf (stateOf (r .dataset) d s)) (r .cursor)) h;
+      }
+
+  pub text-stops : {o : Over} → r .step ≡ Went.Over o → Finishes (record { over = o; dataset = r .dataset }) d s (textOf text)
+  unfolding textOf turnsOf
+  text-stops {o} h =
+      record {
+        is = turns-over text (entered (headOf text)) o (contentsOf (stateOf (r .dataset) d s)) 0 121 (begins-over B h);
+        live = λ l k.
+            let H = contentsOf (stateOf (r .dataset) d s) in
+            absurd (head-lasts (headOf text) l H (sym (ap (λ p. overIs p H) k) ∙ begins-over B h));
+      }

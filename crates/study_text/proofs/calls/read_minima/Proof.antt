@@ -1,0 +1,51 @@
+-- `read_minima` meets its contract: too few numbers stop; with all of them, what Minima answers. Assumes nothing.
+use native.Mathlib.Omega.{arith}
+use mathlib.Core.Path.{sym}
+use lib.Seq.{length-take-le}
+use lib.ListN.{replicate}
+use Prim.Native.Nat.{_+_}
+use Rattle.study_text.proofs.CallLaws.{minima-stops, minima-goes}
+use borrow.Author.Needs.{needs}
+use Rattle.study_text.proofs.calls.read_minima.Statement.{statement}
+use Rattle.study_text.proofs.calls.read_minima.Tie as tie
+
+slice-aggregate-read-row : tie.Need-slice-aggregate-read-row
+slice-aggregate-read-row c =
+    let start = c .before .before .before .before .before in
+    sym (length-take-le (start .args .dataset .k + 1) (replicate 9 0) (omega (arith, start .pre .1 .dataset .k-high)))
+
+returns : tie.Need-returns
+returns c =
+    let k = c .before .before .before .before .before in
+    let start = k .before .before .before .before .before .before in
+    minima-stops (start .pre .0) (start .pre .1) (k .read-row .last .1 .1 .0) (k .read-row .ensures)
+    (length-take-le (start .args .dataset .k + 1) (replicate 9 0) (omega (arith, start .pre .1 .dataset .k-high))) (c .before .before .row .given .1)
+    (c .stopped .ensures)
+
+returns-2 : tie.Need-returns-2
+returns-2 c =
+    let k = c .before .before .before .before in
+    let h = k .before .before .before in
+    let start = h .before .before .before .before .before .before in
+    minima-goes (start .pre .0) (start .pre .1) (h .read-row .last .1 .1 .0) (start .args .dataset .k + 1) (c .before .set-minima .result)
+    (h .read-row .ensures) (length-take-le (start .args .dataset .k + 1) (replicate 9 0) (omega (arith, start .pre .1 .dataset .k-high)))
+    (k .row2 .given .1) (c .before .before .minima-of .ensures) (c .before .set-minima .ensures .0) (c .before .set-minima .ensures .1)
+    (c .called .ensures)
+
+pub read-minima-spec : {M : Type 1} → statement M
+read-minima-spec =
+    tie.close
+    (tie.spec
+    (λ c. search needs)
+    (λ c. search needs)
+    (λ c. search needs)
+    slice-aggregate-read-row
+    (λ c κs. search needs)
+    (λ c. search needs)
+    (λ c κs. search needs)
+    (λ c. search needs)
+    (λ c κs. search needs)
+    (λ c κs. search needs)
+    (λ c κs. search needs)
+    returns
+    returns-2)

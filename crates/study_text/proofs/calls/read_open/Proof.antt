@@ -1,0 +1,42 @@
+-- `read_open` meets its contract: no number stops; with k, what Open answers. Assumes nothing.
+use Rattle.study.specs.declared.Dataset.{Dataset}
+use Rattle.validity.proofs.LayoutLaws.{short-no}
+use Rattle.validity.specs.Memory.{stateOf}
+use lib.ListN.{replicate}
+use Rattle.study_text.proofs.CallLaws.{open-stops, open-goes}
+use borrow.Author.Needs.{needs}
+use Rattle.study_text.proofs.calls.read_open.Statement.{statement}
+use Rattle.study_text.proofs.calls.read_open.Tie as tie
+
+returns : tie.Need-returns
+returns c =
+    let k = c .before .before .before .before in
+    let start = k .before .before .before .before in
+    open-stops (start .args .from) (k .number .ensures) _ _ (c .before .before .given .given .1) (c .stopped .ensures)
+
+returns-2 : tie.Need-returns-2
+returns-2 c =
+    let k = c .before .before .before .before .before in
+    let h = k .before .before .before .before .before in
+    let start = h .before .before .before .before .before .before in
+    let blank : Dataset = record { k = 1; n = 0; minima = record { b0 = 1; b = replicate 8 0 }; withdrawn = 0 } in
+    let s = stateOf blank (start .args .distances .now) (start .args .settings .now) in
+    open-goes (start .args .from) (h .before .before .number .ensures) s (k .«open» .result) _ _ (h .given2 .given .1) (start .pre .0)
+    (short-no s (start .pre .1 .0) (start .pre .1 .1)) (k .before .narrow .ensures) (k .«open» .ensures .0) (k .«open» .ensures .1)
+    (c .called .ensures)
+
+pub read-open-spec : {M : Type 1} → statement M
+read-open-spec =
+    tie.close
+    (tie.spec
+    (λ c κs. search needs)
+    (λ c. search needs)
+    (λ c κs. search needs)
+    (λ c. search needs)
+    (λ c κs. search needs)
+    (λ c κs. search needs)
+    (λ c κs. search needs)
+    returns
+    (λ c. search needs)
+    (λ c. search needs)
+    returns-2)

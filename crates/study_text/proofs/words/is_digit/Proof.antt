@@ -1,0 +1,16 @@
+-- `is_digit` meets its contract: 48 to 57. Assumes nothing.
+use Rattle.study_text.specs.Words.{digit}
+use borrow.Author.Tests.{le-leb, lt-leb}
+use Rattle.study_text.proofs.words.is_digit.Statement.{statement}
+use Rattle.study_text.proofs.words.is_digit.Tie as tie
+
+returns : tie.Need-returns
+unfolding digit
+returns c = rw (lt-leb 48 _ (c .if1 .taken))
+
+returns-2 : tie.Need-returns-2
+unfolding digit
+returns-2 c = rw (le-leb 48 _ (c .if1 .left))
+
+pub is-digit-spec : {M : Type 1} → statement M
+is-digit-spec = tie.close (tie.spec returns returns-2)

@@ -1,0 +1,69 @@
+-- `skip` meets its contract: the loop's invariant: from here the next word begins where it begins from the start. Assumes nothing.
+use borrow.Author.Needs.{needs}
+use native.Mathlib.Omega.{arith}
+use lib.ListN.{length, drop, getD}
+use mathlib.Core.Path.{_≡_, refl, sym, _∙_}
+use Prim.Native.Nat.{_+_, _-_, _≤_}
+use Rattle.study_text.specs.Words.{startOf}
+use Rattle.study_text.proofs.WordLaws.{newline-small, start-goes, start-here, start-end}
+use Rattle.study_text.proofs.words.skip.Statement.{statement}
+use Rattle.study_text.proofs.words.skip.Tie as tie
+
+abbrev Inv-loop : tie.InvT-loop
+Inv-loop text at₀ line₀ comment₀ at line comment =
+    (at ≤ length text) × (line ≤ at + 1) × (length text ≤ 131072)
+    × (startOf comment (record { at = at; line = line }) (drop at text) ≡ startOf comment₀ (record { at = at₀; line = line₀ }) (drop at₀ text))
+
+abbrev μ-loop : tie.MeasureT-loop
+μ-loop text at₀ line₀ comment₀ at line comment = length text - at
+
+loop-holds : tie.Need-loop-holds Inv-loop μ-loop
+loop-holds c = let w = c .before .pre in (w .inside, w .line-low, w .short, refl)
+
+returns : tie.Need-returns Inv-loop μ-loop
+returns c =
+    let k = c .before .before .before .before in
+    start-here (k .before .before .args .text .now) (k .loop .comment) (k .loop .at) (k .loop .line) (c .before .before .before .loop-test .taken)
+    (sym (c .before .begins .ensures) ∙ c .if1 .taken) (k .loop .inv .3)
+
+add-line : tie.Need-add-line Inv-loop μ-loop
+add-line c =
+    let k = c .before .before .before .before .before .before in
+    omega (arith, newline-small (getD (k .before .before .args .text .now) (k .loop .at) 0))
+
+loop-again : tie.Need-loop-again Inv-loop μ-loop
+loop-again c =
+    let k = c .before .before .before .before .before in
+    let h = k .before in
+    let start = h .before .before in
+    let small = newline-small (getD (start .args .text .now) (h .loop .at) 0) in (
+      omega arith,
+      omega arith,
+      h .loop .inv .2,
+      start-goes (start .args .text .now) (h .loop .comment) (h .loop .at) (h .loop .line)
+          (k .loop-test .taken) (sym (c .before .before .before .begins .ensures) ∙ c .before .before .if1 .left) (c .before .comment-after .ensures)
+          (c .newline .ensures) (h .loop .inv .3),
+    )
+
+returns-2 : tie.Need-returns-2 Inv-loop μ-loop
+returns-2 c =
+    start-end (c .before .before .before .args .text .now) (c .before .loop .comment) (c .before .loop .at) (c .before .loop .line) (omega arith)
+    (c .before .loop .inv .3)
+
+pub skip-spec : {M : Type 1} → statement M
+skip-spec =
+    tie.close
+    (tie.spec
+    Inv-loop
+    μ-loop
+    loop-holds
+    (λ c. omega arith)
+    (λ c κs. search needs)
+    returns
+    (λ c κs. search needs)
+    (λ c κs. search needs)
+    add-line
+    (λ c. omega arith)
+    (λ c. omega arith)
+    loop-again
+    returns-2)

@@ -1,0 +1,49 @@
+-- Texts and what is said of them. There are no proofs here: CasesProof.antt proves both statements, by computation. Assumes nothing.
+use Prim.Native.String.{String}
+use mathlib.Core.Path.{_≡_}
+use mathlib.Core.List.{List, [], _∷_, map}
+use lib.ListN.{replicate}
+use Rattle.study.specs.Refusals.{number, seven}
+use Rattle.sheet_text.specs.Text.{ascii}
+use Rattle.study_text.specs.Packing.{Report, done, refusedAt, notNumber, tooLarge, missing, packAnswer, packLeaves}
+
+pub record TextCase : Type 0 where
+  pub text : String
+  pub report : Report
+
+infix 10 _gives_
+abbrev pub _gives_ : String → Report → TextCase
+t gives a = record { text = t; report = a }
+
+-- lent 8 bytes
+unfoldable pub cases : List TextCase
+cases =
+    -- no tide, and one
+    ("1\n1 0\n" gives done 7)
+    ∷ ("1 # settings\n1 0\t#\r\n1#" gives done 7)
+    -- what is no number, too large, missing
+    ∷ ("1\n1 0\n1\n1 x\n" gives notNumber 4)
+    ∷ ("1\n1 0\n1\n1 4294967296x\n" gives notNumber 4)
+    ∷ ("1\n1 0\n1\n1 4294967296\n" gives tooLarge 4)
+    ∷ ("1\n1 0\n1\n1 4294967295\n" gives refusedAt 4 (number 6))
+    ∷ ("" gives missing 1)
+    ∷ ("1\n1" gives missing 2)
+    ∷ ("1\n1 0\n1\n1\n" gives missing 5)
+    -- refused; numbers above 255 too
+    ∷ ("9" gives refusedAt 1 (number 2))
+    ∷ ("257" gives refusedAt 1 (number 2))
+    ∷ ("1\n257 0" gives refusedAt 2 (number 3))
+    ∷ ("1\n1\n257" gives refusedAt 3 (number 3))
+    ∷ ("1\n1 0\n257" gives refusedAt 3 (number 5))
+    ∷ ("1 1 0\n1\n1 3\n1 1\n1\n" gives refusedAt 5 (seven 1 2))
+    -- no room for the file
+    ∷ ("1 1 0\n1\n1 3\n" gives refusedAt 4 (number 1))
+    ∷ []
+
+-- of each text is said what stands beside it
+abbrev pub WorkedCases : Type 0
+WorkedCases = map (λ (c : TextCase). packAnswer (ascii (c .text)) 8) cases ≡ map (λ (c : TextCase). c .report) cases
+
+-- the file of one tide, and a byte past it
+abbrev pub OneTide : Type 0
+OneTide = packLeaves (ascii "1 1 0 1\n") (replicate 8 170) ≡ 0x54 ∷ 0x02 ∷ 0x20 ∷ 0x40 ∷ 0x00 ∷ 0x00 ∷ 0x00 ∷ 170 ∷ []

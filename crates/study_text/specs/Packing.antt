@@ -1,0 +1,146 @@
+-- A study as text: k, the minima b0 and b1 to bk, then each tide's setting and its distances to the earlier tides. The calls that the
+-- text makes, in its order, what they come to, and the study file. Assumes nothing.
+use Prim.Native.Nat.{ℕ, zero, suc}
+use mathlib.Core.Bool.{cond}
+use mathlib.Core.List.{List, [], _∷_, _++_}
+use lib.Dec.{ltb}
+use lib.ListN.{length, drop, getD}
+use Rattle.lists.specs.Lists.{tabulate}
+use Rattle.study.specs.declared.Minima.{Minima}
+use Rattle.study.specs.Study.{Contents, size}
+use Rattle.study.specs.Refusals.{Numbered, number, numbered, Verdict, accepted, refused, firstOf}
+use Rattle.study.specs.Calls.{openReasons, opening, minimaReasons, settingMinima, enterReasons, entering}
+use Rattle.file_format.specs.File.{fileOf}
+use Rattle.study_text.specs.declared.Packed.{Packed}
+use Rattle.study_text.specs.declared.Packed.the-variants as Says
+use Rattle.study_text.specs.declared.words.Cursor.{Cursor}
+use Rattle.study_text.specs.declared.words.Word.{Word}
+use Rattle.study_text.specs.declared.words.Word.the-variants as Next
+use Rattle.study_text.specs.Words.{newlines, nextOf}
+
+-- what is said of a text: the file's length, or a line and what is wrong there
+pub data Report : Type 0 where
+  done : ℕ → Report
+  refusedAt : ℕ → Numbered → Report
+  notNumber : ℕ → Report
+  tooLarge : ℕ → Report
+  missing : ℕ → Report
+  tooLong : ℕ → Report
+
+-- the code's answer, by document 01's numbers
+abbrev pub reportOf : Packed → Report
+reportOf (Says.Done n) = done n
+reportOf (Says.Refused l r) = refusedAt l (numbered r)
+reportOf (Says.NotANumber l) = notNumber l
+reportOf (Says.TooLarge l) = tooLarge l
+reportOf (Says.Missing l) = missing l
+reportOf (Says.TooLong l) = tooLong l
+
+-- ---- numbers that must stand next
+
+-- what was read, and the place after it
+pub data Got (A : Type 0) : Type 0 where
+  got : A → Cursor → Got A
+  stop : Report → Got A
+
+abbrev pub numberFrom : Word → Got ℕ
+numberFrom (Next.Number x c) = got x c
+numberFrom (Next.End l) = stop (missing l)
+numberFrom (Next.Bad l) = stop (notNumber l)
+numberFrom (Next.TooLarge l) = stop (tooLarge l)
+
+unfoldable pub numberOf : List ℕ → Cursor → Got ℕ
+numberOf text c = numberFrom (nextOf text c)
+
+abbrev pub onward : {A B : Type 0} → Got A → (A → Cursor → Got B) → Got B
+onward (got x c) f = f x c
+onward (stop t) f = stop t
+
+-- n numbers: one after n - 1
+unfoldable pub numbersOf : List ℕ → ℕ → Cursor → Got (List ℕ)
+numbersOf text zero c = got [] c
+numbersOf text (suc n) c = onward (numbersOf text n c) (λ xs d. onward (numberOf text d) (λ x e. got (xs ++ (x ∷ [])) e))
+
+-- ---- Open and Minima
+
+-- after a call, with the place past the last number that it is given
+abbrev pub called : Verdict → Contents → Cursor → Got Contents
+called accepted H c = got H c
+called (refused r) H c = stop (refusedAt (c .line) r)
+
+-- b0, and the b's; those above k are 0
+unfoldable pub minimaFrom : List ℕ → Minima
+minimaFrom xs = record { b0 = getD xs 0 0; b = tabulate 8 (λ j. getD xs (suc j) 0) }
+
+unfoldable pub openingOf : List ℕ → Cursor → Got Contents
+openingOf text c = onward (numberOf text c) (λ k d. called (firstOf (openReasons k)) (opening k) d)
+
+unfoldable pub minimaOf : List ℕ → Contents → Cursor → Got Contents
+minimaOf text H c =
+    onward (numbersOf text (suc (H .study .k)) c)
+    (λ xs d. called (firstOf (minimaReasons (H .study) (minimaFrom xs))) (settingMinima (minimaFrom xs) H) d)
+
+unfoldable pub headOf : List ℕ → Got Contents
+headOf text = onward (openingOf text (record { at = 0; line = 1 })) (minimaOf text)
+
+-- ---- Enter
+
+-- the tide that this setting begins
+unfoldable pub tideOf : List ℕ → Contents → ℕ → Cursor → Got Contents
+tideOf text H x c =
+    onward (numbersOf text (size (H .study)) c)
+    (λ row d. called (firstOf (enterReasons (H .study) x row)) (entering x row H) d)
+
+-- what a turn comes to: one more tide, the text's end with its line, or what stops it
+pub data Turn : Type 0 where
+  going : Contents → Cursor → Turn
+  ended : Contents → ℕ → Turn
+  stopped : Report → Turn
+
+abbrev pub entered : Got Contents → Turn
+entered (got H c) = going H c
+entered (stop t) = stopped t
+
+abbrev pub turnFrom : List ℕ → Contents → Word → Turn
+turnFrom text H (Next.Number x c) = entered (tideOf text H x c)
+turnFrom text H (Next.End l) = ended H l
+turnFrom text H (Next.Bad l) = stopped (notNumber l)
+turnFrom text H (Next.TooLarge l) = stopped (tooLarge l)
+
+unfoldable pub turnOf : List ℕ → Contents → Cursor → Turn
+turnOf text H c = turnFrom text H (nextOf text c)
+
+abbrev pub further : Turn → (Contents → Cursor → Turn) → Turn
+further (going H c) f = f H c
+further (ended H l) f = ended H l
+further (stopped t) f = stopped t
+
+-- after at most n turns
+unfoldable pub turnsOf : List ℕ → ℕ → Turn → Turn
+turnsOf text zero t = t
+turnsOf text (suc n) t = further (turnsOf text n t) (turnOf text)
+
+-- ---- the whole text; 120 tides are the most, so that 121 turns come to an end
+
+unfoldable pub textOf : List ℕ → Turn
+textOf text = turnsOf text 121 (entered (headOf text))
+
+-- Write, lent `room` bytes; without room it is refused at the text's end. No text is still going after 121 turns
+abbrev pub answered : Turn → ℕ → Report
+answered (ended H l) room = cond (ltb room (length (fileOf H))) (refusedAt l (number 1)) (done (length (fileOf H)))
+answered (stopped t) room = t
+answered (going H c) room = refusedAt (c .line) (number 22)
+
+-- what Write leaves of the lent bytes
+abbrev pub written : Turn → List ℕ → List ℕ
+written (ended H l) bytes = cond (ltb (length bytes) (length (fileOf H))) bytes (fileOf H ++ drop (length (fileOf H)) bytes)
+written (stopped t) bytes = bytes
+written (going H c) bytes = bytes
+
+-- a text above 131,072 bytes is too long; its last whole line is named
+unfoldable pub packAnswer : List ℕ → ℕ → Report
+packAnswer text room = cond (ltb 131072 (length text)) (tooLong (newlines text)) (answered (textOf text) room)
+
+-- the lent bytes: those past the file stay
+unfoldable pub packLeaves : List ℕ → List ℕ → List ℕ
+packLeaves text bytes = cond (ltb 131072 (length text)) bytes (written (textOf text) bytes)

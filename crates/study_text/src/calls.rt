@@ -1,0 +1,264 @@
+// The calls that a text makes: Open and Minima from its head, then an Enter for each tide.
+use crate::Packed;
+use crate::numbers::Given;
+use crate::numbers::Row;
+use crate::numbers::number;
+use crate::numbers::read_row;
+use crate::words::Cursor;
+use crate::words::Word;
+use crate::words::next;
+use dataset::enter;
+use dataset::open;
+use dataset::set_minima;
+use narrowing::narrow;
+use study::Answer;
+use study::Dataset;
+use study::Minima;
+use study::Outcome;
+use study::MAX_TIDES;
+ghost use mathlib.Core.Path.{_≡_};
+ghost use Prim.Native.Nat.{_≤_};
+ghost use lib.ListN.{length};
+ghost use Rattle.study.specs.Limits.{maxTides, tableSize};
+ghost use Rattle.validity.specs.Memory.{stateOf, contentsOf};
+ghost use Rattle.dataset.specs.Accepted.{Passed};
+ghost use Rattle.study_text.specs.Packing.{minimaFrom, openingOf, minimaOf, headOf, tideOf, entered, turnOf, turnsOf, textOf, going};
+ghost use Rattle.study_text.specs.Words.{CursorWithin};
+ghost use Rattle.study_text.specs.Reached.{Reaches, Begins, Finishes, stoppedAt, afterCall};
+ghost use Rattle.narrowing.specs.Narrowing.{narrowMinima};
+
+// Why no more is read: the text's end, with its line, or what stops it.
+pub enum Over {
+    End(usize),
+    Stopped(Packed),
+}
+
+pub enum Step {
+    Going,
+    Over(Over),
+}
+
+// The record after a call, and the place in the text. The place is free where no more is read, the record where something stops the
+// reading; what holds of them all the same is said by `Reaches` and `Begins`.
+pub struct Reached {
+    pub step: Step,
+    pub dataset: Dataset,
+    pub cursor: Cursor,
+}
+
+// The record at the text's end; it is free where something stops the reading.
+pub struct Finished {
+    pub over: Over,
+    pub dataset: Dataset,
+}
+
+fn stopped(why: Packed, dataset: Dataset, cursor: Cursor) -> Reached
+    ensures { λ r. ⌜ r ≡ stoppedAt why dataset cursor ⌝ }
+{
+    let step = Step::Over(Over::Stopped(why));
+    Reached {
+        step,
+        dataset,
+        cursor,
+    }
+}
+
+// After a call. The cursor is past the last number that it was given.
+fn called(outcome: Outcome, cursor: Cursor) -> Reached
+    ensures { λ r. ⌜ r ≡ afterCall outcome cursor ⌝ }
+{
+    let answer = outcome.answer;
+    let dataset = outcome.dataset;
+    match answer {
+        Answer::Done => Reached {
+            step: Step::Going,
+            dataset,
+            cursor,
+        },
+        Answer::Refused(why) => stopped(Packed::Refused(cursor.line, why), dataset, cursor),
+    }
+}
+
+// k.
+fn read_open(text: &[u8], distances: &mut [u32], settings: &mut [u8], from: Cursor) -> Reached
+    requires { ⌜ CursorWithin (now text) from ⌝ }
+    requires { ⌜ (tableSize ≤ length (now distances)) × (maxTides ≤ length (now settings)) ⌝ }
+    ensures { λ r. ⌜ Begins (now (text .entry)) r (now (distances .exit)) (now (settings .exit)) (openingOf (now (text .entry)) from) ⌝ }
+{
+    let minima = Minima { b0: 1, b: [0; 8] };
+    let dataset = Dataset {
+        k: 1,
+        n: 0,
+        minima,
+        withdrawn: 0,
+    };
+    let given = number(text, from);
+    match given {
+        Given::Stopped(why) => stopped(why, dataset, from),
+        Given::Number(k, after) => called(open(dataset, distances, settings, narrow(k)), after),
+    }
+}
+
+fn minima_of(xs: [u32; 9]) -> Minima
+    ensures { λ r. ⌜ r ≡ narrowMinima (minimaFrom xs) ⌝ }
+{
+    let b = [
+        narrow(xs[1]),
+        narrow(xs[2]),
+        narrow(xs[3]),
+        narrow(xs[4]),
+        narrow(xs[5]),
+        narrow(xs[6]),
+        narrow(xs[7]),
+        narrow(xs[8]),
+    ];
+    Minima {
+        b0: narrow(xs[0]),
+        b,
+    }
+}
+
+// b0, and a b for each setting.
+fn read_minima(
+    text: &[u8],
+    dataset: Dataset,
+    distances: &[u32],
+    settings: &[u8],
+    from: Cursor,
+) -> Reached
+    requires { ⌜ CursorWithin (now text) from × Passed (stateOf dataset (now distances) (now settings)) ⌝ }
+    ensures { λ r. ⌜ Reaches (now (text .entry)) r (now (distances .entry)) (now (settings .entry)) (entered (minimaOf (now (text .entry)) (contentsOf (stateOf dataset (now (distances .entry)) (now (settings .entry)))) from)) ⌝ }
+{
+    let mut xs = [0u32; 9];
+    let n = dataset.k as usize + 1;
+    let row = read_row(text, from, &mut xs[..n]);
+    match row {
+        Row::Stopped(why) => stopped(why, dataset, from),
+        Row::Read(after) => {
+            let minima = minima_of(xs);
+            called(set_minima(dataset, distances, settings, minima), after)
+        }
+    }
+}
+
+// The tide that this setting begins. Its row is read into memory of its own.
+fn read_tide(
+    text: &[u8],
+    dataset: Dataset,
+    distances: &mut [u32],
+    settings: &mut [u8],
+    row: &mut [u32],
+    setting: u32,
+    from: Cursor,
+) -> Reached
+    requires { ⌜ CursorWithin (now text) from × Passed (stateOf dataset (now distances) (now settings)) × (maxTides ≤ length (now row)) ⌝ }
+    ensures { λ r. ⌜ Reaches (now (text .entry)) r (now (distances .exit)) (now (settings .exit)) (entered (tideOf (now (text .entry)) (contentsOf (stateOf dataset (now (distances .entry)) (now (settings .entry)))) setting from)) ⌝ }
+{
+    let n = dataset.n;
+    let read = read_row(text, from, &mut row[..n]);
+    match read {
+        Row::Stopped(why) => stopped(why, dataset, from),
+        Row::Read(after) => called(
+            enter(dataset, distances, settings, narrow(setting), &row[..n]),
+            after,
+        ),
+    }
+}
+
+// One more tide, or the end.
+fn next_tide(
+    text: &[u8],
+    dataset: Dataset,
+    distances: &mut [u32],
+    settings: &mut [u8],
+    row: &mut [u32],
+    from: Cursor,
+) -> Reached
+    requires { ⌜ CursorWithin (now text) from × Passed (stateOf dataset (now distances) (now settings)) × (maxTides ≤ length (now row)) ⌝ }
+    ensures { λ r. ⌜ Reaches (now (text .entry)) r (now (distances .exit)) (now (settings .exit)) (turnOf (now (text .entry)) (contentsOf (stateOf dataset (now (distances .entry)) (now (settings .entry)))) from) ⌝ }
+{
+    let word = next(text, from);
+    match word {
+        Word::Number(x, after) => { read_tide(text, dataset, distances, settings, row, x, after) }
+        Word::End(line) => {
+            let step = Step::Over(Over::End(line));
+            Reached {
+                step,
+                dataset,
+                cursor: from,
+            }
+        }
+        Word::Bad(line) => stopped(Packed::NotANumber(line), dataset, from),
+        Word::TooLarge(line) => stopped(Packed::TooLarge(line), dataset, from),
+    }
+}
+
+// All tides, after the head.
+fn read_tides(
+    text: &[u8],
+    empty: Dataset,
+    distances: &mut [u32],
+    settings: &mut [u8],
+    row: &mut [u32],
+    from: Cursor,
+) -> Finished
+    requires { ⌜ CursorWithin (now text) from × Passed (stateOf empty (now distances) (now settings)) × (maxTides ≤ length (now row)) ⌝ }
+    requires { ⌜ turnsOf (now text) (empty .n) (entered (headOf (now text))) ≡ going (contentsOf (stateOf empty (now distances) (now settings))) from ⌝ }
+    ensures { λ r. ⌜ Finishes r (now (distances .exit)) (now (settings .exit)) (textOf (now (text .entry))) ⌝ }
+{
+    let mut dataset = empty;
+    let mut cursor = from;
+    loop {
+        let reached = next_tide(text, dataset, distances, settings, row, cursor);
+        let step = reached.step;
+        match step {
+            Step::Over(over) => {
+                let last = reached.dataset;
+                return Finished {
+                    over,
+                    dataset: last,
+                };
+            }
+            Step::Going => {
+                dataset = reached.dataset;
+                cursor = reached.cursor;
+            }
+        }
+    }
+}
+
+// Open and Minima.
+fn read_head(text: &[u8], distances: &mut [u32], settings: &mut [u8]) -> Reached
+    requires { ⌜ length (now text) ≤ 131072 ⌝ }
+    requires { ⌜ (tableSize ≤ length (now distances)) × (maxTides ≤ length (now settings)) ⌝ }
+    ensures { λ r. ⌜ Begins (now (text .entry)) r (now (distances .exit)) (now (settings .exit)) (headOf (now (text .entry))) ⌝ }
+{
+    let first = Cursor { at: 0, line: 1 };
+    let opened = read_open(text, distances, settings, first);
+    let step = opened.step;
+    let Step::Going = step else {
+        return opened;
+    };
+    let dataset = opened.dataset;
+    let cursor = opened.cursor;
+    read_minima(text, dataset, distances, settings, cursor)
+}
+
+// The whole text.
+pub fn read_text(text: &[u8], distances: &mut [u32], settings: &mut [u8]) -> Finished
+    requires { ⌜ length (now text) ≤ 131072 ⌝ }
+    requires { ⌜ (tableSize ≤ length (now distances)) × (maxTides ≤ length (now settings)) ⌝ }
+    ensures { λ r. ⌜ Finishes r (now (distances .exit)) (now (settings .exit)) (textOf (now (text .entry))) ⌝ }
+{
+    let head = read_head(text, distances, settings);
+    let step = head.step;
+    let dataset = head.dataset;
+    let cursor = head.cursor;
+    match step {
+        Step::Over(over) => Finished { over, dataset },
+        Step::Going => {
+            let mut row = [0u32; MAX_TIDES];
+            read_tides(text, dataset, distances, settings, &mut row, cursor)
+        }
+    }
+}

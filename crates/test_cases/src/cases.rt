@@ -1,0 +1,194 @@
+// Document 01's cases 1 to 6 through the calls. A place of a list past the last tide is 0 here.
+use test_comparisons::comparing;
+use test_comparisons::given::blocked;
+use test_comparisons::given::blocked_number;
+use test_comparisons::given::is_done;
+use test_comparisons::given::is_list;
+use test_comparisons::judging::is_approved;
+use test_comparisons::judging::judged;
+use test_exhaustive::exhaustive;
+use test_exhaustive::small::Small;
+use test_exhaustive::small::table;
+use study::BlockRecord;
+use study::Blocked;
+use study::Minima;
+use test_tools::tally::Tally;
+use study::MAX_TIDES;
+
+// Tides on a line, k = 1 and each b 0.
+fn line(n: usize, positions: [u8; 7], b0: u8) -> Small {
+    Small {
+        n,
+        k: 1,
+        minima: Minima { b0, b: [0; 8] },
+        settings: [1; 7],
+        distances: table(positions, [0; 7]),
+    }
+}
+
+// What Block is to give: the second diameter is 0 where there is one block.
+struct Expected {
+    count: usize,
+    radius: u32,
+    first: u32,
+    second: u32,
+    list: [u8; 7],
+}
+
+impl Expected {
+    fn widest(self) -> u32 {
+        if self.first < self.second {
+            return self.second;
+        }
+        self.first
+    }
+
+    fn is_answer(self, answer: Blocked) -> bool {
+        is_done(answer, self.count, self.radius, self.widest())
+    }
+
+    fn diameters(self, records: [BlockRecord; MAX_TIDES]) -> bool {
+        let first = records[0];
+        let second = records[1];
+        first.diameter == self.first && second.diameter == self.second
+    }
+}
+
+// Answer, list and diameters; and the plain blocker gives the same.
+fn blocks(so_far: Tally, small: Small, expected: Expected) -> Tally {
+    let given = blocked(small);
+    let answer = given.answer;
+    let places = given.list;
+    let records = given.records;
+    let list = expected.list;
+    so_far
+        .see(expected.is_answer(answer))
+        .see(is_list(places, small.n, list))
+        .see(expected.diameters(records))
+        .see(comparing::agrees(small, exhaustive::block(small)))
+}
+
+// The list and the records of a refusal are as before, by `agrees`.
+fn refused(so_far: Tally, small: Small, number: u32) -> Tally {
+    let given = blocked(small);
+    let answer = given.answer;
+    so_far
+        .see(blocked_number(answer) == number)
+        .see(comparing::agrees(small, exhaustive::block(small)))
+}
+
+fn has_assignment(small: Small, g: u32) -> bool {
+    let found = exhaustive::assignment(small, g);
+    found.found
+}
+
+pub fn case_1(so_far: Tally) -> Tally {
+    let small = line(6, [2, 5, 0, 1, 3, 7, 0], 3);
+    let t = blocks(
+        so_far,
+        small,
+        Expected {
+            count: 2,
+            radius: 2,
+            first: 2,
+            second: 4,
+            list: [1, 2, 1, 1, 2, 2, 0],
+        },
+    );
+    t.see(!has_assignment(small, 3))
+        .see(has_assignment(small, 4))
+}
+
+pub fn case_2(so_far: Tally) -> Tally {
+    let small = Small {
+        n: 4,
+        k: 2,
+        minima: Minima {
+            b0: 2,
+            b: [1, 1, 0, 0, 0, 0, 0, 0],
+        },
+        settings: [1, 2, 1, 2, 0, 0, 0],
+        distances: table([0, 1, 10, 11, 0, 0, 0], [0; 7]),
+    };
+    blocks(
+        so_far,
+        small,
+        Expected {
+            count: 2,
+            radius: 1,
+            first: 1,
+            second: 1,
+            list: [1, 1, 2, 2, 0, 0, 0],
+        },
+    )
+}
+
+pub fn case_3(so_far: Tally) -> Tally {
+    let small = line(4, [2, 0, 2, 4, 0, 0, 0], 2);
+    let t = blocks(
+        so_far,
+        small,
+        Expected {
+            count: 1,
+            radius: 2,
+            first: 4,
+            second: 0,
+            list: [1, 1, 1, 1, 0, 0, 0],
+        },
+    );
+    t.see(is_approved(judged(small, [1, 1, 2, 2, 0, 0, 0]), 2))
+}
+
+pub fn case_4(so_far: Tally) -> Tally {
+    blocks(
+        so_far,
+        line(5, [0, 10, 5, 5, 5, 0, 0], 2),
+        Expected {
+            count: 2,
+            radius: 5,
+            first: 5,
+            second: 5,
+            list: [1, 2, 1, 1, 2, 0, 0],
+        },
+    )
+}
+
+pub fn case_5(so_far: Tally) -> Tally {
+    let t = blocks(
+        so_far,
+        line(3, [0; 7], 1),
+        Expected {
+            count: 1,
+            radius: 0,
+            first: 0,
+            second: 0,
+            list: [1, 1, 1, 0, 0, 0, 0],
+        },
+    );
+    blocks(
+        t,
+        line(2, [0, 5, 0, 0, 0, 0, 0], 1),
+        Expected {
+            count: 2,
+            radius: 0,
+            first: 0,
+            second: 0,
+            list: [1, 2, 0, 0, 0, 0, 0],
+        },
+    )
+}
+
+pub fn case_6(so_far: Tally) -> Tally {
+    let t = refused(so_far, line(2, [0, 5, 0, 0, 0, 0, 0], 3), 25);
+    blocks(
+        t,
+        line(2, [0, 5, 0, 0, 0, 0, 0], 2),
+        Expected {
+            count: 1,
+            radius: 5,
+            first: 5,
+            second: 0,
+            list: [1, 1, 0, 0, 0, 0, 0],
+        },
+    )
+}

@@ -1,0 +1,27 @@
+-- `all_farther` is safe and ends. Assumes nothing.
+use borrow.Author.Needs.{needs}
+use Prim.Native.Nat.{_≤_, _-_}
+use Rattle.test_exhaustive.proofs.centres.Centres.all_farther.Statement.{statement}
+use Rattle.test_exhaustive.proofs.centres.Centres.all_farther.Tie as tie
+
+abbrev Inv-loop : tie.InvT-loop
+Inv-loop self small g t count m₀ m = m ≤ count
+
+abbrev μ-loop : tie.MeasureT-loop
+μ-loop self small g t count m₀ m = count - m
+
+pub all-farther-spec : {M : Type 1} → statement M
+all-farther-spec =
+    tie.close
+    (tie.spec
+    Inv-loop
+    μ-loop
+    (λ c. search needs)
+    (λ c. search needs)
+    (λ c κs. search needs)
+    (λ c κs. search needs)
+    (λ c. search needs)
+    (λ c. search needs)
+    (λ c. search needs)
+    (λ c. search needs)
+    (λ c. search needs))

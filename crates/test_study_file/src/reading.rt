@@ -1,0 +1,87 @@
+// Reading bytes, and writing what was read.
+use study::refusals::number_of;
+use study::Answer;
+use study::Dataset;
+use study::Outcome;
+use study_file::Written;
+use test_tools::samples::nonsense;
+use test_tools::slices::front;
+
+// Whether b begins with a.
+pub fn same_front(a: &[u32], b: &[u32]) -> bool {
+    if b.len() < a.len() {
+        return false;
+    }
+    let mut i: usize = 0;
+    while i < a.len() {
+        if a[i] != b[i] {
+            return false;
+        }
+        i += 1;
+    }
+    true
+}
+
+// Read, where there is no dataset.
+pub fn read_into(distances: &mut [u32], settings: &mut [u8], bytes: &[u8]) -> Outcome {
+    study_file::read(nonsense(), distances, settings, bytes)
+}
+
+pub fn read(bytes: &[u8]) -> Outcome {
+    let mut distances = [7u32; 14403];
+    let mut settings = [9u8; 123];
+    read_into(&mut distances, &mut settings, bytes)
+}
+
+pub fn write(record: Dataset, distances: &[u32], settings: &[u8], file: &mut [u8]) -> Written {
+    study_file::write(record, distances, settings, file)
+}
+
+// Whether the memory is as before.
+fn unchanged(distances: &[u32], settings: &[u8]) -> bool {
+    same_front(&[7u32; 14403], distances) && check::same(settings, &[9u8; 123])
+}
+
+// Read's number, 0 where it accepts; 98 where it refuses and the record or the memory is another.
+pub fn number(bytes: &[u8]) -> u32 {
+    let mut distances = [7u32; 14403];
+    let mut settings = [9u8; 123];
+    let outcome = read_into(&mut distances, &mut settings, bytes);
+    let after = outcome.dataset;
+    let answer = outcome.answer;
+    let Answer::Refused(why) = answer else {
+        return 0;
+    };
+    if after.n != 300 {
+        return 98;
+    }
+    if !unchanged(&distances, &settings) {
+        return 98;
+    }
+    number_of(why)
+}
+
+// Whether these bytes are the first n of the room, and the byte after them is as before.
+fn wrote(room: &[u8], n: usize, bytes: &[u8]) -> bool {
+    if room.len() <= n {
+        return false;
+    }
+    room[n] == 170 && check::same(front(room, n), bytes)
+}
+
+// Whether Read accepts the bytes, and Write then gives exactly these and keeps what stands past them.
+pub fn comes_back(bytes: &[u8]) -> bool {
+    let mut distances = [7u32; 14403];
+    let mut settings = [9u8; 123];
+    let outcome = read_into(&mut distances, &mut settings, bytes);
+    let answer = outcome.answer;
+    let Answer::Done = answer else {
+        return false;
+    };
+    let mut room = [170u8; 64];
+    let written = write(outcome.dataset, &distances, &settings, &mut room);
+    let Written::Done(n) = written else {
+        return false;
+    };
+    wrote(&room, n, bytes)
+}

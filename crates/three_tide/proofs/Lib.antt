@@ -1,3 +1,0 @@
--- Laws, cited by the proofs of this crate and of those above it.
-pub mod PairLaws
-pub mod DoubtLaws

@@ -1,0 +1,47 @@
+-- The quick test of the triangle rule at one more tide, in the words of its contracts: 0 or true only where the rule holds, and, of
+-- distances of 20 bits, wherever it does. Statements only; their laws are in DoubtLaws.
+use Prim.Native.Nat.{ℕ, _*_, _≤_, _<_}
+use mathlib.Core.Path.{_≡_}
+use mathlib.Core.List.{List}
+use lib.ListN.{length, getD}
+use Rattle.study.specs.Limits.{cell, maxDistance}
+use Rattle.study.specs.Triangle.{Triangle}
+
+-- ---- one triple
+
+-- three distances of 20 bits
+pub record Small (x y z : ℕ) : Type 0 where
+  pub first : x ≤ maxDistance
+  pub second : y ≤ maxDistance
+  pub third : z ≤ maxDistance
+
+-- the doubts about three distances
+pub record TripleFlags (x y z total : ℕ) : Type 0 where
+  -- one for each of them, at most
+  pub few : total ≤ 3
+  -- no breach of the rule is overlooked
+  pub rule : total ≡ 0 → Triangle x y z
+  -- and, of distances of 20 bits, nothing else is doubted
+  pub clear : Small x y z → Triangle x y z → total ≡ 0
+
+-- ---- a tide at y from one tide, and at a row's distances from others, which are at a line's from that one
+
+-- the doubts about the first j of them
+pub record RowFlags (line : List ℕ) (y : ℕ) (row : List ℕ) (j total : ℕ) : Type 0 where
+  -- three for each of them, at most
+  pub few : total ≤ 3 * j
+  -- no breach of the rule is overlooked
+  pub rule : total ≡ 0 → (i : ℕ) → i < j → Triangle (getD line i 0) y (getD row i 0)
+  -- and, of distances of 20 bits, nothing else is doubted
+  pub clear : ((i : ℕ) → i < j → Small (getD line i 0) y (getD row i 0)) → ((i : ℕ) → i < j → Triangle (getD line i 0) y (getD row i 0)) → total ≡ 0
+
+-- ---- a tide at a row's distances from all others, which are cell d's from each other
+
+-- with each pair whose lower tide is before i it keeps the rule
+pub record Obeys (d row : List ℕ) (i : ℕ) : Type 0 where
+  pub rule : (u v : ℕ) → u < i → u < v → v < length row → Triangle (cell d u v) (getD row u 0) (getD row v 0)
+
+-- all these distances have 20 bits
+pub record SmallRow (d row : List ℕ) : Type 0 where
+  pub own : (u : ℕ) → u < length row → getD row u 0 ≤ maxDistance
+  pub others : (u v : ℕ) → u < v → v < length row → cell d u v ≤ maxDistance
