@@ -80,7 +80,7 @@ headReasons s =
     ∷ (not (eqb (bitsAt s end (8 * length s - end)) 0) ⇒ number 11)
     ∷ []
 
--- of tide t: its setting, and the first pair of earlier tides with which it breaks the triangle rule
+-- of tide t: its setting, and the first pair of earlier tides with which it violates the triangle inequality
 unfoldable pub tideReasons : Study → ℕ → List Reason
 tideReasons S t =
     let broken = violations (distance S) t (distance S t) in

@@ -6,7 +6,7 @@ use mathlib.Core.List.{List, [], _∷_, _++_, map, flatMap}
 use lib.Dec.{leb, eqb, ltb}
 use lib.ListN.{length, getD, replicate}
 use Rattle.lists.specs.Lists.{between, each, iota, every, countBelow, filter, isEmpty}
-use Rattle.study.specs.Limits.{maxTides, maxDistance, maxWithdrawals}
+use Rattle.study.specs.Limits.{maxTides, maxSettings, maxDistance, maxWithdrawals}
 use Rattle.study.specs.declared.Minima.{Minima}
 use Rattle.study.specs.declared.BlockRecord.{BlockRecord}
 use Rattle.study.specs.declared.Blocked.{Blocked}
@@ -14,35 +14,40 @@ use Rattle.study.specs.declared.Blocked.the-variants as Blocks
 use Rattle.study.specs.declared.Judged.{Judged}
 use Rattle.study.specs.declared.Judged.the-variants as Judges
 use Rattle.study.specs.Problem.{centres, block, labels, radius, blocking, diameter, greatestDiameter, feasible}
-use Rattle.study.specs.Study.{Tide, Study, Contents, size, distance, sufficient, problem, validMinima}
+use Rattle.study.specs.Study.{Tide, Study, Contents, withTides, withStudy, size, distance, sufficient, problem, validMinima}
 use Rattle.study.specs.Refusals.{Numbered, number, seven, numbered, Reply, value, refusal, Reason, _⇒_}
 
 -- ---- Open
 
+-- 2: k is not 1 to 8
 unfoldable pub openReasons : ℕ → List Reason
-openReasons k = (not (between 1 8 k) ⇒ number 2) ∷ []
+openReasons k = (not (between 1 maxSettings k) ⇒ number 2) ∷ []
 
 -- empty, b0 = 1, every b = 0
 unfoldable pub opened : ℕ → Study
-opened k = record { k = k; minima = record { b0 = 1; b = replicate 8 0 }; tides = [] }
+opened k = record { k = k; minima = record { b0 = 1; b = replicate maxSettings 0 }; tides = [] }
 
+-- nothing withdrawn
 unfoldable pub opening : ℕ → Contents
 opening k = record { study = opened k; withdrawals = 0 }
 
 -- ---- Minima
 
+-- 3: minima that no study with this k has
 unfoldable pub minimaReasons : Study → Minima → List Reason
 minimaReasons S M = (not (validMinima (S .k) M) ⇒ number 3) ∷ []
 
+-- other minima
 unfoldable pub withMinima : Minima → Study → Study
 withMinima M S = record { k = S .k; minima = M; tides = S .tides }
 
+-- the count stays
 unfoldable pub settingMinima : Minima → Contents → Contents
-settingMinima M H = record { study = withMinima M (H .study); withdrawals = H .withdrawals }
+settingMinima M H = withStudy (withMinima M (H .study)) H
 
 -- ---- Enter
 
--- none of three distances exceeds the sum of the other two
+-- the triangle inequality of three distances: none exceeds the sum of the other two
 unfoldable pub triangle : ℕ → ℕ → ℕ → Bool
 triangle a b c = each (leb a (b + c) ∷ leb b (a + c) ∷ leb c (a + b) ∷ [])
 
@@ -51,7 +56,7 @@ pub record Pair : Type 0 where
   pub lower : ℕ
   pub upper : ℕ
 
--- the pairs i < j of n tides with which a new tide, at `new i` from each, breaks the triangle rule, in order of i and then j
+-- the pairs i < j of n tides with which a new tide, at `new i` from each, violates the triangle inequality, in order of i and then j
 unfoldable pub violations : (ℕ → ℕ → ℕ) → ℕ → (ℕ → ℕ) → List Pair
 violations dist n new =
     flatMap (λ i. map (λ j. record { lower = i; upper = j }) (filter (λ j. not (triangle (dist i j) (new i) (new j))) (iota (suc i) (n - suc i))))
@@ -62,43 +67,49 @@ abbrev pub firstViolation : List Pair → Numbered
 firstViolation [] = number 7
 firstViolation (p ∷ ps) = seven (suc (p .lower)) (suc (p .upper))
 
+-- 22 full, 4 a row of another length, 5 the setting, 6 a distance, 7 the first violation
 unfoldable pub enterReasons : Study → ℕ → List ℕ → List Reason
 enterReasons S setting row =
-    let broken = violations (distance S) (size S) (λ i. getD row i 0) in
+    let violated = violations (distance S) (size S) (λ i. getD row i 0) in
     (leb maxTides (size S) ⇒ number 22)
     ∷ (not (eqb (length row) (size S)) ⇒ number 4)
     ∷ (not (between 1 (S .k) setting) ⇒ number 5)
     ∷ (not (every (length row) (λ i. leb (getD row i 0) maxDistance)) ⇒ number 6)
-    ∷ (not (isEmpty broken) ⇒ firstViolation broken)
+    ∷ (not (isEmpty violated) ⇒ firstViolation violated)
     ∷ []
 
 -- one more tide at the end
 unfoldable pub entered : ℕ → List ℕ → Study → Study
-entered setting row S = record { k = S .k; minima = S .minima; tides = S .tides ++ (record { setting = setting; row = row } ∷ []) }
+entered setting row S = withTides (S .tides ++ (record { setting = setting; row = row } ∷ [])) S
 
+-- the count stays
 unfoldable pub entering : ℕ → List ℕ → Contents → Contents
-entering setting row H = record { study = entered setting row (H .study); withdrawals = H .withdrawals }
+entering setting row H = withStudy (entered setting row (H .study)) H
 
 -- ---- Withdraw
 
+-- 23 no tide of that number, 26 the count is at its limit
 unfoldable pub withdrawReasons : Contents → ℕ → List Reason
 withdrawReasons H t =
     (not (between 1 (size (H .study)) t) ⇒ number 23)
     ∷ (leb maxWithdrawals (H .withdrawals) ⇒ number 26)
     ∷ []
 
+-- the list without place i
 abbrev pub removeAt : {A : Type 0} → ℕ → List A → List A
 removeAt i [] = []
 removeAt zero (x ∷ xs) = xs
 removeAt (suc i) (x ∷ xs) = x ∷ removeAt i xs
 
+-- a tide whose row has lost place i
 unfoldable pub shortened : ℕ → Tide → Tide
 shortened i x = record { setting = x .setting; row = removeAt i (x .row) }
 
 -- tide i goes, and its place in every row
 unfoldable pub withdrawn : ℕ → Study → Study
-withdrawn i S = record { k = S .k; minima = S .minima; tides = map (shortened i) (removeAt i (S .tides)) }
+withdrawn i S = withTides (map (shortened i) (removeAt i (S .tides))) S
 
+-- and one withdrawal more is counted
 unfoldable pub withdrawing : ℕ → Contents → Contents
 withdrawing t H = record { study = withdrawn (t - 1) (H .study); withdrawals = H .withdrawals + 1 }
 
@@ -108,6 +119,7 @@ skip i t = cond (ltb t i) t (suc t)
 
 -- ---- Centres, lent a list of this length
 
+-- 24 no tides, 1 a list of fewer than n places
 unfoldable pub centresReasons : Study → ℕ → List Reason
 centresReasons S list =
     (eqb (size S) 0 ⇒ number 24)
@@ -120,6 +132,7 @@ centreNumbers S g = map suc (centres (problem S) g)
 
 -- ---- Block, lent a list and records of these lengths
 
+-- 24 no tides, 25 too few of them, 1 a list or records of fewer than n places
 unfoldable pub blockReasons : Study → ℕ → ℕ → List Reason
 blockReasons S list records =
     (eqb (size S) 0 ⇒ number 24)
@@ -133,6 +146,7 @@ pub record Figures : Type 0 where
   pub radius : ℕ
   pub widest : ℕ
 
+-- of the blocking at the radius
 unfoldable pub figures : Study → Figures
 figures S =
     let P = problem S in
@@ -152,6 +166,7 @@ blockedOf (Blocks.Refused r) = refusal (numbered r)
 
 -- ---- Judge, given a list
 
+-- 24 no tides, 12 a list of another length
 unfoldable pub judgeReasons : Study → List ℕ → List Reason
 judgeReasons S list =
     (eqb (size S) 0 ⇒ number 24)
@@ -167,6 +182,7 @@ pub data Judgement : Type 0 where
   approval : ℕ → Judgement
   disapproval : Judgement
 
+-- of a list that is judged
 unfoldable pub judgement : Study → List ℕ → Judgement
 judgement S list = cond (approved S list) (approval (greatestDiameter (problem S) (labels list))) disapproval
 

@@ -1,6 +1,6 @@
 -- Refusals by document 01's numbers, and lists of reasons of which the first that holds counts. Assumes nothing.
 use Prim.Native.Nat.{ℕ}
-use mathlib.Core.Bool.{Bool, cond}
+use mathlib.Core.Bool.{Bool, cond, not}
 use mathlib.Core.List.{List, [], _∷_}
 use Rattle.study.specs.declared.Refusal.{Refusal}
 use Rattle.study.specs.declared.Refusal.the-variants as Because
@@ -12,6 +12,7 @@ pub data Numbered : Type 0 where
   number : ℕ → Numbered
   seven : ℕ → ℕ → Numbered
 
+-- whether a call is accepted, or why it is refused
 pub data Verdict : Type 0 where
   accepted : Verdict
   refused : Numbered → Verdict
@@ -37,6 +38,7 @@ numbered Because.NoTides = number 24
 numbered Because.TooFewTides = number 25
 numbered Because.WithdrawalLimit = number 26
 
+-- the code's answer, by document 01's number and values
 abbrev pub verdictOf : Answer → Verdict
 verdictOf Done = accepted
 verdictOf (Refused r) = refused (numbered r)
@@ -51,15 +53,19 @@ pub data Reply (A : Type 0) : Type 0 where
   value : A → Reply A
   refusal : Numbered → Reply A
 
+-- the value of an accepted call
 abbrev pub replied : {A : Type 0} → Verdict → A → Reply A
 replied accepted x = value x
 replied (refused r) x = refusal r
 
+-- a reason for a refusal: whether it holds, and its number
 pub record Reason : Type 0 where
   pub holds : Bool
   pub because : Numbered
 
 infix 20 _⇒_
+
+-- where this holds, refused so
 abbrev pub _⇒_ : Bool → Numbered → Reason
 b ⇒ r = record { holds = b; because = r }
 
@@ -67,3 +73,13 @@ b ⇒ r = record { holds = b; because = r }
 unfoldable pub firstOf : List Reason → Verdict
 firstOf [] = accepted
 firstOf (r ∷ rs) = cond (r .holds) (refused (r .because)) (firstOf rs)
+
+-- ---- the ladder of every call: the reasons that calls share, in document 01's order, and then the call's own
+
+-- Open and Read: short memory (1) first
+unfoldable pub freshReasons : Bool → List Reason → List Reason
+freshReasons tooShort own = (tooShort ⇒ number 1) ∷ own
+
+-- every other call: short memory (1), then what is no dataset (21)
+unfoldable pub heldReasons : Bool → Bool → List Reason → List Reason
+heldReasons tooShort good own = freshReasons tooShort ((not good ⇒ number 21) ∷ own)

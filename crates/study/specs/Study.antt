@@ -7,7 +7,7 @@ use mathlib.Core.List.{List, [], _∷_}
 use lib.Dec.{T, leb, ltb, eqb}
 use lib.ListN.{length, getD}
 use Rattle.lists.specs.Lists.{between, each, every, sumBelow, countBelow}
-use Rattle.study.specs.Limits.{maxTides, maxDistance}
+use Rattle.study.specs.Limits.{maxTides, maxDistance, maxSettings}
 use Rattle.study.specs.declared.Minima.{Minima}
 use Rattle.study.specs.Problem.{Problem}
 
@@ -16,22 +16,34 @@ pub record Tide : Type 0 where
   pub setting : ℕ
   pub row : List ℕ
 
+-- document 01: k, the minima, and tides in a row
 pub record Study : Type 0 where
   pub k : ℕ
   pub minima : Minima
   pub tides : List Tide
 
--- the study, and the withdrawals counted beside it
+-- what a study file carries: the study, and the withdrawals counted beside it
 pub record Contents : Type 0 where
   pub study : Study
   pub withdrawals : ℕ
 
+-- the same k and minima, other tides
+abbrev pub withTides : List Tide → Study → Study
+withTides tides S = record { k = S .k; minima = S .minima; tides = tides }
+
+-- the same count, another study
+abbrev pub withStudy : Study → Contents → Contents
+withStudy S H = record { study = S; withdrawals = H .withdrawals }
+
+-- how many tides there are
 abbrev pub size : Study → ℕ
 size S = length (S .tides)
 
+-- where no tide stands
 unfoldable pub noTide : Tide
 noTide = record { setting = 0; row = [] }
 
+-- tide t, from 0
 unfoldable pub tide : Study → ℕ → Tide
 tide S t = getD (S .tides) t noTide
 
@@ -41,11 +53,13 @@ distance S t u = cond (ltb t u) (getD (tide S u .row) t 0) (cond (ltb u t) (getD
 
 -- of n tides with these settings, the set p has at least b0 tides, and at least b of each setting
 unfoldable pub meets : Minima → ℕ → (ℕ → ℕ) → (ℕ → Bool) → Bool
-meets M n setting p = leb (M .b0) (countBelow n p) && every 8 (λ j. leb (getD (M .b) j 0) (countBelow n (λ t. p t && eqb (setting t) (suc j))))
+meets M n setting p = leb (M .b0) (countBelow n p) && every maxSettings (λ j. leb (getD (M .b) j 0) (countBelow n (λ t. p t && eqb (setting t) (suc j))))
 
+-- whether a set of tides meets the study's minima
 unfoldable pub sufficient : Study → (ℕ → Bool) → Bool
 sufficient S p = meets (S .minima) (size S) (λ t. tide S t .setting) p
 
+-- the problem that a study poses
 unfoldable pub problem : Study → Problem
 problem S = record { size = size S; dist = distance S; enough = sufficient S }
 
@@ -56,18 +70,19 @@ unfoldable pub validMinima : ℕ → Minima → Bool
 validMinima k M =
     each
     (between 1 maxTides (M .b0)
-    ∷ eqb (length (M .b)) 8
-    ∷ leb (sumBelow 8 (λ j. getD (M .b) j 0)) (M .b0)
-    ∷ every 8 (λ j. cond (ltb j k) true (eqb (getD (M .b) j 0) 0))
+    ∷ eqb (length (M .b)) maxSettings
+    ∷ leb (sumBelow maxSettings (λ j. getD (M .b) j 0)) (M .b0)
+    ∷ every maxSettings (λ j. cond (ltb j k) true (eqb (getD (M .b) j 0) 0))
     ∷ [])
 
--- for any three tides, no distance exceeds the sum of the other two
+-- the triangle inequality (document 01: the three-tide rule): for any three tides, no distance exceeds the sum of the other two
 abbrev pub TriangleInequality : Study → Type 0
 TriangleInequality S = (t u v : ℕ) → t < size S → u < size S → v < size S → distance S t v ≤ distance S t u + distance S u v
 
+-- document 01's sentences on what a book holds
 pub record Valid (S : Study) : Type 0 where
   pub k-low : 1 ≤ S .k
-  pub k-high : S .k ≤ 8
+  pub k-high : S .k ≤ maxSettings
   pub few : size S ≤ maxTides
   pub minima : T (validMinima (S .k) (S .minima))
   pub setting-low : (t : ℕ) → t < size S → 1 ≤ tide S t .setting

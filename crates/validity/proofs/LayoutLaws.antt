@@ -17,7 +17,7 @@ use Rattle.study.specs.Study.{Tide, Study, Contents, size, noTide, tide, distan
 use Rattle.study.specs.Theorems.{ValidContents}
 use Rattle.study.proofs.StudyLaws.{validMinima-T, distance-both-ways, distance-itself}
 use Rattle.validity.specs.Memory.{State, short, isDataset, tideOf, studyOf, contentsOf, recordOf, distancesOf, settingsOf, stored}
-use Rattle.validity.specs.Validity.{IsDataset, Long}
+use Rattle.validity.specs.Validity.{IsStudy, Long}
 use Rattle.validity.proofs.ValidityLaws.{isDataset-T, study-size, study-setting, study-distance}
 
 -- ---- what is not held is zero
@@ -79,14 +79,13 @@ module _ (H : Contents) (ok : ValidContents H) (s : State) where
   set : (i : ℕ) → i < size S → getD (settingsOf S (s .settings)) i 0 ≡ tide S i .setting
   set i a = stored-setting S (s .settings) i (in-front i a)
 
-  pub stored-is : IsDataset (stored H s)
+  pub stored-is : IsStudy (stored H s)
   unfolding stored recordOf
   stored-is =
       record {
         few = ok .study .few;
         k-low = ok .study .k-low;
         k-high = ok .study .k-high;
-        counted = ok .counted;
         minima = validMinima-T (S .k) (S .minima) .0 (ok .study .minima);
         setting-low = λ i l. rw (set i l) (ok .study .setting-low i l);
         setting-high = λ i l. rw (set i l) (ok .study .setting-high i l);
@@ -99,7 +98,8 @@ module _ (H : Contents) (ok : ValidContents H) (s : State) where
       }
 
   pub stored-dataset : T (isDataset (stored H s))
-  stored-dataset = isDataset-T (stored H s) .1 stored-is
+  unfolding stored recordOf
+  stored-dataset = isDataset-T (stored H s) .1 (record { study = stored-is; counted = ok .counted })
 
   stored-tide : (t : ℕ) → t < size S → tideOf (stored H s) t ≡ tide S t
   unfolding tideOf stored distance
@@ -166,7 +166,7 @@ module _ (H : Contents) (s : State) where
 
 -- ---- a dataset's own contents
 
-module _ (s : State) (D : IsDataset s) where
+module _ (s : State) (D : IsStudy s) where
   -- the study's distances are those in memory, also beyond the tides held
   pub memory-distance : (i j : ℕ) → i < 120 → j < 120 → distance (studyOf s) i j ≡ cell (s .distances) i j
   memory-distance i j a b = by (split i (s .dataset .n)) (split j (s .dataset .n))

@@ -8,7 +8,7 @@ for-datasets =
     record {
       exactly = isDataset-T;
       valid = λ s t. valid-contents s (isDataset-T s .0 t);
-      own-layout = λ s e t. own-layout s (isDataset-T s .0 t) e;
+      own-layout = λ s e t. own-layout s (isDataset-T s .0 t .study) e;
       laid-out = λ H s ok. stored-dataset H ok s;
       read-back = λ H s ok. stored-contents H ok s;
       as-long = stored-short;

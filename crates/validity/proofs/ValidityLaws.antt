@@ -2,7 +2,7 @@
 -- Assumes nothing.
 use Prim.Native.Nat.{ℕ, _+_, _≤_, _<_}
 use native.Mathlib.Omega.{arith}
-use mathlib.Core.Path.{_≡_, sym, ap, _∙_, subst}
+use mathlib.Core.Path.{_≡_, refl, sym, ap, _∙_, subst}
 use mathlib.Core.Logic.{_⊎_, inl, inr, ⊎-elim, _↔_}
 use mathlib.Core.Bool.{Bool, true, false, cond, _&&_, not}
 use mathlib.Core.List.{List, [], _∷_}
@@ -16,7 +16,7 @@ use Rattle.lists.proofs.Tables.{length-tabulate, getD-tabulate}
 use Rattle.lists.proofs.Scans.{and-true, each-fails}
 use Rattle.study.specs.Limits.{cell}
 use Rattle.study.specs.declared.Minima.{Minima}
-use Rattle.study.specs.Study.{Tide, size, noTide, tide, distance, validMinima}
+use Rattle.study.specs.Study.{Tide, Valid, size, noTide, tide, distance, validMinima}
 use Rattle.study.specs.Calls.{violations}
 use Rattle.study.specs.Theorems.{ValidContents}
 use Rattle.study.proofs.StudyLaws.{validMinima-T, distance-both-ways, distance-itself}
@@ -26,8 +26,8 @@ use Rattle.triangle.specs.declared.Violation.{Violation}
 use Rattle.triangle.specs.declared.Violation.the-variants as Violations
 use Rattle.triangle.specs.Pairs.{violationOf}
 use Rattle.triangle.proofs.PairLaws.{found-nothing, found-pair, rowIn, part-found}
-use Rattle.validity.specs.Memory.{State, validSetting, validPlace, validRow, isDataset, tideOf, studyOf, contentsOf}
-use Rattle.validity.specs.Validity.{IsDataset}
+use Rattle.validity.specs.Memory.{State, validSetting, validPlace, validRow, isStudy, validCount, isDataset, tideOf, studyOf, contentsOf}
+use Rattle.validity.specs.Validity.{IsStudy, IsDataset}
 
 -- ---- the study that is read off record and memory
 
@@ -92,6 +92,11 @@ pub not-both : (a b : Bool) → T (not (a && b)) → T (not a) ⊎ T (not b)
 not-both true b t = inr t
 not-both false b t = inl tt
 
+-- a test before one that holds
+first-decides : (b : Bool) → b ≡ each (b ∷ true ∷ [])
+first-decides true = refl
+first-decides false = refl
+
 -- ---- the tests, one by one
 
 module _ (s : State) where
@@ -104,15 +109,17 @@ module _ (s : State) where
   abbrev g : List ℕ
   g = s .settings
 
-  -- the tests that `isDataset` makes
+  abbrev k : ℕ
+  k = s .dataset .k
+
+  -- the tests that `isStudy` makes
   abbrev pub tests : List Bool
   tests =
-      between 1 8 (s .dataset .k)
+      between 1 8 k
       ∷ leb n 120
-      ∷ leb (s .dataset .withdrawn) 65535
       ∷ validMinima (s .dataset .k) (s .dataset .minima)
-      ∷ every 120 (validSetting (s .dataset) g)
-      ∷ every 120 (λ i. every 120 (validPlace (s .dataset) d i))
+      ∷ every 120 (validSetting k n g)
+      ∷ every 120 (λ i. every 120 (validPlace n d i))
       ∷ every n (validRow d)
       ∷ []
 
@@ -129,17 +136,17 @@ module _ (s : State) where
   outside i j (inl o) = not-T (held? i j) (λ h. omega (arith, ltb→lt i n (T-left (ltb i n) (ltb j n) h)))
   outside i j (inr o) = not-T (held? i j) (λ h. omega (arith, ltb→lt j n (T-right (ltb i n) (ltb j n) h)))
 
-  module _ (t : T (isDataset s)) where
+  module _ (t : T (isStudy s)) where
     passed : Each tests
-    unfolding isDataset
+    unfolding isStudy
     passed = each-at tests t
 
     few : n ≤ 120
     few = leb→le n 120 (passed .1 .0)
 
-    place-at : (i j : ℕ) → i < 120 → j < 120 → T (validPlace (s .dataset) d i j)
+    place-at : (i j : ℕ) → i < 120 → j < 120 → T (validPlace n d i j)
     place-at i j a b =
-        every-at 120 (validPlace (s .dataset) d i) (every-at 120 (λ i. every 120 (validPlace (s .dataset) d i)) (passed .1 .1 .1 .1 .1 .0) i a) j b
+        every-at 120 (validPlace n d i) (every-at 120 (λ i. every 120 (validPlace n d i)) (passed .1 .1 .1 .1 .0) i a) j b
 
     cell-at : (i j : ℕ) → i < n → j < n → Each (cellTests i j)
     unfolding validPlace
@@ -150,9 +157,9 @@ module _ (s : State) where
     setting-at : (i : ℕ) → i < n → (1 ≤ getD g i 0) × (getD g i 0 ≤ s .dataset .k)
     unfolding validSetting
     setting-at i l =
-        between-T 1 (s .dataset .k) (getD g i 0) .0
-        (from-yes (ltb i n) (between 1 (s .dataset .k) (getD g i 0)) (eqb (getD g i 0) 0) (lt→ltb i n l)
-        (every-at 120 (validSetting (s .dataset) g) (passed .1 .1 .1 .1 .0) i (omega (arith, few))))
+        between-T 1 k (getD g i 0) .0
+        (from-yes (ltb i n) (between 1 k (getD g i 0)) (eqb (getD g i 0) 0) (lt→ltb i n l)
+        (every-at 120 (validSetting k n g) (passed .1 .1 .1 .0) i (omega (arith, few))))
 
     same-ways : (i j : ℕ) → i < n → j < n → cell d i j ≡ cell d j i
     same-ways i j a b = eqb→eq (cell d i j) (cell d j i) (cell-at i j a b .1 .0)
@@ -160,36 +167,35 @@ module _ (s : State) where
     at-itself : (i : ℕ) → i < n → cell d i i ≡ 0
     at-itself i a = eqb→eq (cell d i i) 0 (from-yes (eqb i i) (eqb (cell d i i) 0) true (eqb-refl i) (cell-at i i a a .1 .1 .0))
 
-    told : IsDataset s
+    told : IsStudy s
     unfolding validPlace validSetting
     told =
-        let k = between-T 1 8 (s .dataset .k) .0 (passed .0) in
+        let settings = between-T 1 8 k .0 (passed .0) in
         record {
           few = few;
-          k-low = k .0;
-          k-high = k .1;
-          counted = leb→le (s .dataset .withdrawn) 65535 (passed .1 .1 .0);
-          minima = validMinima-T (s .dataset .k) (s .dataset .minima) .0 (passed .1 .1 .1 .0);
+          k-low = settings .0;
+          k-high = settings .1;
+          minima = validMinima-T k (s .dataset .minima) .0 (passed .1 .1 .0);
           setting-low = λ i l. setting-at i l .0;
           setting-high = λ i l. setting-at i l .1;
           distance-high = λ i j a b. leb→le (cell d i j) 1048575 (cell-at i j a b .0);
           both-ways = same-ways;
           itself = at-itself;
-          triangle = rule-by s same-ways at-itself (passed .1 .1 .1 .1 .1 .1 .0);
+          triangle = rule-by s same-ways at-itself (passed .1 .1 .1 .1 .1 .0);
           setting-beyond = λ i l m.
               eqb→eq (getD g i 0) 0
-              (from-no (ltb i n) (between 1 (s .dataset .k) (getD g i 0)) (eqb (getD g i 0) 0) (le→nltb i n l)
-              (every-at 120 (validSetting (s .dataset) g) (passed .1 .1 .1 .1 .0) i m));
+              (from-no (ltb i n) (between 1 k (getD g i 0)) (eqb (getD g i 0) 0) (le→nltb i n l)
+              (every-at 120 (validSetting k n g) (passed .1 .1 .1 .0) i m));
           beyond = λ i j a b o.
               eqb→eq (cell d i j) 0 (from-no (held? i j) (each (cellTests i j)) (eqb (cell d i j) 0) (outside i j o) (place-at i j a b));
         }
 
-  module _ (D : IsDataset s) where
-    setting-of : (i : ℕ) → i < 120 → T (validSetting (s .dataset) g i)
+  module _ (D : IsStudy s) where
+    setting-of : (i : ℕ) → i < 120 → T (validSetting k n g i)
     unfolding validSetting
     setting-of i l =
-        to-cond (ltb i n) (between 1 (s .dataset .k) (getD g i 0)) (eqb (getD g i 0) 0)
-        (λ h. between-T 1 (s .dataset .k) (getD g i 0) .1 (D .setting-low i (ltb→lt i n h), D .setting-high i (ltb→lt i n h)))
+        to-cond (ltb i n) (between 1 k (getD g i 0)) (eqb (getD g i 0) 0)
+        (λ h. between-T 1 k (getD g i 0) .1 (D .setting-low i (ltb→lt i n h), D .setting-high i (ltb→lt i n h)))
         (λ h. eq→eqb (getD g i 0) 0 (D .setting-beyond i (nltb→le i n h) l))
 
     cell-of : (i j : ℕ) → i < n → j < n → Each (cellTests i j)
@@ -205,7 +211,7 @@ module _ (s : State) where
       ),
     )
 
-    place-of : (i j : ℕ) → i < 120 → j < 120 → T (validPlace (s .dataset) d i j)
+    place-of : (i j : ℕ) → i < 120 → j < 120 → T (validPlace n d i j)
     unfolding validPlace
     place-of i j a b =
         to-cond (held? i j) (each (cellTests i j)) (eqb (cell d i j) 0)
@@ -225,23 +231,20 @@ module _ (s : State) where
           third = omega (arith, D .triangle t i j l p q);
         })
 
-    tested : T (isDataset s)
-    unfolding isDataset
+    tested : T (isStudy s)
+    unfolding isStudy
     tested =
         each-of tests (
-          between-T 1 8 (s .dataset .k) .1 (D .k-low, D .k-high),
+          between-T 1 8 k .1 (D .k-low, D .k-high),
           (
             le→leb n 120 (D .few),
             (
-              le→leb (s .dataset .withdrawn) 65535 (D .counted),
+              validMinima-T k (s .dataset .minima) .1 (D .minima),
               (
-                validMinima-T (s .dataset .k) (s .dataset .minima) .1 (D .minima),
+                every-of 120 (validSetting k n g) setting-of,
                 (
-                  every-of 120 (validSetting (s .dataset) g) setting-of,
-                  (
-                    every-of 120 (λ i. every 120 (validPlace (s .dataset) d i)) (λ i a. every-of 120 (validPlace (s .dataset) d i) (λ j b. place-of i j a b)),
-                    (every-of n (validRow d) row-of, tt),
-                  ),
+                  every-of 120 (λ i. every 120 (validPlace n d i)) (λ i a. every-of 120 (validPlace n d i) (λ j b. place-of i j a b)),
+                  (every-of n (validRow d) row-of, tt),
                 ),
               ),
             ),
@@ -249,20 +252,35 @@ module _ (s : State) where
         )
 
   -- one of the tests fails
-  pub no-dataset : (i : ℕ) → getD tests i true ≡ false → false ≡ isDataset s
-  unfolding isDataset
-  no-dataset i e = sym (each-fails tests i e)
+  pub no-study : (i : ℕ) → getD tests i true ≡ false → false ≡ isStudy s
+  unfolding isStudy
+  no-study i e = sym (each-fails tests i e)
 
   -- all but the last have passed
-  pub rows-decide : between 1 8 (s .dataset .k) ≡ true → n ≤ 120 → s .dataset .withdrawn ≤ 65535
-      → validMinima (s .dataset .k) (s .dataset .minima) ≡ true → every 120 (validSetting (s .dataset) g) ≡ true
-      → every 120 (λ i. every 120 (validPlace (s .dataset) d i)) ≡ true → every n (validRow d) ≡ isDataset s
-  unfolding isDataset
-  rows-decide a b c e f h = rw (a, le-leb n 120 b, le-leb (s .dataset .withdrawn) 65535 c, e, f, h) (and-true (every n (validRow d)))
+  pub rows-decide : between 1 8 k ≡ true → n ≤ 120 → validMinima k (s .dataset .minima) ≡ true → every 120 (validSetting k n g) ≡ true
+      → every 120 (λ i. every 120 (validPlace n d i)) ≡ true → every n (validRow d) ≡ isStudy s
+  unfolding isStudy
+  rows-decide a b e f h = rw (a, le-leb n 120 b, e, f, h) (and-true (every n (validRow d)))
+
+  -- the test of a study says exactly what the record says
+  pub isStudy-T : T (isStudy s) ↔ IsStudy s
+  isStudy-T = (told, tested)
+
+  -- a count of 16 bits is in range, so the study decides
+  pub study-decides : s .dataset .withdrawn ≤ 65535 → isStudy s ≡ isDataset s
+  unfolding isDataset validCount
+  study-decides c = rw (le-leb (s .dataset .withdrawn) 65535 c) (first-decides (isStudy s))
+
+  abbrev datasetTests : List Bool
+  datasetTests = isStudy s ∷ validCount (s .dataset .withdrawn) ∷ []
 
   -- the test of reason 21 says exactly what the record says
   pub isDataset-T : T (isDataset s) ↔ IsDataset s
-  isDataset-T = (told, tested)
+  unfolding isDataset validCount
+  isDataset-T = (
+    λ t. let p = each-at datasetTests t in record { study = told (p .0); counted = leb→le (s .dataset .withdrawn) 65535 (p .1 .0) },
+    λ D. each-of datasetTests (tested (D .study), (le→leb (s .dataset .withdrawn) 65535 (D .counted), tt)),
+  )
 
 -- ---- the tests of reason 3
 
@@ -299,18 +317,17 @@ module _ (d : List ℕ) (t : ℕ) (fits : 14400 ≤ length d) (held : t < 120) {
 
 -- ---- the contents of a dataset
 
-module _ (s : State) (D : IsDataset s) where
+module _ (s : State) (D : IsStudy s) where
   pub study-distance : (t u : ℕ) → t < s .dataset .n → u < s .dataset .n → distance (studyOf s) t u ≡ cell (s .distances) t u
   study-distance = distance-by s (D .both-ways) (D .itself)
 
   held : (t : ℕ) → t < size (studyOf s) → t < s .dataset .n
   held t l = omega (arith, study-size s)
 
-  pub valid-contents : ValidContents (contentsOf s)
-  unfolding contentsOf studyOf tideOf
-  valid-contents =
+  pub valid-study : Valid (studyOf s)
+  unfolding studyOf tideOf
+  valid-study =
       record {
-        study = record {
           k-low = D .k-low;
           k-high = D .k-high;
           few = omega (arith, study-size s, D .few);
@@ -327,6 +344,8 @@ module _ (s : State) (D : IsDataset s) where
                 study-distance u v (held u b) (held v c),
                 D .triangle t u v (held t a) (held u b) (held v c),
               );
-        };
-        counted = D .counted;
       }
+
+pub valid-contents : (s : State) → IsDataset s → ValidContents (contentsOf s)
+unfolding contentsOf
+valid-contents s D = record { study = valid-study s (D .study); counted = D .counted }

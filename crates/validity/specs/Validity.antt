@@ -4,17 +4,16 @@ use Prim.Native.Nat.{ℕ, _+_, _≤_, _<_}
 use mathlib.Core.Path.{_≡_}
 use mathlib.Core.Logic.{_⊎_}
 use lib.ListN.{length, getD}
-use Rattle.study.specs.Limits.{cell, maxTides, tableSize, maxDistance, maxWithdrawals}
+use Rattle.study.specs.Limits.{cell, maxTides, tableSize, maxDistance, maxWithdrawals, maxSettings}
 use Rattle.validity.specs.Memory.{State}
 use Rattle.study.specs.Minima.{MinimaFit}
 
--- document 01 on what a book is, of a record and its memory; tides are numbered from 0
-pub record IsDataset (s : State) : Type 0 where
-  -- it holds 0 to 120 tides; k is 1 to 8; it counts withdrawals, 0 to 65,535
+-- document 01 on the tides, k and minima of a book, of a record and its memory; tides are numbered from 0
+pub record IsStudy (s : State) : Type 0 where
+  -- it holds 0 to 120 tides; k is 1 to 8
   pub few : s .dataset .n ≤ maxTides
   pub k-low : 1 ≤ s .dataset .k
-  pub k-high : s .dataset .k ≤ 8
-  pub counted : s .dataset .withdrawn ≤ maxWithdrawals
+  pub k-high : s .dataset .k ≤ maxSettings
   -- b0 is 1 to 120; there are 8 b's, together at most b0, those above k are 0
   pub minima : MinimaFit (s .dataset .k) (s .dataset .minima)
   -- each tide has a setting from 1 to k
@@ -30,6 +29,11 @@ pub record IsDataset (s : State) : Type 0 where
   -- everything beyond the tides held is zero, in rows of 120
   pub setting-beyond : (i : ℕ) → s .dataset .n ≤ i → i < maxTides → getD (s .settings) i 0 ≡ 0
   pub beyond : (i j : ℕ) → i < maxTides → j < maxTides → (s .dataset .n ≤ i) ⊎ (s .dataset .n ≤ j) → cell (s .distances) i j ≡ 0
+
+-- document 01 on what a book is: these, and withdrawals counted, 0 to 65,535
+pub record IsDataset (s : State) : Type 0 where
+  pub study : IsStudy s
+  pub counted : s .dataset .withdrawn ≤ maxWithdrawals
 
 -- long enough for 14,400 distances and 120 settings
 pub record Long (s : State) : Type 0 where

@@ -3,6 +3,8 @@
 use study::Dataset;
 use study::Minima;
 use study::MAX_K;
+use study::MAX_SETTINGS;
+use study::TABLE_SIZE;
 use study::MAX_BLOCK_MINIMUM;
 use triangle::Violation;
 use study::MAX_TIDES;
@@ -13,9 +15,9 @@ ghost use Prim.Native.Nat.{_≤_, _<_};
 ghost use lib.Dec.{leb, ltb, eqb};
 ghost use lib.ListN.{length, getD};
 ghost use Rattle.lists.specs.Lists.{every, sumBelow};
-ghost use Rattle.study.specs.Limits.{maxTides, tableSize, maxDistance};
+ghost use Rattle.study.specs.Limits.{maxTides, tableSize, maxDistance, maxSettings};
 ghost use Rattle.study.specs.Study.{validMinima};
-ghost use Rattle.validity.specs.Memory.{stateOf, validSetting, validPlace, validRow, isDataset};
+ghost use Rattle.validity.specs.Memory.{stateOf, tooShort, validSetting, validPlace, validRow, isStudy, isDataset};
 
 fn byte(x: u8) -> usize
     ensures { λ r. ⌜ (r ≡ x) × (r < 256) ⌝ }
@@ -23,12 +25,11 @@ fn byte(x: u8) -> usize
     x as usize
 }
 
-fn valid_setting(dataset: Dataset, settings: &[u8], i: usize) -> bool
+// Place i of the settings of n tides.
+fn valid_setting(k: u8, n: usize, settings: &[u8], i: usize) -> bool
     requires { ⌜ i < length (now settings) ⌝ }
-    ensures { λ r. ⌜ r ≡ validSetting dataset (now (settings .entry)) i ⌝ }
+    ensures { λ r. ⌜ r ≡ validSetting k n (now (settings .entry)) i ⌝ }
 {
-    let n = dataset.n;
-    let k = dataset.k;
     let x = settings[i];
     if n <= i {
         return x == 0;
@@ -39,13 +40,14 @@ fn valid_setting(dataset: Dataset, settings: &[u8], i: usize) -> bool
     x <= k
 }
 
-fn valid_settings(dataset: Dataset, settings: &[u8]) -> bool
+// All places of the settings.
+fn valid_settings(k: u8, n: usize, settings: &[u8]) -> bool
     requires { ⌜ maxTides ≤ length (now settings) ⌝ }
-    ensures { λ r. ⌜ r ≡ every maxTides (validSetting dataset (now (settings .entry))) ⌝ }
+    ensures { λ r. ⌜ r ≡ every maxTides (validSetting k n (now (settings .entry))) ⌝ }
 {
     let mut i: usize = 0;
     while i < MAX_TIDES {
-        if !valid_setting(dataset, settings, i) {
+        if !valid_setting(k, n, settings, i) {
             return false;
         }
         i += 1;
@@ -53,12 +55,12 @@ fn valid_settings(dataset: Dataset, settings: &[u8]) -> bool
     true
 }
 
-fn valid_place(dataset: Dataset, distances: &[u32], i: usize, j: usize) -> bool
+// Place j of row i of the distances of n tides.
+fn valid_place(n: usize, distances: &[u32], i: usize, j: usize) -> bool
     requires { ⌜ tableSize ≤ length (now distances) ⌝ }
     requires { ⌜ (i < maxTides) × (j < maxTides) ⌝ }
-    ensures { λ r. ⌜ r ≡ validPlace dataset (now (distances .entry)) i j ⌝ }
+    ensures { λ r. ⌜ r ≡ validPlace n (now (distances .entry)) i j ⌝ }
 {
-    let n = dataset.n;
     let x = distances[i * MAX_TIDES + j];
     if n <= i {
         return x == 0;
@@ -79,14 +81,14 @@ fn valid_place(dataset: Dataset, distances: &[u32], i: usize, j: usize) -> bool
 }
 
 // Row i of the memory.
-fn valid_places(dataset: Dataset, distances: &[u32], i: usize) -> bool
+fn valid_places(n: usize, distances: &[u32], i: usize) -> bool
     requires { ⌜ tableSize ≤ length (now distances) ⌝ }
     requires { ⌜ i < maxTides ⌝ }
-    ensures { λ r. ⌜ r ≡ every maxTides (validPlace dataset (now (distances .entry)) i) ⌝ }
+    ensures { λ r. ⌜ r ≡ every maxTides (validPlace n (now (distances .entry)) i) ⌝ }
 {
     let mut j: usize = 0;
     while j < MAX_TIDES {
-        if !valid_place(dataset, distances, i, j) {
+        if !valid_place(n, distances, i, j) {
             return false;
         }
         j += 1;
@@ -94,13 +96,14 @@ fn valid_places(dataset: Dataset, distances: &[u32], i: usize) -> bool
     true
 }
 
-fn valid_distances(dataset: Dataset, distances: &[u32]) -> bool
+// All rows of the memory.
+fn valid_distances(n: usize, distances: &[u32]) -> bool
     requires { ⌜ tableSize ≤ length (now distances) ⌝ }
-    ensures { λ r. ⌜ r ≡ every maxTides (λ i. every maxTides (validPlace dataset (now (distances .entry)) i)) ⌝ }
+    ensures { λ r. ⌜ r ≡ every maxTides (λ i. every maxTides (validPlace n (now (distances .entry)) i)) ⌝ }
 {
     let mut i: usize = 0;
     while i < MAX_TIDES {
-        if !valid_places(dataset, distances, i) {
+        if !valid_places(n, distances, i) {
             return false;
         }
         i += 1;
@@ -108,7 +111,7 @@ fn valid_distances(dataset: Dataset, distances: &[u32]) -> bool
     true
 }
 
-// Whether tide t obeys the triangle rule with every pair before it: its row in memory is searched as Enter searches a new one.
+// Whether tide t obeys the triangle inequality with every pair before it: its row in memory is searched as Enter searches a new one.
 fn valid_row(distances: &[u32], t: usize) -> bool
     requires { ⌜ tableSize ≤ length (now distances) ⌝ }
     requires { ⌜ t < maxTides ⌝ }
@@ -139,23 +142,23 @@ fn valid_rows(distances: &[u32], n: usize) -> bool
 }
 
 // A minimum of a setting above k is 0.
-fn zero_above(b: [u8; 8], k: u8, j: usize) -> bool
-    requires { ⌜ j < 8 ⌝ }
+fn zero_above(b: [u8; MAX_SETTINGS], k: u8, j: usize) -> bool
+    requires { ⌜ j < maxSettings ⌝ }
     ensures { λ r. ⌜ r ≡ cond (ltb j k) true (eqb (getD b j 0) 0) ⌝ }
 {
     let x = b[j];
-    let kinds = k as usize;
-    if j < kinds {
+    let used = k as usize;
+    if j < used {
         return true;
     }
     x == 0
 }
 
-fn zeros_above(b: [u8; 8], k: u8) -> bool
-    ensures { λ r. ⌜ r ≡ every 8 (λ j. cond (ltb j k) true (eqb (getD b j 0) 0)) ⌝ }
+fn zeros_above(b: [u8; MAX_SETTINGS], k: u8) -> bool
+    ensures { λ r. ⌜ r ≡ every maxSettings (λ j. cond (ltb j k) true (eqb (getD b j 0) 0)) ⌝ }
 {
     let mut j: usize = 0;
-    while j < 8 {
+    while j < MAX_SETTINGS {
         if !zero_above(b, k, j) {
             return false;
         }
@@ -165,12 +168,12 @@ fn zeros_above(b: [u8; 8], k: u8) -> bool
 }
 
 // The b's together, with room for all of them.
-fn sum_minima(b: [u8; 8]) -> usize
-    ensures { λ r. ⌜ r ≡ sumBelow 8 (λ j. getD b j 0) ⌝ }
+fn sum_minima(b: [u8; MAX_SETTINGS]) -> usize
+    ensures { λ r. ⌜ r ≡ sumBelow maxSettings (λ j. getD b j 0) ⌝ }
 {
     let mut total: usize = 0;
     let mut j: usize = 0;
-    while j < 8 {
+    while j < MAX_SETTINGS {
         total += byte(b[j]);
         j += 1;
     }
@@ -217,11 +220,11 @@ pub fn row_in_range(row: &[u32]) -> bool
     true
 }
 
-// Of memory that is not short.
-pub fn is_dataset(dataset: Dataset, distances: &[u32], settings: &[u8]) -> bool
+// Whether k, n, minima and memory, which is not short, are those of a study.
+pub fn is_study(dataset: Dataset, distances: &[u32], settings: &[u8]) -> bool
     requires { ⌜ tableSize ≤ length (now distances) ⌝ }
     requires { ⌜ maxTides ≤ length (now settings) ⌝ }
-    ensures { λ r. ⌜ r ≡ isDataset (stateOf dataset (now (distances .entry)) (now (settings .entry))) ⌝ }
+    ensures { λ r. ⌜ r ≡ isStudy (stateOf dataset (now (distances .entry)) (now (settings .entry))) ⌝ }
 {
     let k = dataset.k;
     if k < 1 {
@@ -238,11 +241,30 @@ pub fn is_dataset(dataset: Dataset, distances: &[u32], settings: &[u8]) -> bool
     if !valid_minima(minima, k) {
         return false;
     }
-    if !valid_settings(dataset, settings) {
+    if !valid_settings(k, n, settings) {
         return false;
     }
-    if !valid_distances(dataset, distances) {
+    if !valid_distances(n, distances) {
         return false;
     }
     valid_rows(distances, n)
+}
+
+// Reason 21, of memory that is not short. A count of 16 bits is in range, so the study decides.
+pub fn is_dataset(dataset: Dataset, distances: &[u32], settings: &[u8]) -> bool
+    requires { ⌜ tableSize ≤ length (now distances) ⌝ }
+    requires { ⌜ maxTides ≤ length (now settings) ⌝ }
+    ensures { λ r. ⌜ r ≡ isDataset (stateOf dataset (now (distances .entry)) (now (settings .entry))) ⌝ }
+{
+    is_study(dataset, distances, settings)
+}
+
+// Reason 1 of every call: memory that has room for no dataset.
+pub fn is_short(distances: &[u32], settings: &[u8]) -> bool
+    ensures { λ r. ⌜ r ≡ tooShort (now (distances .entry)) (now (settings .entry)) ⌝ }
+{
+    if distances.len() < TABLE_SIZE {
+        return true;
+    }
+    settings.len() < MAX_TIDES
 }

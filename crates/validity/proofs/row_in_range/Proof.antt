@@ -16,28 +16,16 @@ Inv-loop row n i₀ i = (i ≤ (length row)) × (every i (λ i. leb (getD row i 
 abbrev μ-loop : tie.MeasureT-loop
 μ-loop row n i₀ i = (length row) - i
 
-loop-holds : tie.Need-loop-holds Inv-loop μ-loop
-loop-holds c = (omega arith, every-none _)
-
-returns : tie.Need-returns Inv-loop μ-loop
-returns c = sym (every-fails _ _ _ (omega arith) (test-fails (c .before .in-range .ensures) (c .if1 .taken)))
-
-loop-again : tie.Need-loop-again Inv-loop μ-loop
-loop-again c = (omega arith, every-more _ _ (c .before .before .before .loop .inv .1) (test-passes (c .before .in-range .ensures) (c .if1 .left)))
-
-returns-2 : tie.Need-returns-2 Inv-loop μ-loop
-returns-2 c = sym (every-done _ _ _ (omega arith) (omega arith) (c .before .loop .inv .1))
-
 pub row-in-range-spec : {M : Type 1} → statement M
 row-in-range-spec =
     tie.close
     (tie.spec
     Inv-loop
     μ-loop
-    loop-holds
+    (λ c. (omega arith, every-none _))
     (λ c κs. omega arith)
-    returns
+    (λ c. sym (every-fails _ _ _ (omega arith) (test-fails (c .before .in-range .ensures) (c .if1 .taken))))
     (λ c. omega arith)
     (λ c. omega arith)
-    loop-again
-    returns-2)
+    (λ c. (omega arith, every-more _ _ (c .before .before .before .loop .inv .1) (test-passes (c .before .in-range .ensures) (c .if1 .left))))
+    (λ c. sym (every-done _ _ _ (omega arith) (omega arith) (c .before .loop .inv .1))))

@@ -10,22 +10,10 @@ use Rattle.validity.proofs.valid_distances.Statement.{statement}
 use Rattle.validity.proofs.valid_distances.Tie as tie
 
 abbrev Inv-loop : tie.InvT-loop
-Inv-loop dataset distances i₀ i = (i ≤ 120) × (every i (λ i. every 120 (validPlace dataset distances i)) ≡ true)
+Inv-loop n distances i₀ i = (i ≤ 120) × (every i (λ i. every 120 (validPlace n distances i)) ≡ true)
 
 abbrev μ-loop : tie.MeasureT-loop
-μ-loop dataset distances i₀ i = 120 - i
-
-loop-holds : tie.Need-loop-holds Inv-loop μ-loop
-loop-holds c = (omega arith, every-none _)
-
-returns : tie.Need-returns Inv-loop μ-loop
-returns c = sym (every-fails _ _ _ (omega arith) (test-fails (c .before .valid-places .ensures) (c .if1 .taken)))
-
-loop-again : tie.Need-loop-again Inv-loop μ-loop
-loop-again c = (omega arith, every-more _ _ (c .before .before .before .loop .inv .1) (test-passes (c .before .valid-places .ensures) (c .if1 .left)))
-
-returns-2 : tie.Need-returns-2 Inv-loop μ-loop
-returns-2 c = sym (every-done _ _ _ (omega arith) (omega arith) (c .before .loop .inv .1))
+μ-loop n distances i₀ i = 120 - i
 
 pub valid-distances-spec : {M : Type 1} → statement M
 valid-distances-spec =
@@ -33,10 +21,10 @@ valid-distances-spec =
     (tie.spec
     Inv-loop
     μ-loop
-    loop-holds
+    (λ c. (omega arith, every-none _))
     (λ c κs. omega arith)
-    returns
+    (λ c. sym (every-fails _ _ _ (omega arith) (test-fails (c .before .valid-places .ensures) (c .if1 .taken))))
     (λ c. omega arith)
     (λ c. omega arith)
-    loop-again
-    returns-2)
+    (λ c. (omega arith, every-more _ _ (c .before .before .before .loop .inv .1) (test-passes (c .before .valid-places .ensures) (c .if1 .left))))
+    (λ c. sym (every-done _ _ _ (omega arith) (omega arith) (c .before .loop .inv .1))))

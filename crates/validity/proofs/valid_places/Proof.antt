@@ -10,22 +10,10 @@ use Rattle.validity.proofs.valid_places.Statement.{statement}
 use Rattle.validity.proofs.valid_places.Tie as tie
 
 abbrev Inv-loop : tie.InvT-loop
-Inv-loop dataset distances i j₀ j = (j ≤ 120) × (every j (validPlace dataset distances i) ≡ true)
+Inv-loop n distances i j₀ j = (j ≤ 120) × (every j (validPlace n distances i) ≡ true)
 
 abbrev μ-loop : tie.MeasureT-loop
-μ-loop dataset distances i j₀ j = 120 - j
-
-loop-holds : tie.Need-loop-holds Inv-loop μ-loop
-loop-holds c = (omega arith, every-none _)
-
-returns : tie.Need-returns Inv-loop μ-loop
-returns c = sym (every-fails _ _ _ (omega arith) (test-fails (c .before .valid-place .ensures) (c .if1 .taken)))
-
-loop-again : tie.Need-loop-again Inv-loop μ-loop
-loop-again c = (omega arith, every-more _ _ (c .before .before .before .loop .inv .1) (test-passes (c .before .valid-place .ensures) (c .if1 .left)))
-
-returns-2 : tie.Need-returns-2 Inv-loop μ-loop
-returns-2 c = sym (every-done _ _ _ (omega arith) (omega arith) (c .before .loop .inv .1))
+μ-loop n distances i j₀ j = 120 - j
 
 pub valid-places-spec : {M : Type 1} → statement M
 valid-places-spec =
@@ -33,10 +21,10 @@ valid-places-spec =
     (tie.spec
     Inv-loop
     μ-loop
-    loop-holds
+    (λ c. (omega arith, every-none _))
     (λ c κs. omega arith)
-    returns
+    (λ c. sym (every-fails _ _ _ (omega arith) (test-fails (c .before .valid-place .ensures) (c .if1 .taken))))
     (λ c. omega arith)
     (λ c. omega arith)
-    loop-again
-    returns-2)
+    (λ c. (omega arith, every-more _ _ (c .before .before .before .loop .inv .1) (test-passes (c .before .valid-place .ensures) (c .if1 .left))))
+    (λ c. sym (every-done _ _ _ (omega arith) (omega arith) (c .before .loop .inv .1))))

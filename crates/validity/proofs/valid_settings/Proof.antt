@@ -10,22 +10,10 @@ use Rattle.validity.proofs.valid_settings.Statement.{statement}
 use Rattle.validity.proofs.valid_settings.Tie as tie
 
 abbrev Inv-loop : tie.InvT-loop
-Inv-loop dataset settings i₀ i = (i ≤ 120) × (every i (validSetting dataset settings) ≡ true)
+Inv-loop k n settings i₀ i = (i ≤ 120) × (every i (validSetting k n settings) ≡ true)
 
 abbrev μ-loop : tie.MeasureT-loop
-μ-loop dataset settings i₀ i = 120 - i
-
-loop-holds : tie.Need-loop-holds Inv-loop μ-loop
-loop-holds c = (omega arith, every-none _)
-
-returns : tie.Need-returns Inv-loop μ-loop
-returns c = sym (every-fails _ _ _ (omega arith) (test-fails (c .before .valid-setting .ensures) (c .if1 .taken)))
-
-loop-again : tie.Need-loop-again Inv-loop μ-loop
-loop-again c = (omega arith, every-more _ _ (c .before .before .before .loop .inv .1) (test-passes (c .before .valid-setting .ensures) (c .if1 .left)))
-
-returns-2 : tie.Need-returns-2 Inv-loop μ-loop
-returns-2 c = sym (every-done _ _ _ (omega arith) (omega arith) (c .before .loop .inv .1))
+μ-loop k n settings i₀ i = 120 - i
 
 pub valid-settings-spec : {M : Type 1} → statement M
 valid-settings-spec =
@@ -33,10 +21,10 @@ valid-settings-spec =
     (tie.spec
     Inv-loop
     μ-loop
-    loop-holds
+    (λ c. (omega arith, every-none _))
     (λ c κs. omega arith)
-    returns
+    (λ c. sym (every-fails _ _ _ (omega arith) (test-fails (c .before .valid-setting .ensures) (c .if1 .taken))))
     (λ c. omega arith)
     (λ c. omega arith)
-    loop-again
-    returns-2)
+    (λ c. (omega arith, every-more _ _ (c .before .before .before .loop .inv .1) (test-passes (c .before .valid-setting .ensures) (c .if1 .left))))
+    (λ c. sym (every-done _ _ _ (omega arith) (omega arith) (c .before .loop .inv .1))))
