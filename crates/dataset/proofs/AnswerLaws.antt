@@ -2,8 +2,8 @@
 use Prim.Native.Nat.{ℕ, suc, _+_, _-_, _≤_, _<_}
 use native.Mathlib.Omega.{arith}
 use native.Mathlib.Numerals.{add-one}
-use mathlib.Core.Path.{_≡_, refl, sym, ap, _∙_}
-use mathlib.Core.Bool.{Bool, true, false, cond}
+use mathlib.Core.Path.{_≡_, refl, sym, ap, ap₂, _∙_}
+use mathlib.Core.Bool.{Bool, true, false, cond, not}
 use mathlib.Core.List.{List, []}
 use lib.Dec.{leb, eqb}
 use lib.ListN.{length, getD, set, replicate}
@@ -12,15 +12,16 @@ use Rattle.lists.specs.Lists.{between, every, overwrite}
 use Rattle.lists.proofs.Tests.{true-T}
 use Rattle.study.specs.Limits.{cell}
 use Rattle.study.specs.declared.Minima.{Minima}
+use Rattle.study.specs.declared.Dataset.{Dataset}
 use Rattle.study.specs.declared.Refusal.{Refusal}
 use Rattle.study.specs.declared.Answer.{Answer}
 use Rattle.study.specs.declared.Answer.the-variants.{Done, Refused}
 use Rattle.study.specs.Study.{Study, Contents, size, tide, distance, validMinima}
-use Rattle.study.specs.Refusals.{Numbered, number, seven, numbered, Verdict, accepted, refused, verdictOf, settled, Reason, firstOf}
+use Rattle.study.specs.Refusals.{Numbered, number, seven, numbered, Verdict, accepted, refused, verdictOf, settled, Reason, firstOf, freshReasons, heldReasons}
 use Rattle.study.specs.Calls.{openReasons, opened, opening, minimaReasons, withMinima, settingMinima, Pair, violations, enterReasons, entered, entering, withdrawReasons, withdrawn, withdrawing}
 use Rattle.study.proofs.CallLaws.{enters, entered-size, withdraws, withdrawn-size}
-use Rattle.validity.specs.Memory.{State, stateOf, short, isDataset, studyOf, contentsOf, recordOf, distancesOf, settingsOf, stored}
-use Rattle.dataset.specs.Answers.{freshAnswer, heldAnswer, openAnswer, openLeaves, minimaAnswer, minimaLeaves, enterAnswer, enterLeaves, withdrawAnswer, withdrawLeaves}
+use Rattle.validity.specs.Memory.{State, stateOf, short, isDataset, studyOf, contentsOf, setK, setSize, setMinima, setCount, recordOf, distancesOf, settingsOf, stored}
+use Rattle.dataset.specs.Answers.{freshAnswer, freshLeaves, heldAnswer, heldLeaves, openAnswer, openLeaves, minimaAnswer, minimaLeaves, enterAnswer, enterLeaves, withdrawAnswer, withdrawLeaves}
 use Rattle.validity.proofs.ValidityLaws.{isDataset-T, study-size, study-distance}
 use Rattle.validity.proofs.LayoutLaws.{long, own-layout}
 use Rattle.triangle.specs.Pairs.{violationOf}
@@ -39,15 +40,15 @@ stays {a} {x} {v} new old e f = ap (λ w. settled w new old) (sym (ap verdictOf 
 
 module _ (s : State) where
   pub held-1 : (own : Contents → List Reason) → short s ≡ true → refused (number 1) ≡ heldAnswer s own
-  unfolding heldAnswer freshAnswer
+  unfolding heldAnswer heldReasons freshReasons firstOf
   held-1 own e = rw e
 
   pub held-21 : (own : Contents → List Reason) → short s ≡ false → isDataset s ≡ false → refused (number 21) ≡ heldAnswer s own
-  unfolding heldAnswer freshAnswer
+  unfolding heldAnswer heldReasons freshReasons firstOf
   held-21 own e f = rw (e, f)
 
   pub held-own : (own : Contents → List Reason) → short s ≡ false → isDataset s ≡ true → firstOf (own (contentsOf s)) ≡ heldAnswer s own
-  unfolding heldAnswer freshAnswer
+  unfolding heldAnswer heldReasons freshReasons firstOf
   held-own own e f = rw (e, f)
 
   -- what an accepted call tells
@@ -57,26 +58,26 @@ module _ (s : State) where
     pub reasons : firstOf (own (contentsOf s)) ≡ accepted
 
   pub accepted-held : (own : Contents → List Reason) → heldAnswer s own ≡ accepted → HeldAccepted own
-  unfolding heldAnswer freshAnswer
+  unfolding heldAnswer heldReasons freshReasons firstOf
   accepted-held own e = by (short s) (isDataset s) refl refl e
     where
       never : (r : Numbered) → refused r ≡ accepted → ⊥
       never r q = let z : _≡_ {A = ℕ} 0 1 = cc in omega arith
 
       by : (a b : Bool) → short s ≡ a → isDataset s ≡ b
-          → cond a (refused (number 1)) (cond b (firstOf (own (contentsOf s))) (refused (number 21))) ≡ accepted → HeldAccepted own
+          → cond a (refused (number 1)) (cond (not b) (refused (number 21)) (firstOf (own (contentsOf s)))) ≡ accepted → HeldAccepted own
       by true b p q h = absurd (never (number 1) h)
       by false true p q h = record { not-short = p; tested = q; reasons = h }
       by false false p q h = absurd (never (number 21) h)
 
   -- what refuses before the call's own reasons refuses the call
   pub held-refused : (own : Contents → List Reason) {a : Answer} {x : Refusal} → a ≡ Refused x → verdictOf a ≡ heldAnswer s (λ _. []) → verdictOf a ≡ heldAnswer s own
-  unfolding heldAnswer freshAnswer firstOf
+  unfolding heldAnswer heldReasons freshReasons firstOf
   held-refused own {a} {x} e f = f ∙ by (short s) (isDataset s) (sym (ap verdictOf e) ∙ f)
     where
-      by : (a b : Bool) → refused (numbered x) ≡ cond a (refused (number 1)) (cond b accepted (refused (number 21)))
-          → cond a (refused (number 1)) (cond b accepted (refused (number 21)))
-          ≡ cond a (refused (number 1)) (cond b (firstOf (own (contentsOf s))) (refused (number 21)))
+      by : (a b : Bool) → refused (numbered x) ≡ cond a (refused (number 1)) (cond (not b) (refused (number 21)) accepted)
+          → cond a (refused (number 1)) (cond (not b) (refused (number 21)) accepted)
+          ≡ cond a (refused (number 1)) (cond (not b) (refused (number 21)) (firstOf (own (contentsOf s))))
       by true b h = refl
       by false true h = let z : _≡_ {A = ℕ} 0 1 = cc in absurd (omega arith)
       by false false h = refl
@@ -91,53 +92,42 @@ module _ (s : State) where
 
 module _ (s : State) (k : ℕ) where
   pub open-1 : short s ≡ true → (refused (number 1) ≡ openAnswer s k) × (s ≡ openLeaves s k)
-  unfolding openLeaves openAnswer freshAnswer
+  unfolding openLeaves openAnswer freshLeaves freshAnswer freshReasons firstOf
   open-1 e = (rw e, rw e)
 
   module _ (e : short s ≡ false) where
     pub open-2 : between 1 8 k ≡ false → (refused (number 2) ≡ openAnswer s k) × (s ≡ openLeaves s k)
-    unfolding openLeaves openAnswer freshAnswer openReasons firstOf
+    unfolding openLeaves openAnswer freshLeaves freshAnswer freshReasons openReasons firstOf
     open-2 f = (rw (e, f), rw (e, f))
 
     open-done : between 1 8 k ≡ true → (accepted ≡ openAnswer s k) × (stored (opening k) s ≡ openLeaves s k)
-    unfolding openLeaves openAnswer freshAnswer openReasons firstOf
+    unfolding openLeaves openAnswer freshLeaves freshAnswer freshReasons openReasons firstOf
     open-done f = (rw (e, f), rw (e, f))
 
     -- the record that Open makes, over cleared memory
+    abbrev emptied : Dataset
+    emptied = setK k (setSize 0 (setMinima (record { b0 = 1; b = replicate 8 0 }) (setCount 0 (s .dataset))))
+
     pub opened-state : {d g : List ℕ} → between 1 8 k ≡ true → d ≡ overwrite 14400 (λ _. 0) (s .distances) → g ≡ overwrite 120 (λ _. 0) (s .settings)
-        → (accepted ≡ openAnswer s k)
-        × (stateOf (record { k = k; n = 0; minima = record { b0 = 1; b = replicate 8 0 }; withdrawn = 0 }) d g ≡ openLeaves s k)
+        → (accepted ≡ openAnswer s k) × (stateOf emptied d g ≡ openLeaves s k)
     unfolding stored opening recordOf opened
     opened-state {d} {g} f p q =
         let w = open-done f in
-        (w .0, laid ∙ w .1)
-      where
-        far : d ≡ distancesOf (opened k) (s .distances)
-        far = p ∙ cleared-distances k (s .distances)
-
-        kinds : g ≡ settingsOf (opened k) (s .settings)
-        kinds = q ∙ cleared-settings k (s .settings)
-
-        laid : stateOf (record { k = k; n = 0; minima = record { b0 = 1; b = replicate 8 0 }; withdrawn = 0 }) d g ≡ stored (opening k) s
-        laid = λ i. record {
-          dataset = record { k = k; n = 0; minima = record { b0 = 1; b = replicate 8 0 }; withdrawn = 0 };
-          distances = far i;
-          settings = kinds i;
-        }
+        (w .0, ap₂ (stateOf emptied) (p ∙ cleared-distances k (s .distances)) (q ∙ cleared-settings k (s .settings)) ∙ w .1)
 
 -- ---- refused
 
 module _ (s : State) {a : Answer} {x : Refusal} (e : a ≡ Refused x) where
   pub minima-stays : (M : Minima) → verdictOf a ≡ minimaAnswer s M → s ≡ minimaLeaves s M
-  unfolding minimaLeaves
+  unfolding minimaLeaves heldLeaves minimaAnswer
   minima-stays M f = stays (stored (settingMinima M (contentsOf s)) s) s e f
 
   pub enter-stays : (setting : ℕ) (row : List ℕ) → verdictOf a ≡ enterAnswer s setting row → s ≡ enterLeaves s setting row
-  unfolding enterLeaves
+  unfolding enterLeaves heldLeaves enterAnswer
   enter-stays setting row f = stays (stored (entering setting row (contentsOf s)) s) s e f
 
   pub withdraw-stays : (t : ℕ) → verdictOf a ≡ withdrawAnswer s t → s ≡ withdrawLeaves s t
-  unfolding withdrawLeaves
+  unfolding withdrawLeaves heldLeaves withdrawAnswer
   withdraw-stays t f = stays (stored (withdrawing t (contentsOf s)) s) s e f
 
 -- ---- Minima
@@ -148,22 +138,21 @@ module _ (s : State) (M : Minima) (P : Passed s) where
   minima-own v q = sym q ∙ held-own s (λ H. minimaReasons (H .study) M) (P .not-short) (P .tested)
 
   pub minima-3 : validMinima (s .dataset .k) M ≡ false → (refused (number 3) ≡ minimaAnswer s M) × (s ≡ minimaLeaves s M)
-  unfolding minimaLeaves minimaReasons firstOf studyOf
+  unfolding minimaLeaves heldLeaves minimaAnswer minimaReasons firstOf studyOf
   minima-3 f =
       let a = minima-own (refused (number 3)) (rw f) in
       (a, ap (λ v. settled v (stored (settingMinima M (contentsOf s)) s) s) a)
 
   -- the record with other minima, over the same memory
   abbrev with-minima : State → State
-  with-minima t =
-      stateOf (record { k = t .dataset .k; n = t .dataset .n; minima = M; withdrawn = t .dataset .withdrawn }) (t .distances) (t .settings)
+  with-minima t = stateOf (setMinima M (t .dataset)) (t .distances) (t .settings)
 
   minima-laid : with-minima s ≡ stored (settingMinima M (contentsOf s)) s
   unfolding stored recordOf settingMinima withMinima distancesOf settingsOf distance tide
-  minima-laid = sym (ap with-minima (own-layout s (P .dataset) (P .not-short)))
+  minima-laid = sym (ap with-minima (own-layout s (P .dataset .study) (P .not-short)))
 
   pub minima-done : validMinima (s .dataset .k) M ≡ true → (accepted ≡ minimaAnswer s M) × (with-minima s ≡ minimaLeaves s M)
-  unfolding minimaLeaves minimaReasons firstOf studyOf
+  unfolding minimaLeaves heldLeaves minimaAnswer minimaReasons firstOf studyOf
   minima-done f =
       let a = minima-own accepted (rw f) in
       (a, minima-laid ∙ ap (λ v. settled v (stored (settingMinima M (contentsOf s)) s) s) a)
@@ -222,7 +211,7 @@ module _ (s : State) (setting : ℕ) (row : List ℕ) where
             same =
                 ap (λ (k : ℕ). violationOf (violations (distance S) k new)) (study-size s ∙ sym long)
                 ∙ ap violationOf (violations-same (distance S) (cell (s .distances)) (length row) new new
-                (λ i j a b. study-distance s (P .dataset) i j (omega arith) (omega arith)) (λ i a. refl))
+                (λ i j a b. study-distance s (P .dataset .study) i j (omega arith) (omega arith)) (λ i a. refl))
                 ∙ sym e
 
             pub enter-7 : (i j : ℕ) → r ≡ Violations.Pair i j → refused (seven i j) ≡ enterAnswer s setting row
@@ -236,7 +225,7 @@ module _ (s : State) (setting : ℕ) (row : List ℕ) where
             enter-done q = enter-own accepted (rw (past-22, past-4, kind, row-fits, found-nothing broken (same ∙ q)))
 
   pub enter-accepted : {a : Answer} → a ≡ Done → verdictOf a ≡ enterAnswer s setting row → EnterAccepted s setting row
-  unfolding enterAnswer enterLeaves contentsOf
+  unfolding enterAnswer enterLeaves heldLeaves contentsOf
   enter-accepted e f =
       let q : accepted ≡ enterAnswer s setting row = sym (ap verdictOf e) ∙ f in
       let h = accepted-held s (λ H. enterReasons (H .study) setting row) (sym q) in
@@ -250,7 +239,7 @@ module _ (s : State) (setting : ℕ) (row : List ℕ) where
 
   -- one tide more in the record, its row and column and its setting in memory
   pub entered-state : {d g : List ℕ} → EnterAccepted s setting row → d ≡ withRow row (length row) (s .distances) → g ≡ set (s .settings) n setting
-      → stateOf (record { k = s .dataset .k; n = n + 1; minima = s .dataset .minima; withdrawn = s .dataset .withdrawn }) d g ≡ enterLeaves s setting row
+      → stateOf (setSize (n + 1) (s .dataset)) d g ≡ enterLeaves s setting row
   unfolding stored recordOf contentsOf entering entered studyOf
   entered-state {d} {g} A p q = laid ∙ A .leaves
     where
@@ -258,18 +247,13 @@ module _ (s : State) (setting : ℕ) (row : List ℕ) where
       count = add-one n ∙ sym (entered-size setting row S ∙ ap suc (study-size s))
 
       far : d ≡ distancesOf (entered setting row S) (s .distances)
-      far = p ∙ entered-distances s (A .passed .dataset) setting row (A .length-is) (A .room) (A .passed .long .distances)
+      far = p ∙ entered-distances s (A .passed .dataset .study) setting row (A .length-is) (A .room) (A .passed .long .distances)
 
-      kinds : g ≡ settingsOf (entered setting row S) (s .settings)
-      kinds = q ∙ entered-settings s (A .passed .dataset) setting row (A .length-is) (A .room) (A .passed .long .settings)
+      held : g ≡ settingsOf (entered setting row S) (s .settings)
+      held = q ∙ entered-settings s (A .passed .dataset .study) setting row (A .length-is) (A .room) (A .passed .long .settings)
 
-      laid : stateOf (record { k = s .dataset .k; n = n + 1; minima = s .dataset .minima; withdrawn = s .dataset .withdrawn }) d g
-          ≡ stored (entering setting row (contentsOf s)) s
-      laid = λ i. record {
-        dataset = record { k = s .dataset .k; n = count i; minima = s .dataset .minima; withdrawn = s .dataset .withdrawn };
-        distances = far i;
-        settings = kinds i;
-      }
+      laid : stateOf (setSize (n + 1) (s .dataset)) d g ≡ stored (entering setting row (contentsOf s)) s
+      laid = λ i. stateOf (setSize (count i) (s .dataset)) (far i) (held i)
 
 -- ---- Withdraw
 
@@ -296,7 +280,7 @@ module _ (s : State) (t : ℕ) where
       withdraw-done h = withdraw-own accepted (rw (numbers true held, lt-leb 65535 (s .dataset .withdrawn) h))
 
   pub withdraw-accepted : {a : Answer} → a ≡ Done → verdictOf a ≡ withdrawAnswer s t → WithdrawAccepted s t
-  unfolding withdrawAnswer withdrawLeaves contentsOf
+  unfolding withdrawAnswer withdrawLeaves heldLeaves contentsOf
   withdraw-accepted e f =
       let q : accepted ≡ withdrawAnswer s t = sym (ap verdictOf e) ∙ f in
       let h = accepted-held s (λ H. withdrawReasons H t) (sym q) in
@@ -312,8 +296,7 @@ module _ (s : State) (t : ℕ) where
   -- one tide fewer in the record and one withdrawal more, the later tides moved in memory
   pub withdrawn-state : {d g : List ℕ} → WithdrawAccepted s t → d ≡ overwrite 14400 (movedDistance (s .distances) (t - 1)) (s .distances)
       → g ≡ overwrite 120 (movedSetting (s .settings) (t - 1)) (s .settings)
-      → stateOf (record { k = s .dataset .k; n = s .dataset .n - 1; minima = s .dataset .minima; withdrawn = s .dataset .withdrawn + 1 }) d g
-      ≡ withdrawLeaves s t
+      → stateOf (setSize (s .dataset .n - 1) (setCount (s .dataset .withdrawn + 1) (s .dataset))) d g ≡ withdrawLeaves s t
   unfolding stored recordOf contentsOf withdrawing withdrawn studyOf
   withdrawn-state {d} {g} A p q = laid ∙ A .leaves
     where
@@ -321,15 +304,13 @@ module _ (s : State) (t : ℕ) where
       count = omega (arith, withdrawn-size (t - 1) (studyOf s) (omega (arith, A .low, A .high, study-size s)), study-size s)
 
       far : d ≡ distancesOf (withdrawn (t - 1) (studyOf s)) (s .distances)
-      far = p ∙ withdrawn-distances s (A .passed .dataset) (t - 1)
+      far = p ∙ withdrawn-distances s (A .passed .dataset .study) (t - 1)
 
-      kinds : g ≡ settingsOf (withdrawn (t - 1) (studyOf s)) (s .settings)
-      kinds = q ∙ withdrawn-settings s (A .passed .dataset) (t - 1)
+      held : g ≡ settingsOf (withdrawn (t - 1) (studyOf s)) (s .settings)
+      held = q ∙ withdrawn-settings s (A .passed .dataset .study) (t - 1)
 
-      laid : stateOf (record { k = s .dataset .k; n = s .dataset .n - 1; minima = s .dataset .minima; withdrawn = s .dataset .withdrawn + 1 }) d g
-          ≡ stored (withdrawing t (contentsOf s)) s
-      laid = λ i. record {
-        dataset = record { k = s .dataset .k; n = count i; minima = s .dataset .minima; withdrawn = s .dataset .withdrawn + 1 };
-        distances = far i;
-        settings = kinds i;
-      }
+      counted : Dataset
+      counted = setCount (s .dataset .withdrawn + 1) (s .dataset)
+
+      laid : stateOf (setSize (s .dataset .n - 1) counted) d g ≡ stored (withdrawing t (contentsOf s)) s
+      laid = λ i. stateOf (setSize (count i) counted) (far i) (held i)

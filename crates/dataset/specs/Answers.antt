@@ -1,49 +1,66 @@
 -- What Open, Minima, Enter and Withdraw answer and leave, of the record and the memory that they get. Assumes nothing.
 use Prim.Native.Nat.{ℕ}
-use mathlib.Core.Bool.{cond}
 use mathlib.Core.List.{List}
 use Rattle.study.specs.declared.Minima.{Minima}
 use Rattle.study.specs.Study.{Contents}
-use Rattle.study.specs.Refusals.{number, Verdict, refused, settled, Reason, firstOf}
+use Rattle.study.specs.Refusals.{number, Verdict, refused, settled, Reason, firstOf, freshReasons, heldReasons}
 use Rattle.study.specs.Calls.{openReasons, opening, minimaReasons, settingMinima, enterReasons, entering, withdrawReasons, withdrawing}
 use Rattle.validity.specs.Memory.{State, short, isDataset, contentsOf, stored}
 
--- short memory first; then the call's own verdict
-unfoldable pub freshAnswer : State → Verdict → Verdict
-freshAnswer s own = cond (short s) (refused (number 1)) own
+-- ---- what all calls share
 
--- short memory first, then 21; then the call's own reasons, which look at the contents alone
+-- Open and Read: the first reason of short memory and their own
+unfoldable pub freshAnswer : State → List Reason → Verdict
+freshAnswer s own = firstOf (freshReasons (short s) own)
+
+-- they leave these contents, or everything as it was
+unfoldable pub freshLeaves : State → List Reason → Contents → State
+freshLeaves s own H = settled (freshAnswer s own) (stored H s) s
+
+-- every other call: the first reason of short memory, no dataset, and its own, which look at the contents alone
 unfoldable pub heldAnswer : State → (Contents → List Reason) → Verdict
-heldAnswer s own = freshAnswer s (cond (isDataset s) (firstOf (own (contentsOf s))) (refused (number 21)))
+heldAnswer s own = firstOf (heldReasons (short s) (isDataset s) (own (contentsOf s)))
+
+-- one that changes the contents leaves them changed, or everything as it was
+unfoldable pub heldLeaves : State → (Contents → List Reason) → (Contents → Contents) → State
+heldLeaves s own makes = settled (heldAnswer s own) (stored (makes (contentsOf s)) s) s
 
 -- ---- Open
 
+-- its answer
 unfoldable pub openAnswer : State → ℕ → Verdict
-openAnswer s k = freshAnswer s (firstOf (openReasons k))
+openAnswer s k = freshAnswer s (openReasons k)
 
+-- what it leaves
 unfoldable pub openLeaves : State → ℕ → State
-openLeaves s k = settled (openAnswer s k) (stored (opening k) s) s
+openLeaves s k = freshLeaves s (openReasons k) (opening k)
 
 -- ---- Minima
 
+-- its answer
 unfoldable pub minimaAnswer : State → Minima → Verdict
 minimaAnswer s M = heldAnswer s (λ H. minimaReasons (H .study) M)
 
+-- what it leaves
 unfoldable pub minimaLeaves : State → Minima → State
-minimaLeaves s M = settled (minimaAnswer s M) (stored (settingMinima M (contentsOf s)) s) s
+minimaLeaves s M = heldLeaves s (λ H. minimaReasons (H .study) M) (settingMinima M)
 
 -- ---- Enter
 
+-- its answer
 unfoldable pub enterAnswer : State → ℕ → List ℕ → Verdict
 enterAnswer s setting row = heldAnswer s (λ H. enterReasons (H .study) setting row)
 
+-- what it leaves
 unfoldable pub enterLeaves : State → ℕ → List ℕ → State
-enterLeaves s setting row = settled (enterAnswer s setting row) (stored (entering setting row (contentsOf s)) s) s
+enterLeaves s setting row = heldLeaves s (λ H. enterReasons (H .study) setting row) (entering setting row)
 
 -- ---- Withdraw
 
+-- its answer
 unfoldable pub withdrawAnswer : State → ℕ → Verdict
 withdrawAnswer s t = heldAnswer s (λ H. withdrawReasons H t)
 
+-- what it leaves
 unfoldable pub withdrawLeaves : State → ℕ → State
-withdrawLeaves s t = settled (withdrawAnswer s t) (stored (withdrawing t (contentsOf s)) s) s
+withdrawLeaves s t = heldLeaves s (λ H. withdrawReasons H t) (withdrawing t)

@@ -3,11 +3,12 @@ use study::Answer;
 use study::Dataset;
 use study::Minima;
 use study::MAX_K;
+use study::MAX_SETTINGS;
 use study::Outcome;
 use study::Refusal;
 use triangle::Violation;
+use validity::is_short;
 use study::MAX_TIDES;
-use study::TABLE_SIZE;
 use study::MAX_WITHDRAWALS;
 ghost use mathlib.Core.Path.{_≡_};
 ghost use mathlib.Core.List.{[]};
@@ -21,13 +22,7 @@ pub fn open(dataset: Dataset, distances: &mut [u32], settings: &mut [u8], k: u8)
     ensures answer { λ r. ⌜ verdictOf (r .answer) ≡ openAnswer (stateOf dataset (now (distances .entry)) (now (settings .entry))) k ⌝ }
     ensures leaves { λ r. ⌜ stateOf (r .dataset) (now (distances .exit)) (now (settings .exit)) ≡ openLeaves (stateOf dataset (now (distances .entry)) (now (settings .entry))) k ⌝ }
 {
-    if distances.len() < TABLE_SIZE {
-        return Outcome {
-            answer: Answer::Refused(Refusal::ShortMemory),
-            dataset,
-        };
-    }
-    if settings.len() < MAX_TIDES {
+    if is_short(distances, settings) {
         return Outcome {
             answer: Answer::Refused(Refusal::ShortMemory),
             dataset,
@@ -47,16 +42,18 @@ pub fn open(dataset: Dataset, distances: &mut [u32], settings: &mut [u8], k: u8)
     }
     storage::clear_distances(distances);
     storage::clear_settings(settings);
-    let minima = Minima { b0: 1, b: [0; 8] };
-    let empty = Dataset {
-        k,
-        n: 0,
-        minima,
-        withdrawn: 0,
+    let minima = Minima {
+        b0: 1,
+        b: [0; MAX_SETTINGS],
     };
+    let mut next = dataset;
+    next.k = k;
+    next.n = 0;
+    next.minima = minima;
+    next.withdrawn = 0;
     Outcome {
         answer: Answer::Done,
-        dataset: empty,
+        dataset: next,
     }
 }
 
@@ -64,10 +61,7 @@ pub fn open(dataset: Dataset, distances: &mut [u32], settings: &mut [u8], k: u8)
 pub fn check(dataset: Dataset, distances: &[u32], settings: &[u8]) -> Answer
     ensures { λ r. ⌜ verdictOf r ≡ heldAnswer (stateOf dataset (now (distances .entry)) (now (settings .entry))) (λ _. []) ⌝ }
 {
-    if distances.len() < TABLE_SIZE {
-        return Answer::Refused(Refusal::ShortMemory);
-    }
-    if settings.len() < MAX_TIDES {
+    if is_short(distances, settings) {
         return Answer::Refused(Refusal::ShortMemory);
     }
     if validity::is_dataset(dataset, distances, settings) {
@@ -91,12 +85,8 @@ pub fn set_minima(dataset: Dataset, distances: &[u32], settings: &[u8], minima: 
             dataset,
         };
     }
-    let next = Dataset {
-        k: dataset.k,
-        n: dataset.n,
-        minima,
-        withdrawn: dataset.withdrawn,
-    };
+    let mut next = dataset;
+    next.minima = minima;
     Outcome {
         answer,
         dataset: next,
@@ -152,13 +142,9 @@ fn add_tide(
     let n = dataset.n;
     storage::put_row(distances, row);
     settings[n] = setting;
-    let minima = dataset.minima;
-    Dataset {
-        k: dataset.k,
-        n: n + 1,
-        minima,
-        withdrawn: dataset.withdrawn,
-    }
+    let mut next = dataset;
+    next.n = n + 1;
+    next
 }
 
 // One more tide, with the next number, at the row's distances from the tides held.
@@ -218,13 +204,10 @@ fn remove_tide(dataset: Dataset, distances: &mut [u32], settings: &mut [u8], tid
     let m = tide as usize - 1;
     storage::remove_row(distances, m);
     storage::remove_setting(settings, m);
-    let minima = dataset.minima;
-    Dataset {
-        k: dataset.k,
-        n: dataset.n - 1,
-        minima,
-        withdrawn: dataset.withdrawn + 1,
-    }
+    let mut next = dataset;
+    next.n = dataset.n - 1;
+    next.withdrawn = dataset.withdrawn + 1;
+    next
 }
 
 // The named tide goes, and later tides move down by one.

@@ -2,7 +2,6 @@
 -- statement, by computation. Assumes nothing.
 use mathlib.Core.Path.{_≡_}
 use mathlib.Core.List.{[], _∷_, map}
-use Rattle.study.specs.Limits.{maxWithdrawals}
 use Rattle.sheet_text.specs.Text.{ascii}
 use Rattle.sheet_of_file.specs.Sheet.{sheetOf}
 
@@ -24,7 +23,7 @@ Sheets =
     ∷ (0x54 ∷ 0x06 ∷ 0x20 ∷ 0x40 ∷ 0x00 ∷ 0x00 ∷ 0x00 ∷ 0x00 ∷ 0x00 ∷ 0x60 ∷ 0x00 ∷ 0x00 ∷ 0x40 ∷ 0x00 ∷ 0x04 ∷ [])
     ∷ [])
     ≡ ascii "block centre tides widest\n1 1 1 0\nreach 0 widest 0 withdrawn 0\n"
-    ∷ ascii "block centre tides widest\n1 1 1 0\nreach 0 widest 0 withdrawn maxWithdrawals\n"
+    ∷ ascii "block centre tides widest\n1 1 1 0\nreach 0 widest 0 withdrawn 65535\n"
     ∷ ascii "refused 25\n"
     ∷ ascii "refused 24\n"
     ∷ ascii "refused 8\n"

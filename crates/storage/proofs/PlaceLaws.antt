@@ -17,7 +17,7 @@ use Rattle.study.proofs.StudyLaws.{distance-both-ways, distance-itself}
 use Rattle.study.specs.Calls.{opened, entered, withdrawn, skip}
 use Rattle.study.proofs.CallLaws.{entered-size, entered-old, entered-new, entered-held, entered-row, skip-is, withdrawn-setting, withdrawn-distance}
 use Rattle.validity.specs.Memory.{State, studyOf, distancesOf, settingsOf}
-use Rattle.validity.specs.Validity.{IsDataset}
+use Rattle.validity.specs.Validity.{IsStudy}
 use Rattle.validity.proofs.ValidityLaws.{study-size}
 use Rattle.validity.proofs.LayoutLaws.{setting-none, distance-none, memory-distance, memory-setting}
 use Rattle.storage.specs.Places.{withRow, movedDistance, movedSetting}
@@ -90,7 +90,7 @@ module _ (row : List ℕ) where
         ∙ getD-set-other (withRow row m d) (length row * 120 + m) p (getD row m 0) 0 (f m (omega arith))
         ∙ off-row m p (omega arith) (λ i l. f i (omega arith)) (λ i l. g i (omega arith))
 
-module _ (s : State) (D : IsDataset s) (setting : ℕ) (row : List ℕ) (long : length row ≡ s .dataset .n) (few : s .dataset .n < 120) where
+module _ (s : State) (D : IsStudy s) (setting : ℕ) (row : List ℕ) (long : length row ≡ s .dataset .n) (few : s .dataset .n < 120) where
   abbrev n : ℕ
   n = s .dataset .n
 
@@ -239,7 +239,7 @@ moved-setting l m t {g} h e =
     (λ u. sym (moved-none g m t refl u) ∙ moved-none l m t refl u)
     (split (skip m t) 120)
 
-module _ (s : State) (D : IsDataset s) (m : ℕ) where
+module _ (s : State) (D : IsStudy s) (m : ℕ) where
   past : (t : ℕ) → 120 ≤ t → size (studyOf s) ≤ t
   past t h = omega (arith, study-size s, D .few)
 

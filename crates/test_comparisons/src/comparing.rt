@@ -42,7 +42,7 @@ fn right_records(
     centres: Centres,
 ) -> bool {
     let mut m: u8 = 0;
-    while m < MAX_TIDES {
+    while m < 120 {
         let record = records[m as usize];
         if !right_record(record, small, list, centres, m) {
             return false;

@@ -285,7 +285,7 @@ fn full(so_far: Tally) -> Tally {
 }
 
 fn main() {
-    full(tally::new()).print(b"MAX_TIDES tides");
+    full(tally::new()).print(b"120 tides");
     smallest(tally::new()).print(b"no tides");
     tide_refusals(head_refusals(short_memory(tally::new()))).print(b"read refused");
     truncated(tally::new()).print(b"truncated");

@@ -2,7 +2,7 @@
 -- Assumes nothing.
 use Prim.Native.Nat.{ℕ, _+_, _*_, _/_, _%_, _≤_, _<_}
 use native.Mathlib.Omega.{arith}
-use mathlib.Core.Path.{_≡_, refl, sym, ap, ap₂, _∙_}
+use mathlib.Core.Path.{_≡_, refl, sym, ap, ap₂, _∙_, subst}
 use mathlib.Core.Logic.{_⊎_, inl, inr, ⊎-elim}
 use mathlib.Core.Bool.{Bool, true, false, cond, _||_}
 use mathlib.Core.List.{List}
@@ -16,7 +16,7 @@ use Rattle.study.specs.Limits.{cell}
 use Rattle.study.specs.Study.{Tide, Study, Contents, size, noTide, tide, distance}
 use Rattle.study.specs.Theorems.{ValidContents}
 use Rattle.study.proofs.StudyLaws.{validMinima-T, distance-both-ways, distance-itself}
-use Rattle.validity.specs.Memory.{State, short, isDataset, tideOf, studyOf, contentsOf, recordOf, distancesOf, settingsOf, stored}
+use Rattle.validity.specs.Memory.{State, tooShort, short, isDataset, tideOf, studyOf, contentsOf, recordOf, distancesOf, settingsOf, stored}
 use Rattle.validity.specs.Validity.{IsStudy, Long}
 use Rattle.validity.proofs.ValidityLaws.{isDataset-T, study-size, study-setting, study-distance}
 
@@ -122,6 +122,33 @@ module _ (H : Contents) (ok : ValidContents H) (s : State) where
 
 -- ---- the length of the memory
 
+or-left : (a b : Bool) → T a → T (a || b)
+or-left true b t = t
+
+or-right : (a b : Bool) → T b → T (a || b)
+or-right true b t = tt
+or-right false b t = t
+
+-- memory that is not too short
+pub memory-fits : (d g : List ℕ) {r : Bool} → r ≡ tooShort d g → r ≡ false → (14400 ≤ length d) × (120 ≤ length g)
+memory-fits d g e f = by (split (length d) 14400) (split (length g) 120)
+  where
+    never : {b : Bool} → T b → b ≡ false → ⊥
+    never {b} t q = subst T q t
+
+    by : (length d < 14400) ⊎ (14400 ≤ length d) → (length g < 120) ⊎ (120 ≤ length g) → (14400 ≤ length d) × (120 ≤ length g)
+    by (inr a) (inr b) = (a, b)
+    by (inl a) o = absurd (never (or-left (ltb (length d) 14400) (ltb (length g) 120) (lt→ltb (length d) 14400 a)) (sym e ∙ f))
+    by (inr a) (inl b) = absurd (never (or-right (ltb (length d) 14400) (ltb (length g) 120) (lt→ltb (length g) 120 b)) (sym e ∙ f))
+
+-- where the distances fit, the settings decide
+pub settings-decide : (d g : List ℕ) → 14400 ≤ length d
+    → (ltb (length g) 120 ≡ tooShort d g) × (ltb (length g) 120 ≡ false → (14400 ≤ length d) × (120 ≤ length g))
+settings-decide d g l = let e = same in (e, memory-fits d g e)
+  where
+    same : ltb (length g) 120 ≡ tooShort d g
+    same = rw (T-false (ltb (length d) 14400) (le→nltb _ _ l))
+
 module _ (s : State) where
   pub short-yes : (length (s .distances) < 14400) ⊎ (length (s .settings) < 120) → short s ≡ true
   unfolding short
@@ -137,14 +164,13 @@ module _ (s : State) where
   short-no a b = rw (T-false (ltb (length (s .distances)) 14400) (le→nltb _ _ a), T-false (ltb (length (s .settings)) 120) (le→nltb _ _ b))
 
   pub long : short s ≡ false → Long s
-  long e = record { distances = from (split (length (s .distances)) 14400) inl; settings = from (split (length (s .settings)) 120) inr }
-    where
-      never : true ≡ false → ⊥
-      never q = let z : _≡_ {A = ℕ} 0 1 = cc in omega arith
+  unfolding short
+  long e = let fits = memory-fits (s .distances) (s .settings) refl e in record { distances = fits .0; settings = fits .1 }
 
-      from : {a b : ℕ} → (a < b) ⊎ (b ≤ a) → (a < b → (length (s .distances) < 14400) ⊎ (length (s .settings) < 120)) → b ≤ a
-      from (inl h) f = absurd (never (sym (short-yes (f h)) ∙ e))
-      from (inr h) f = h
+-- what the test of the memory says
+pub short-test : (s : State) {r b : Bool} → r ≡ tooShort (s .distances) (s .settings) → r ≡ b → short s ≡ b
+unfolding short
+short-test s e f = sym e ∙ f
 
 module _ (H : Contents) (s : State) where
   -- the excess stays

@@ -7,6 +7,7 @@ use lib.Dec.{leb, ltb, eqb}
 use lib.ListN.{length, getD}
 use Rattle.lists.specs.Lists.{between, each, every, tabulate, overwrite, isEmpty}
 use Rattle.study.specs.Limits.{cell, maxTides, tableSize, maxDistance, maxWithdrawals, maxSettings}
+use Rattle.study.specs.declared.Minima.{Minima}
 use Rattle.study.specs.declared.Dataset.{Dataset}
 use Rattle.study.specs.Study.{Tide, Study, Contents, size, tide, distance, validMinima}
 use Rattle.study.specs.Calls.{violations}
@@ -84,9 +85,25 @@ contentsOf s = record { study = studyOf s; withdrawals = s .dataset .withdrawn }
 
 -- ---- the record and the memory that hold given contents; what stands past the 14,400 and the 120 places stays
 
+-- a record with one of its fields changed: no other definition writes a record anew
+abbrev pub setK : ℕ → Dataset → Dataset
+setK k r = record { k = k; n = r .n; minima = r .minima; withdrawn = r .withdrawn }
+
+-- the number of tides
+abbrev pub setSize : ℕ → Dataset → Dataset
+setSize n r = record { k = r .k; n = n; minima = r .minima; withdrawn = r .withdrawn }
+
+-- the minima
+abbrev pub setMinima : Minima → Dataset → Dataset
+setMinima M r = record { k = r .k; n = r .n; minima = M; withdrawn = r .withdrawn }
+
+-- the count of withdrawals
+abbrev pub setCount : ℕ → Dataset → Dataset
+setCount w r = record { k = r .k; n = r .n; minima = r .minima; withdrawn = w }
+
 -- the record with these contents; what else a record keeps stays
 unfoldable pub recordOf : Contents → Dataset → Dataset
-recordOf H r = record { k = H .study .k; n = size (H .study); minima = H .study .minima; withdrawn = H .withdrawals }
+recordOf H r = let S = H .study in setK (S .k) (setSize (size S) (setMinima (S .minima) (setCount (H .withdrawals) r)))
 
 -- the distances in rows of maxTides
 unfoldable pub distancesOf : Study → List ℕ → List ℕ
@@ -98,9 +115,4 @@ settingsOf S l = overwrite maxTides (λ i. tide S i .setting) l
 
 -- the record and memory of a state with other contents
 unfoldable pub stored : Contents → State → State
-stored H s =
-    record {
-      dataset = recordOf H (s .dataset);
-      distances = distancesOf (H .study) (s .distances);
-      settings = settingsOf (H .study) (s .settings);
-    }
+stored H s = stateOf (recordOf H (s .dataset)) (distancesOf (H .study) (s .distances)) (settingsOf (H .study) (s .settings))

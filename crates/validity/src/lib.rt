@@ -10,7 +10,7 @@ use triangle::Violation;
 use study::MAX_TIDES;
 use study::MAX_DISTANCE;
 ghost use mathlib.Core.Path.{_≡_};
-ghost use mathlib.Core.Bool.{true, cond};
+ghost use mathlib.Core.Bool.{true, false, cond};
 ghost use Prim.Native.Nat.{_≤_, _<_};
 ghost use lib.Dec.{leb, ltb, eqb};
 ghost use lib.ListN.{length, getD};
@@ -261,7 +261,8 @@ pub fn is_dataset(dataset: Dataset, distances: &[u32], settings: &[u8]) -> bool
 
 // Reason 1 of every call: memory that has room for no dataset.
 pub fn is_short(distances: &[u32], settings: &[u8]) -> bool
-    ensures { λ r. ⌜ r ≡ tooShort (now (distances .entry)) (now (settings .entry)) ⌝ }
+    ensures short { λ r. ⌜ r ≡ tooShort (now (distances .entry)) (now (settings .entry)) ⌝ }
+    ensures fits { λ r. ⌜ (r ≡ false → (tableSize ≤ length (now (distances .entry))) × (maxTides ≤ length (now (settings .entry)))) ⌝ }
 {
     if distances.len() < TABLE_SIZE {
         return true;

@@ -6,7 +6,7 @@ use Rattle.dataset.proofs.add_tide.Statement.{statement}
 use Rattle.dataset.proofs.add_tide.Tie as tie
 
 returns : tie.Need-returns
-returns c = entered-state _ _ _ (c .before .before .before .before .before .before .before .before .pre) (c .before .before .before .put-row .ensures) refl
+returns c = entered-state _ _ _ (c .before .before .before .before .before .before .before .pre) (c .before .before .put-row .ensures) refl
 
 pub add-tide-spec : {M : Type 1} → statement M
 add-tide-spec =

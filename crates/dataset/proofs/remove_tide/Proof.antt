@@ -6,9 +6,9 @@ use Rattle.dataset.proofs.remove_tide.Tie as tie
 
 returns : tie.Need-returns
 returns c =
-    let e = c .before .before .before .before .before in
-    withdrawn-state _ _ (e .before .before .before .before .before .before .before .before .pre) (e .before .before .before .before .remove-row .ensures)
-    (e .remove-setting .ensures)
+    let moved = c .before .before .before .before in
+    let row-moved = moved .before .before .before .before in
+    withdrawn-state _ _ (row-moved .before .before .before .before .pre) (row-moved .remove-row .ensures) (moved .remove-setting .ensures)
 
 pub remove-tide-spec : {M : Type 1} → statement M
 remove-tide-spec =
