@@ -65,8 +65,8 @@ module _ (s : State) (list room : ℕ) where
       whole-is : sufficient S (λ t. true) ≡ whole
       unfolding arrayProblem problem meeting
       whole-is =
-          ap (λ (Q : Problem). Q .enough (λ t. true)) (problem-of-arrays s (P .dataset))
-          ∙ meets-same M n (λ t k. refl) (λ t k. sym (le-leb (cell (s .distances) 0 t) 1048575 (P .dataset .distance-high 0 t (omega arith) k)))
+          ap (λ (Q : Problem). Q .enough (λ t. true)) (problem-of-arrays s (P .study))
+          ∙ meets-same M n (λ t k. refl) (λ t k. sym (le-leb (cell (s .distances) 0 t) 1048575 (P .study .distance-high 0 t (omega arith) k)))
 
       module _ {r : Bool} (e : r ≡ whole) where
         pub block-25 : r ≡ false → refused (number 25) ≡ blockAnswer s list room
@@ -138,13 +138,13 @@ module _ (s : State) (list room : ℕ) where
     P = arrayProblem d n (meeting M n g)
 
     pub accepted-sized : SizedArrays (Able M n g) d n
-    accepted-sized = sized-arrays s (A .passed .dataset) (A .passed .long)
+    accepted-sized = sized-arrays s (A .passed .study) (A .passed .long)
 
     pub accepted-valid-arrays : ValidArrays d n (meeting M n g)
-    accepted-valid-arrays = valid-arrays s (A .passed .dataset) (A .enough)
+    accepted-valid-arrays = valid-arrays s (A .passed .study) (A .enough)
 
     same : problem S ≡ P
-    same = problem-of-arrays s (A .passed .dataset)
+    same = problem-of-arrays s (A .passed .study)
 
     module _ {c r w : ℕ} {cs sizes diameters : List ℕ} (B : Blocks d n (meeting M n g) c r w cs sizes diameters) where
       figures-are : record { blocks = c; radius = r; widest = w } ≡ figures S
@@ -186,7 +186,7 @@ module _ (s : State) (list room : ℕ) where
         block-rows =
             record {
               fits = omega (arith, B .few, A .record-room);
-              few = omega (arith, B .few, A .passed .dataset .few);
+              few = omega (arith, B .few, A .passed .study .few);
               records = λ l k.
                   overwrite-ext (rowAt rows) l c (blockRecord S) row-is
                   ∙ ap₂ (λ z v. settled v (overwrite z (blockRecord S) l) l) (ap (λ (F : Figures). F .blocks) figures-are) (A .answer ∙ ap (blockAnswer s list) (sym k));
@@ -198,7 +198,7 @@ pub block-list : (s : State) (old : List ℕ) (room : ℕ) {new : List ℕ} → 
 unfolding blockList
 block-list s old room A e =
     e
-    ∙ ap₂ (λ (Q : Problem) (k : ℕ). blocking Q ++ drop k old) (sym (problem-of-arrays s (A .passed .dataset))) (sym (study-size s))
+    ∙ ap₂ (λ (Q : Problem) (k : ℕ). blocking Q ++ drop k old) (sym (problem-of-arrays s (A .passed .study))) (sym (study-size s))
     ∙ ap (λ v. settled v (blocking (problem (studyOf s)) ++ drop (size (studyOf s)) old) old) (A .answer)
 
 pub block-list-stays : (s : State) (list : List ℕ) (room : ℕ) {a : Answer} {x : Refusal} → a ≡ Refused x → verdictOf a ≡ blockAnswer s (length list) room

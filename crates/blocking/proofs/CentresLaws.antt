@@ -98,7 +98,7 @@ module _ (s : State) (list : List ℕ) where
       unfolding centresFront centreNumbers centres arrayProblem
       front-is =
           ap (λ v. settled v (centreNumbers S g) []) (sym (A .answer))
-          ∙ ap (λ (P : Problem). map suc (centres P g)) (problem-of-arrays s (A .passed .dataset))
+          ∙ ap (λ (P : Problem). map suc (centres P g)) (problem-of-arrays s (A .passed .study))
 
       -- the centres found, written as numbers from 1
       pub centres-filled : {count : ℕ} {cs new : List ℕ} → CentresAt (s .distances) n g count cs → new ≡ overwrite count (λ i. getD cs i 0 + 1) list

@@ -86,7 +86,7 @@ module _ (s : State) (list : List ℕ) where
 
     pub judged-arrays : JudgedArrays (s .settings) n list
     judged-arrays =
-        let z = sized-arrays s (A .passed .dataset) (A .passed .long) in
+        let z = sized-arrays s (A .passed .study) (A .passed .long) in
         record { few = z .few; settings-long = z .able .settings-long; setting-high = z .able .setting-high; list-long = omega (arith, A .long) }
 
     -- the two tests that the code makes
@@ -99,7 +99,7 @@ module _ (s : State) (list : List ℕ) where
     approved-is : approved S list ≡ numbers && sufficient
     unfolding approved feasible arrayProblem meeting
     approved-is =
-        ap₂ (λ (k : ℕ) (P : Problem). every k (λ t. between 1 255 (labels list t)) && feasible P (labels list)) (study-size s) (problem-of-arrays s (A .passed .dataset))
+        ap₂ (λ (k : ℕ) (P : Problem). every k (λ t. between 1 255 (labels list t)) && feasible P (labels list)) (study-size s) (problem-of-arrays s (A .passed .study))
 
     judged : (b : Bool) → numbers && sufficient ≡ b → value (cond b (approval (greatestDiameter (problem S) (labels list))) disapproval) ≡ judgeReply s list
     unfolding judgeReply judgement
@@ -117,5 +117,5 @@ module _ (s : State) (list : List ℕ) where
         → value (approval w) ≡ judgeReply s list
     judge-yes d c e f h =
         ap (λ z. value (approval z)) (h ∙ widest-diameter (s .distances) n (meeting M n (s .settings)) (labels list)
-        ∙ ap (λ (P : Problem). greatestDiameter P (labels list)) (sym (problem-of-arrays s (A .passed .dataset))))
+        ∙ ap (λ (P : Problem). greatestDiameter P (labels list)) (sym (problem-of-arrays s (A .passed .study))))
         ∙ judged true (rw (sym d ∙ c, sym e ∙ f))

@@ -18,8 +18,8 @@ use Rattle.promise.specs.Promise.{meeting, Able}
 use Rattle.radius_theory.specs.Arrays.{within, arrayProblem, SizedArrays, ValidArrays}
 use Rattle.radius_theory.proofs.ArrayLaws.{within-is, within-none}
 use Rattle.validity.specs.Memory.{State, studyOf, contentsOf}
-use Rattle.validity.specs.Validity.{IsDataset, Long}
-use Rattle.validity.proofs.ValidityLaws.{study-size, study-setting, study-distance, valid-contents}
+use Rattle.validity.specs.Validity.{IsStudy, Long}
+use Rattle.validity.proofs.ValidityLaws.{study-size, study-setting, study-distance, valid-study}
 use Rattle.validity.proofs.LayoutLaws.{distance-none}
 
 -- settings and the set count only of the tides there are
@@ -34,7 +34,7 @@ meets-same M n {s} {r} {p} {q} h k =
 abbrev of : ℕ → (ℕ → ℕ → ℕ) → ((ℕ → Bool) → Bool) → Problem
 of n d e = record { size = n; dist = d; enough = e }
 
-module _ (s : State) (D : IsDataset s) where
+module _ (s : State) (D : IsStudy s) where
   abbrev n : ℕ
   n = s .dataset .n
 
@@ -82,5 +82,5 @@ module _ (s : State) (D : IsDataset s) where
         small = D .distance-high;
         enough = λ p. refl;
         whole = subst (λ (P : Problem). T (P .enough (λ t. true))) problem-of-arrays w;
-        lawful = subst Lawful problem-of-arrays (study-lawful (studyOf s) (valid-contents s D .study .triangle));
+        lawful = subst Lawful problem-of-arrays (study-lawful (studyOf s) (valid-study s D .triangle));
       }

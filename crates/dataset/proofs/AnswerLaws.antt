@@ -19,10 +19,11 @@ use Rattle.study.specs.declared.Answer.the-variants.{Done, Refused}
 use Rattle.study.specs.Study.{Study, Contents, size, tide, distance, validMinima}
 use Rattle.study.specs.Refusals.{Numbered, number, seven, numbered, Verdict, accepted, refused, verdictOf, settled, Reason, firstOf, freshReasons, heldReasons}
 use Rattle.study.specs.Calls.{openReasons, opened, opening, minimaReasons, withMinima, settingMinima, Pair, violations, enterReasons, entered, entering, withdrawReasons, withdrawn, withdrawing}
+use Rattle.study.specs.Theorems.{ValidContents}
 use Rattle.study.proofs.CallLaws.{enters, entered-size, withdraws, withdrawn-size}
 use Rattle.validity.specs.Memory.{State, stateOf, short, isDataset, studyOf, contentsOf, setK, setSize, setMinima, setCount, recordOf, distancesOf, settingsOf, stored}
 use Rattle.dataset.specs.Answers.{freshAnswer, freshLeaves, heldAnswer, heldLeaves, openAnswer, openLeaves, minimaAnswer, minimaLeaves, enterAnswer, enterLeaves, withdrawAnswer, withdrawLeaves}
-use Rattle.validity.proofs.ValidityLaws.{isDataset-T, study-size, study-distance}
+use Rattle.validity.proofs.ValidityLaws.{isDataset-T, valid-contents, study-size, study-distance}
 use Rattle.validity.proofs.LayoutLaws.{long, own-layout}
 use Rattle.triangle.specs.Pairs.{violationOf}
 use Rattle.triangle.proofs.PairLaws.{found-nothing, found-pair, violations-same}
@@ -83,10 +84,14 @@ module _ (s : State) where
       by false false h = refl
 
   pub passed-by : short s ≡ false → isDataset s ≡ true → Passed s
-  passed-by e f = record { not-short = e; tested = f; dataset = isDataset-T s .0 (true-T (isDataset s) f); long = long s e }
+  passed-by e f = record { not-short = e; tested = f; study = isDataset-T s .0 (true-T (isDataset s) f) .study; long = long s e }
 
   pub passed : {a : Answer} → a ≡ Done → verdictOf a ≡ heldAnswer s (λ _. []) → Passed s
   passed e f = let h = accepted-held (λ _. []) (sym (sym (ap verdictOf e) ∙ f)) in passed-by (h .not-short) (h .tested)
+
+-- so its contents are valid
+pub passed-valid : (s : State) → Passed s → ValidContents (contentsOf s)
+passed-valid s P = valid-contents s (isDataset-T s .0 (true-T (isDataset s) (P .tested)))
 
 -- ---- Open
 
@@ -149,7 +154,7 @@ module _ (s : State) (M : Minima) (P : Passed s) where
 
   minima-laid : with-minima s ≡ stored (settingMinima M (contentsOf s)) s
   unfolding stored recordOf settingMinima withMinima distancesOf settingsOf distance tide
-  minima-laid = sym (ap with-minima (own-layout s (P .dataset .study) (P .not-short)))
+  minima-laid = sym (ap with-minima (own-layout s (P .study) (P .not-short)))
 
   pub minima-done : validMinima (s .dataset .k) M ≡ true → (accepted ≡ minimaAnswer s M) × (with-minima s ≡ minimaLeaves s M)
   unfolding minimaLeaves heldLeaves minimaAnswer minimaReasons firstOf studyOf
@@ -211,7 +216,7 @@ module _ (s : State) (setting : ℕ) (row : List ℕ) where
             same =
                 ap (λ (k : ℕ). violationOf (violations (distance S) k new)) (study-size s ∙ sym long)
                 ∙ ap violationOf (violations-same (distance S) (cell (s .distances)) (length row) new new
-                (λ i j a b. study-distance s (P .dataset .study) i j (omega arith) (omega arith)) (λ i a. refl))
+                (λ i j a b. study-distance s (P .study) i j (omega arith) (omega arith)) (λ i a. refl))
                 ∙ sym e
 
             pub enter-7 : (i j : ℕ) → r ≡ Violations.Pair i j → refused (seven i j) ≡ enterAnswer s setting row
@@ -247,10 +252,10 @@ module _ (s : State) (setting : ℕ) (row : List ℕ) where
       count = add-one n ∙ sym (entered-size setting row S ∙ ap suc (study-size s))
 
       far : d ≡ distancesOf (entered setting row S) (s .distances)
-      far = p ∙ entered-distances s (A .passed .dataset .study) setting row (A .length-is) (A .room) (A .passed .long .distances)
+      far = p ∙ entered-distances s (A .passed .study) setting row (A .length-is) (A .room) (A .passed .long .distances)
 
       held : g ≡ settingsOf (entered setting row S) (s .settings)
-      held = q ∙ entered-settings s (A .passed .dataset .study) setting row (A .length-is) (A .room) (A .passed .long .settings)
+      held = q ∙ entered-settings s (A .passed .study) setting row (A .length-is) (A .room) (A .passed .long .settings)
 
       laid : stateOf (setSize (n + 1) (s .dataset)) d g ≡ stored (entering setting row (contentsOf s)) s
       laid = λ i. stateOf (setSize (count i) (s .dataset)) (far i) (held i)
@@ -304,10 +309,10 @@ module _ (s : State) (t : ℕ) where
       count = omega (arith, withdrawn-size (t - 1) (studyOf s) (omega (arith, A .low, A .high, study-size s)), study-size s)
 
       far : d ≡ distancesOf (withdrawn (t - 1) (studyOf s)) (s .distances)
-      far = p ∙ withdrawn-distances s (A .passed .dataset .study) (t - 1)
+      far = p ∙ withdrawn-distances s (A .passed .study) (t - 1)
 
       held : g ≡ settingsOf (withdrawn (t - 1) (studyOf s)) (s .settings)
-      held = q ∙ withdrawn-settings s (A .passed .dataset .study) (t - 1)
+      held = q ∙ withdrawn-settings s (A .passed .study) (t - 1)
 
       counted : Dataset
       counted = setCount (s .dataset .withdrawn + 1) (s .dataset)

@@ -8,13 +8,13 @@ use Rattle.study.specs.Limits.{maxTides, maxWithdrawals}
 use Rattle.study.specs.Calls.{entering, withdrawing}
 use Rattle.validity.specs.Memory.{State, short, isDataset, contentsOf, stored}
 use Rattle.dataset.specs.Answers.{enterLeaves, withdrawLeaves}
-use Rattle.validity.specs.Validity.{IsDataset, Long}
+use Rattle.validity.specs.Validity.{IsStudy, Long}
 
 -- what passes the tests of short memory and 21 is a dataset
 pub record Passed (s : State) : Type 0 where
   pub not-short : short s ≡ false
   pub tested : isDataset s ≡ true
-  pub dataset : IsDataset s
+  pub study : IsStudy s
   pub long : Long s
 
 -- what an accepted Enter tells

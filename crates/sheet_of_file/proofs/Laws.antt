@@ -79,7 +79,7 @@ module _ (file : List ℕ) (over : State) (long : short over ≡ false) where
   H = decoded file
 
   own : readAnswer over file ≡ firstOf (readReasons file)
-  unfolding readAnswer freshAnswer
+  unfolding readAnswer freshAnswer freshReasons
   own = rw long
 
   module _ (ok : firstOf (readReasons file) ≡ accepted) where

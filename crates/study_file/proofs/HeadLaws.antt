@@ -19,7 +19,7 @@ use Rattle.file_format.specs.File.{bitLength, byteLength, minimaAt, decoded, he
 use Rattle.file_format.proofs.DecodedLaws.{decoded-size}
 use Rattle.file_format.specs.Head.{Head}
 use Rattle.bit_reader.proofs.FieldLaws.{Got}
-use Rattle.validity.specs.Memory.{recordOf}
+use Rattle.validity.specs.Memory.{setK, setSize, setMinima, setCount, recordOf}
 use Rattle.lists.proofs.Scans.{between-in}
 use Rattle.study_file.proofs.Lengths.{length-sum}
 use Rattle.study_file.specs.Loading.{Begun}
@@ -40,12 +40,12 @@ minima-read s k j b0 {b} l m e f =
     (f ∙ ap (λ z. tabulate z (λ (i : ℕ). bitsAt s (42 + 7 * i) 7) ++ drop z (replicate 8 0)) q
     ∙ ap (λ ys. tabulate k (λ (i : ℕ). bitsAt s (42 + 7 * i) 7) ++ ys) (drop-replicate 0 k 8))
 
-pub record-read : (s : List ℕ) (n k w : ℕ) {M : Minima} → n ≡ bitsAt s 8 7 → k ≡ bitsAt s 15 4 → w ≡ bitsAt s 26 16 → M ≡ minimaAt s k
-    → _≡_ {A = Dataset} (record { k = k; n = n; minima = M; withdrawn = w }) (recordOf (decoded s))
+pub record-read : (s : List ℕ) (r : Dataset) (n k w : ℕ) {M : Minima} → n ≡ bitsAt s 8 7 → k ≡ bitsAt s 15 4 → w ≡ bitsAt s 26 16 → M ≡ minimaAt s k
+    → setK k (setSize n (setMinima M (setCount w r))) ≡ recordOf (decoded s) r
 unfolding recordOf decoded
-record-read s n k w {M} a b c e =
+record-read s r n k w {M} a b c e =
     let f : M ≡ minimaAt s (bitsAt s 15 4) = e ∙ ap (minimaAt s) b in
-    λ i. record { k = b i; n = (a ∙ sym (decoded-size s)) i; minima = f i; withdrawn = c i }
+    λ i. setK (b i) (setSize ((a ∙ sym (decoded-size s)) i) (setMinima (f i) (setCount (c i) r)))
 
 -- no bits fill the last byte
 pub fill-none : (s : List ℕ) (end : ℕ) → 8 * length s - end ≡ 0 → true ≡ eqb (bitsAt s end (8 * length s - end)) 0

@@ -27,7 +27,7 @@ use Rattle.file_format.proofs.DecodedLaws.{decoded-size, decoded-tide, decoded-
 use Rattle.file_format.specs.Head.{Head, Clear}
 use Rattle.file_format.proofs.ReadLaws.{broken, Fits, fits-T, clear-none, accepted-T, refused-five, refused-seven, clear-more}
 use Rattle.validity.specs.Memory.{State, stateOf, studyOf, contentsOf, recordOf, distancesOf, settingsOf, stored}
-use Rattle.validity.specs.Validity.{IsDataset}
+use Rattle.validity.specs.Validity.{IsStudy}
 use Rattle.validity.proofs.LayoutLaws.{setting-none, distance-none, stored-is, stored-contents}
 use Rattle.triangle.proofs.PairLaws.{violations-same}
 use Rattle.storage.specs.Places.{withRow}
@@ -185,8 +185,8 @@ module _ (s : List ℕ) where
           settings = sym (L .settings) i;
         }
 
-    is-dataset : IsDataset σ
-    is-dataset = subst IsDataset laid (stored-is (part s t) valid σ)
+    is-dataset : IsStudy σ
+    is-dataset = subst IsStudy laid (stored-is (part s t) valid σ)
 
     study-is : studyOf σ ≡ P t
     unfolding contentsOf

@@ -5,25 +5,25 @@ use mathlib.Core.Path.{_≡_, sym, ap, _∙_, subst}
 use mathlib.Core.Bool.{Bool, true, false, cond}
 use mathlib.Core.List.{List}
 use lib.Dec.{T}
-use Rattle.study.specs.Refusals.{number, Verdict, accepted, refused, settled, firstOf}
+use Rattle.study.specs.Refusals.{number, Verdict, accepted, refused, settled, firstOf, freshReasons}
 use Rattle.study.specs.Theorems.{ValidContents}
 use Rattle.file_format.specs.File.{fileOf, decoded, readReasons}
 use Rattle.file_format.specs.Theorems.{Bytes}
 use Rattle.file_format.proofs.Proofs.{files}
 use Rattle.validity.specs.Memory.{State, short, isDataset, contentsOf, stored}
-use Rattle.dataset.specs.Answers.{freshAnswer}
+use Rattle.dataset.specs.Answers.{freshAnswer, freshLeaves}
 use Rattle.validity.proofs.Proofs.{for-datasets}
 use Rattle.study_file.specs.Answers.{readAnswer, readLeaves}
 use Rattle.study_file.specs.Theorems.{ForFiles}
 
 -- an accepted Read leaves the contents of its file
 leaves : (over : State) (bytes : List ℕ) → readAnswer over bytes ≡ accepted → readLeaves over bytes ≡ stored (decoded bytes) over
-unfolding readLeaves
+unfolding readLeaves freshLeaves readAnswer
 leaves over bytes e = ap (λ v. settled v (stored (decoded bytes) over) over) e
 
 -- what it accepts has no reason against it
 own : (over : State) (bytes : List ℕ) → readAnswer over bytes ≡ accepted → firstOf (readReasons bytes) ≡ accepted
-unfolding readAnswer freshAnswer
+unfolding readAnswer freshAnswer freshReasons firstOf
 own over bytes e = by (short over) (firstOf (readReasons bytes)) e
   where
     by : (b : Bool) (v : Verdict) → cond b (refused (number 1)) v ≡ accepted → v ≡ accepted
@@ -35,7 +35,7 @@ module _ (s over : State) (t : T (isDataset s)) (e : short over ≡ false) where
   valid = for-datasets .valid s t
 
   accepts : readAnswer over (fileOf (contentsOf s)) ≡ accepted
-  unfolding readAnswer freshAnswer
+  unfolding readAnswer freshAnswer freshReasons firstOf
   accepts = rw e (files .accepts (contentsOf s) valid)
 
   gives : readLeaves over (fileOf (contentsOf s)) ≡ stored (contentsOf s) over

@@ -25,16 +25,16 @@ use Rattle.study_file.specs.Putting.{Writable, PutFields, headFields}
 
 module _ (σ : State) (file : List ℕ) (W : Writable σ file) where
   sum : (t : ℕ) → t ≤ 120 → Sum (σ .dataset .k) t
-  sum t l = length-sum (σ .dataset .k) t (W .dataset .k-high) l
+  sum t l = length-sum (σ .dataset .k) t (W .study .k-high) l
 
   pub head-room : (6 ≤ length file) × (σ .dataset .n ≤ 120)
-  head-room = let s = sum (σ .dataset .n) (W .dataset .few) in (omega (arith, s .first, W .room, W .dataset .k-low), W .dataset .few)
+  head-room = let s = sum (σ .dataset .n) (W .study .few) in (omega (arith, s .first, W .room, W .study .k-low), W .study .few)
 
   pub minima-room : 42 + 7 * σ .dataset .k ≤ 8 * length file
-  minima-room = let s = sum (σ .dataset .n) (W .dataset .few) in omega (arith, s .first, W .room)
+  minima-room = let s = sum (σ .dataset .n) (W .study .few) in omega (arith, s .first, W .room)
 
   pub eight : σ .dataset .k ≤ length (σ .dataset .minima .b)
-  eight = omega (arith, W .dataset .minima .eight, W .dataset .k-high)
+  eight = omega (arith, W .study .minima .eight, W .study .k-high)
 
   -- in what the file has become
   module _ (new : List ℕ) (same : length new ≡ length file) where
@@ -42,9 +42,9 @@ module _ (σ : State) (file : List ℕ) (W : Writable σ file) where
         → ((t < 120) × (14400 ≤ length (σ .distances)) × (t < length (σ .settings)) × (1 ≤ getD (σ .settings) t 0))
         × ((start + (3 + 20 * t) ≤ 8 * length new) × (start < 2 ^ 61))
     tide-room t start l e =
-        let few = W .dataset .few in
+        let few = W .study .few in
         let s = sum t (omega arith) in (
-          (omega arith, W .long .distances, omega (arith, W .long .settings), W .dataset .setting-low t l),
+          (omega arith, W .long .distances, omega (arith, W .long .settings), W .study .setting-low t l),
           (omega (arith, bitLength-up (σ .dataset .k) t (σ .dataset .n) l, W .room), omega (arith, s .most)),
         )
 

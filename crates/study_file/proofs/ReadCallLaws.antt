@@ -11,14 +11,14 @@ use Rattle.study.specs.declared.Dataset.{Dataset}
 use Rattle.study.specs.declared.Refusal.{Refusal}
 use Rattle.study.specs.declared.Answer.{Answer}
 use Rattle.study.specs.declared.Answer.the-variants.{Done, Refused}
-use Rattle.study.specs.Refusals.{number, Verdict, accepted, refused, settled, verdictOf, numbered, firstOf}
+use Rattle.study.specs.Refusals.{number, Verdict, accepted, refused, settled, verdictOf, numbered, firstOf, freshReasons}
 use Rattle.file_format.specs.Bits.{bitsAt}
 use Rattle.file_format.specs.File.{decoded, headReasons, readReasons}
 use Rattle.file_format.proofs.DecodedLaws.{decoded-size}
 use Rattle.file_format.specs.Head.{Head}
 use Rattle.file_format.proofs.ReadLaws.{head-T, refused-head}
 use Rattle.validity.specs.Memory.{State, stateOf, recordOf, stored}
-use Rattle.dataset.specs.Answers.{freshAnswer}
+use Rattle.dataset.specs.Answers.{freshAnswer, freshLeaves}
 use Rattle.validity.proofs.LayoutLaws.{short-yes, short-no}
 use Rattle.study_file.specs.Answers.{readAnswer, readLeaves}
 use Rattle.study_file.specs.Loading.{Loaded, Reading}
@@ -26,13 +26,13 @@ use Rattle.study_file.proofs.LoadingLaws.{loaded-none, loaded-accepted,
 
 -- ---- on the way
 
-count-is : (s : List ℕ) {r : Dataset} → r ≡ recordOf (decoded s) → r .n ≡ bitsAt s 8 7
+count-is : (s : List ℕ) (o : Dataset) {r : Dataset} → r ≡ recordOf (decoded s) o → r .n ≡ bitsAt s 8 7
 unfolding recordOf
-count-is s e = ap (λ (r : Dataset). r .n) e ∙ decoded-size s
+count-is s o e = ap (λ (r : Dataset). r .n) e ∙ decoded-size s
 
-kinds-is : (s : List ℕ) {r : Dataset} → r ≡ recordOf (decoded s) → r .k ≡ bitsAt s 15 4
+k-is : (s : List ℕ) (o : Dataset) {r : Dataset} → r ≡ recordOf (decoded s) o → r .k ≡ bitsAt s 15 4
 unfolding recordOf decoded
-kinds-is s e = ap (λ (r : Dataset). r .k) e
+k-is s o e = ap (λ (r : Dataset). r .k) e
 
 blank : (x n i : ℕ) → x ≡ 0 → getD (replicate n x) i 0 ≡ 0
 blank x n i e =
@@ -43,11 +43,11 @@ module _ (s : List ℕ) {a : Answer} (verdict : verdictOf a ≡ firstOf (headRea
   pub head-passed : Head s
   head-passed = head-T s .0 (sym verdict ∙ ap verdictOf q)
 
-  pub tides-begin : {r : Dataset} → r ≡ recordOf (decoded s) → (matrix vector : List ℕ) → matrix ≡ replicate 14400 0 → vector ≡ replicate 120 0
+  pub tides-begin : (o : Dataset) {r : Dataset} → r ≡ recordOf (decoded s) o → (matrix vector : List ℕ) → matrix ≡ replicate 14400 0 → vector ≡ replicate 120 0
       → (r .k ≡ bitsAt s 15 4) × (r .n ≡ bitsAt s 8 7) × Loaded s 0 matrix vector
-  tides-begin e matrix vector x y = (
-    kinds-is s e,
-    count-is s e,
+  tides-begin o e matrix vector x y = (
+    k-is s o e,
+    count-is s o e,
     loaded-none s matrix vector head-passed (sym verdict ∙ ap verdictOf q)
         (ap length x ∙ length-replicate {A = ℕ} 14400 0) (ap length y ∙ length-replicate {A = ℕ} 120 0)
         (λ i. ap (λ (l : List ℕ). getD l i 0) x ∙ blank 0 14400 i refl) (λ i. ap (λ (l : List ℕ). getD l i 0) y ∙ blank 0 120 i refl),
@@ -57,16 +57,16 @@ module _ (s : List ℕ) {a : Answer} (verdict : verdictOf a ≡ firstOf (headRea
 
 module _ (σ : State) (file : List ℕ) where
   by-verdict : (v : Verdict) → readAnswer σ file ≡ v → (v ≡ readAnswer σ file) × (settled v (stored (decoded file) σ) σ ≡ readLeaves σ file)
-  unfolding readLeaves
+  unfolding readLeaves freshLeaves readAnswer
   by-verdict v e = (sym e, ap (λ v. settled v (stored (decoded file) σ) σ) (sym e))
 
   pub read-short : (length (σ .distances) < 14400) ⊎ (length (σ .settings) < 120) → (refused (number 1) ≡ readAnswer σ file) × (σ ≡ readLeaves σ file)
-  unfolding readAnswer freshAnswer
+  unfolding readAnswer freshAnswer freshReasons firstOf
   read-short o = by-verdict (refused (number 1)) (ap (λ b. cond b (refused (number 1)) (firstOf (readReasons file))) (short-yes σ o))
 
   module _ (far : 14400 ≤ length (σ .distances)) (vector : 120 ≤ length (σ .settings)) where
     own : readAnswer σ file ≡ firstOf (readReasons file)
-    unfolding readAnswer freshAnswer
+    unfolding readAnswer freshAnswer freshReasons firstOf
     own = ap (λ b. cond b (refused (number 1)) (firstOf (readReasons file))) (short-no σ far vector)
 
     refuses : {a : Answer} {why : Refusal} → a ≡ Refused why → firstOf (readReasons file) ≡ refused (numbered why)
@@ -83,12 +83,12 @@ module _ (σ : State) (file : List ℕ) where
         → (verdictOf a ≡ readAnswer σ file) × (σ ≡ readLeaves σ file)
     read-tide {a} {why} n x y r q = refuses q (r .stops why q)
 
-    pub read-done : {a : Answer} {r : Dataset} (x y : List ℕ) {d g : List ℕ} → Reading file (r .n) a x y → a ≡ Done → r ≡ recordOf (decoded file)
+    pub read-done : {a : Answer} {r : Dataset} (x y : List ℕ) {d g : List ℕ} → Reading file (r .n) a x y → a ≡ Done → r ≡ recordOf (decoded file) (σ .dataset)
         → d ≡ overwrite 14400 (λ (p : ℕ). getD x p 0) (σ .distances) → g ≡ overwrite 120 (λ (i : ℕ). getD y i 0) (σ .settings)
         → (verdictOf a ≡ readAnswer σ file) × (stateOf r d g ≡ readLeaves σ file)
     unfolding stored
     read-done {a} {r} x y {d} {g} t q e f h =
-        let count : r .n ≡ bitsAt file 8 7 = count-is file e in
+        let count : r .n ≡ bitsAt file 8 7 = count-is file (σ .dataset) e in
         let L : Loaded file (bitsAt file 8 7) x y = subst (λ n. Loaded file n x y) count (t .goes q) in
         let w = by-verdict accepted (own ∙ loaded-accepted file x y L) in (
           ap verdictOf q ∙ w .0,

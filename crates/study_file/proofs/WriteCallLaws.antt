@@ -19,7 +19,7 @@ use Rattle.validity.specs.Memory.{State, studyOf, contentsOf}
 use Rattle.dataset.specs.Answers.{heldAnswer}
 use Rattle.validity.proofs.ValidityLaws.{study-size, valid-contents}
 use Rattle.dataset.specs.Accepted.{Passed}
-use Rattle.dataset.proofs.AnswerLaws.{held-own, held-refused}
+use Rattle.dataset.proofs.AnswerLaws.{held-own, held-refused, passed-valid}
 use Rattle.study_file.specs.Answers.{writeReasons, writeAnswer, writeReply, writeLeaves}
 use Rattle.study_file.specs.Putting.{PutFields, Writable}
 use Rattle.study_file.proofs.PuttingLaws.{file-written}
@@ -48,7 +48,7 @@ module _ (σ : State) (file : List ℕ) where
   module _ (P : Passed σ) where
     size-is : length (fileOf H) ≡ byteLength (σ .dataset .k) (σ .dataset .n)
     unfolding contentsOf studyOf
-    size-is = file-length H (valid-contents σ (P .dataset)) ∙ ap (byteLength (σ .dataset .k)) (study-size σ)
+    size-is = file-length H (passed-valid σ P) ∙ ap (byteLength (σ .dataset .k)) (study-size σ)
 
     own : (b : Bool) → ltb (length file) (length (fileOf H)) ≡ b → writeAnswer σ (length file) ≡ cond b (refused (number 1)) accepted
     unfolding writeAnswer writeReasons firstOf
@@ -64,7 +64,7 @@ module _ (σ : State) (file : List ℕ) where
     module _ (size : ℕ) (e : size ≡ byteLength (σ .dataset .k) (σ .dataset .n)) (room : size ≤ length file) where
       pub writable : Writable σ file
       unfolding byteLength
-      writable = record { dataset = P .dataset; long = P .long; room = omega (arith, e, room) }
+      writable = record { study = P .study; long = P .long; room = omega (arith, e, room) }
 
       pub write-done : {new : List ℕ} → PutFields file 0 (fields (contentsOf σ)) new
           → (value size ≡ writeReply σ (length file)) × (new ≡ writeLeaves σ file)

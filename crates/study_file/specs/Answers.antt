@@ -7,17 +7,17 @@ use Rattle.study.specs.Study.{Contents}
 use Rattle.study.specs.Refusals.{number, Verdict, settled, Reply, value, refusal, replied, Reason, _⇒_, firstOf, numbered}
 use Rattle.file_format.specs.File.{fileOf, decoded, readReasons}
 use Rattle.validity.specs.Memory.{State, contentsOf, stored}
-use Rattle.dataset.specs.Answers.{freshAnswer, heldAnswer}
+use Rattle.dataset.specs.Answers.{freshAnswer, freshLeaves, heldAnswer}
 use Rattle.study_file.specs.declared.Written.{Written}
 use Rattle.study_file.specs.declared.Written.the-variants as Writes
 
 -- ---- Read
 
 unfoldable pub readAnswer : State → List ℕ → Verdict
-readAnswer s file = freshAnswer s (firstOf (readReasons file))
+readAnswer s file = freshAnswer s (readReasons file)
 
 unfoldable pub readLeaves : State → List ℕ → State
-readLeaves s file = settled (readAnswer s file) (stored (decoded file) s) s
+readLeaves s file = freshLeaves s (readReasons file) (decoded file)
 
 -- ---- Write, given the length of the lent file
 

@@ -7,12 +7,12 @@ use Rattle.study.specs.declared.Dataset.{Dataset}
 use Rattle.file_format.specs.Bits.{Field, field, allBits}
 use Rattle.file_format.specs.File.{bitLength}
 use Rattle.validity.specs.Memory.{State}
-use Rattle.validity.specs.Validity.{IsDataset, Long}
+use Rattle.validity.specs.Validity.{IsStudy, Long}
 use Rattle.study_file.specs.Writing.{Adds}
 
 -- what the writer asks of record, memory and file
 pub record Writable (σ : State) (file : List ℕ) : Type 0 where
-  pub dataset : IsDataset σ
+  pub study : IsStudy σ
   pub long : Long σ
   pub room : bitLength (σ .dataset .k) (σ .dataset .n) ≤ 8 * length file
 

@@ -106,19 +106,19 @@ pub fn head_answer(file: &[u8]) -> Answer
     body_answer(file, k, n)
 }
 
-// The record that an accepted file gives.
-pub fn record_of(file: &[u8]) -> Dataset
+// The record with what an accepted file gives.
+pub fn record_of(dataset: Dataset, file: &[u8]) -> Dataset
     requires { ⌜ Head (now file) ⌝ }
-    ensures { λ r. ⌜ r ≡ recordOf (decoded (now (file .entry))) ⌝ }
+    ensures { λ r. ⌜ r ≡ recordOf (decoded (now (file .entry))) dataset ⌝ }
 {
     let n = number(file, 8, 7) as usize;
     let k = number(file, 15, 4) as u8;
     let minima = minima_of(file, k as usize);
     let withdrawn = number(file, 26, 16) as u16;
-    Dataset {
-        k,
-        n,
-        minima,
-        withdrawn,
-    }
+    let mut next = dataset;
+    next.k = k;
+    next.n = n;
+    next.minima = minima;
+    next.withdrawn = withdrawn;
+    next
 }

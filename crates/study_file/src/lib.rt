@@ -57,7 +57,7 @@ pub fn read(dataset: Dataset, distances: &mut [u32], settings: &mut [u8], file: 
             dataset,
         };
     };
-    let next = record_of(file);
+    let next = record_of(dataset, file);
     let mut matrix = [0u32; TABLE_SIZE];
     let mut vector = [0u8; MAX_TIDES];
     let answer = read_tides(file, next.k as usize, next.n, &mut matrix, &mut vector);

@@ -189,7 +189,7 @@ module _ {text : List ℕ} {q : Dataset} {d s : List ℕ} {c : Cursor} {r : Reac
   unfolding textOf
   midway-ends {o} h =
       let H = contentsOf (stateOf (r .dataset) e g) in
-      let most : 120 - q .n + suc (q .n) ≡ 121 = omega (arith, M .passed .dataset .few) in
+      let most : 120 - q .n + suc (q .n) ≡ 121 = omega (arith, M .passed .study .few) in
       record {
         is = turns-over text (entered (headOf text)) o H (suc (q .n)) (120 - q .n) (sym (next-turn ∙ ap (λ t. stepIs t H (r .cursor)) h))
             ∙ ap (λ k. turnsOf text k (entered (headOf text))) most;

@@ -26,7 +26,7 @@ record-of-requires : tie.Need-record-of-requires
 record-of-requires c κs = head-passed (c .before .before .before .before .before .before .before .before .args .file .now) (c .before .before .head-answer .ensures) (c .enum-told .given .1)
 
 read-tides-requires : tie.Need-read-tides-requires
-read-tides-requires c κs = tides-begin (c .before .before .before .before .before .before .before .before .before .before .before .before .args .file .now) (c .before .before .before .before .before .before .head-answer .ensures) (c .before .before .before .before .enum-told .given .1) (c .before .before .before .record-of .ensures) _ _ refl refl
+read-tides-requires c κs = tides-begin (c .before .before .before .before .before .before .before .before .before .before .before .before .args .file .now) (c .before .before .before .before .before .before .head-answer .ensures) (c .before .before .before .before .enum-told .given .1) _ (c .before .before .before .record-of .ensures) _ _ refl refl
 
 returns-4 : tie.Need-returns-4
 returns-4 c =

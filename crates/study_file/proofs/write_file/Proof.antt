@@ -6,7 +6,7 @@ use Rattle.study_file.proofs.write_file.Statement.{statement}
 use Rattle.study_file.proofs.write_file.Tie as tie
 
 byte-length-requires : tie.Need-byte-length-requires
-byte-length-requires c κs = (c .before .before .before .before .pre .dataset .k-high, c .before .before .before .before .pre .dataset .few)
+byte-length-requires c κs = (c .before .before .before .before .pre .study .k-high, c .before .before .before .before .pre .study .few)
 
 returns : tie.Need-returns
 returns c =

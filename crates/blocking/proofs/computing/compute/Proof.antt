@@ -11,7 +11,7 @@ block-rows-requires c κs = let p = c .before .before .before .before .pre in (a
 put-centres-requires : tie.Need-put-centres-requires
 put-centres-requires c κs =
     let R = c .before .before .before .before .before .block-rows .ensures .0 in
-    let f = c .before .before .before .before .before .before .before .before .before .before .pre .passed .dataset .few in
+    let f = c .before .before .before .before .before .before .before .before .before .before .pre .passed .study .few in
     ((R .centres-long, omega (arith, R .few), omega (arith, R .few)), λ i l. omega (arith, R .centre-below i l))
 
 returns : tie.Need-returns

@@ -7,13 +7,13 @@ use Rattle.blocking.proofs.front.fill_front.Statement.{statement}
 use Rattle.blocking.proofs.front.fill_front.Tie as tie
 
 find-centres-requires : tie.Need-find-centres-requires
-find-centres-requires c κs = let p = c .before .before .before .before .pre .passed in (p .dataset .few, omega (arith, p .dataset .few, p .long .distances), omega arith)
+find-centres-requires c κs = let p = c .before .before .before .before .pre .passed in (p .study .few, omega (arith, p .study .few, p .long .distances), omega arith)
 
 put-centres-requires : tie.Need-put-centres-requires
 put-centres-requires c κs =
     let p = c .before .before .before .before .before .before .before .pre in
     let C = c .before .before .find-centres .ensures in
-    ((C .front .size, front-few (p .passed .dataset .few) C, omega (arith, p .room, front-fits C)), λ i l. omega (arith, p .passed .dataset .few, front-below C i l))
+    ((C .front .size, front-few (p .passed .study .few) C, omega (arith, p .room, front-fits C)), λ i l. omega (arith, p .passed .study .few, front-below C i l))
 
 returns : tie.Need-returns
 returns c = centres-filled _ _ _ (c .before .before .before .before .before .before .before .before .before .before .pre) (c .before .before .before .before .before .find-centres .ensures) (c .before .before .put-centres .ensures)

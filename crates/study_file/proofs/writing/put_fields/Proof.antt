@@ -15,7 +15,7 @@ put-minima-requires : tie.Need-put-minima-requires
 put-minima-requires c κs =
     let args = c .before .before .before .before .before .before .before .before .before .before .before .args in
     let pre = c .before .before .before .before .before .before .before .before .before .before .before .pre in
-    (pre .dataset .k-high, omega (arith, c .before .before .before .put-head .ensures .same, minima-room (stateOf (args .dataset) (args .distances .now) (args .settings .now)) _ (pre)))
+    (pre .study .k-high, omega (arith, c .before .before .before .put-head .ensures .same, minima-room (stateOf (args .dataset) (args .distances .now) (args .settings .now)) _ (pre)))
 
 returns : tie.Need-returns
 returns c =

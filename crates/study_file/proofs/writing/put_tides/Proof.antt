@@ -24,7 +24,7 @@ loop-holds c =
 bit-length-requires : tie.Need-bit-length-requires Inv-loop μ-loop
 bit-length-requires c κs =
     let pre = c .before .before .before .before .before .before .pre in
-    (pre .dataset .k-high, omega (arith, pre .dataset .few))
+    (pre .study .k-high, omega (arith, pre .study .few))
 
 put-tide-requires : tie.Need-put-tide-requires Inv-loop μ-loop
 put-tide-requires c κs =

@@ -12,14 +12,14 @@ use Rattle.study_text.proofs.calls.read_minima.Tie as tie
 slice-aggregate-read-row : tie.Need-slice-aggregate-read-row
 slice-aggregate-read-row c =
     let start = c .before .before .before .before .before in
-    sym (length-take-le (start .args .dataset .k + 1) (replicate 9 0) (omega (arith, start .pre .1 .dataset .k-high)))
+    sym (length-take-le (start .args .dataset .k + 1) (replicate 9 0) (omega (arith, start .pre .1 .study .k-high)))
 
 returns : tie.Need-returns
 returns c =
     let k = c .before .before .before .before .before in
     let start = k .before .before .before .before .before .before in
     minima-stops (start .pre .0) (start .pre .1) (k .read-row .last .1 .1 .0) (k .read-row .ensures)
-    (length-take-le (start .args .dataset .k + 1) (replicate 9 0) (omega (arith, start .pre .1 .dataset .k-high))) (c .before .before .row .given .1)
+    (length-take-le (start .args .dataset .k + 1) (replicate 9 0) (omega (arith, start .pre .1 .study .k-high))) (c .before .before .row .given .1)
     (c .stopped .ensures)
 
 returns-2 : tie.Need-returns-2
@@ -28,7 +28,7 @@ returns-2 c =
     let h = k .before .before .before in
     let start = h .before .before .before .before .before .before in
     minima-goes (start .pre .0) (start .pre .1) (h .read-row .last .1 .1 .0) (start .args .dataset .k + 1) (c .before .set-minima .result)
-    (h .read-row .ensures) (length-take-le (start .args .dataset .k + 1) (replicate 9 0) (omega (arith, start .pre .1 .dataset .k-high)))
+    (h .read-row .ensures) (length-take-le (start .args .dataset .k + 1) (replicate 9 0) (omega (arith, start .pre .1 .study .k-high)))
     (k .row2 .given .1) (c .before .before .minima-of .ensures) (c .before .set-minima .ensures .0) (c .before .set-minima .ensures .1)
     (c .called .ensures)
 

@@ -11,7 +11,7 @@ use Rattle.study_text.proofs.calls.read_tide.Tie as tie
 slice-aggregate-read-row : tie.Need-slice-aggregate-read-row
 slice-aggregate-read-row c =
     let start = c .before .before .before .before .before in
-    sym (length-take-le (start .args .dataset .n) (start .args .row .now) (omega (arith, start .pre .1 .dataset .few, start .pre .2)))
+    sym (length-take-le (start .args .dataset .n) (start .args .row .now) (omega (arith, start .pre .1 .study .few, start .pre .2)))
 
 slice-aggregate-enter : tie.Need-slice-aggregate-enter
 slice-aggregate-enter c = sym (length-take-le _ _ (omega arith))
@@ -21,7 +21,7 @@ returns c =
     let k = c .before .before .before .before .before .before in
     let start = k .before .before .before .before .before .before in
     tide-stops (start .pre .0) (start .pre .1) (start .args .setting) (k .read-row .last .1 .1 .0) (k .read-row .ensures)
-    (length-take-le (start .args .dataset .n) (start .args .row .now) (omega (arith, start .pre .1 .dataset .few, start .pre .2)))
+    (length-take-le (start .args .dataset .n) (start .args .row .now) (omega (arith, start .pre .1 .study .few, start .pre .2)))
     (c .before .before .read .given .1) (c .stopped .ensures)
 
 returns-2 : tie.Need-returns-2
@@ -30,7 +30,7 @@ returns-2 c =
     let h = k .before .before .before .before .before .before in
     let g = h .before .before .before .before in
     let start = g .before .before .before .before .before .before in
-    let long = length-take-le (start .args .dataset .n) (start .args .row .now) (omega (arith, start .pre .1 .dataset .few, start .pre .2)) in
+    let long = length-take-le (start .args .dataset .n) (start .args .row .now) (omega (arith, start .pre .1 .study .few, start .pre .2)) in
     let row = g .read-row .last .1 .1 .0 in
     tide-goes (start .pre .0) (start .pre .1) (start .args .setting) row (k .enter .result) (g .read-row .ensures) long
     (h .read2 .given .1) (k .before .before .narrow .ensures)

@@ -34,7 +34,7 @@ loop-less : tie.Need-loop-less Inv-loop μ-loop
 loop-less c =
     let k = c .before .before .before .before .before .before .before .before .before .before in
     let h = k .before .before .before .before in
-    omega (arith, midway-size (h .loop .inv .0) (k .next-tide .ensures) (c .before .before .enum-told .given .1), h .loop .inv .0 .passed .dataset .few)
+    omega (arith, midway-size (h .loop .inv .0) (k .next-tide .ensures) (c .before .before .enum-told .given .1), h .loop .inv .0 .passed .study .few)
 
 loop-again : tie.Need-loop-again Inv-loop μ-loop
 loop-again c =
