@@ -37,9 +37,18 @@ use Rattle.dataset.specs.Accepted.{Passed, EnterAccepted, WithdrawAccept
 stays : {a : Answer} {x : Refusal} {v : Verdict} (new old : State) → a ≡ Refused x → verdictOf a ≡ v → old ≡ settled v new old
 stays {a} {x} {v} new old e f = ap (λ w. settled w new old) (sym (ap verdictOf e) ∙ f)
 
--- ---- with what every call on a dataset begins
+-- ---- with what every call begins
 
 module _ (s : State) where
+  -- what a call that asks for no dataset finds of its own
+  pub fresh-own : (own : List Reason) → freshAnswer s own ≡ accepted → (short s ≡ false) × (firstOf own ≡ accepted)
+  unfolding freshAnswer freshReasons firstOf
+  fresh-own own e = by (short s) refl e
+    where
+      by : (b : Bool) → short s ≡ b → cond b (refused (number 1)) (firstOf own) ≡ accepted → (short s ≡ false) × (firstOf own ≡ accepted)
+      by true p h = absurd (let z : _≡_ {A = ℕ} 0 1 = cc in omega arith)
+      by false p h = (p, h)
+
   pub held-1 : (own : Contents → List Reason) → short s ≡ true → refused (number 1) ≡ heldAnswer s own
   unfolding heldAnswer heldReasons freshReasons firstOf
   held-1 own e = rw e

@@ -16,7 +16,7 @@ use Rattle.lists.proofs.Counting.{nth, nth-is}
 use Rattle.study.specs.declared.BlockRecord.{BlockRecord}
 use Rattle.study.specs.Problem.{Problem, centres, block, labels, radius, blocking, Feasible}
 use Rattle.study.specs.Study.{Study, Contents, size, tide, sufficient, problem, Valid}
-use Rattle.study.specs.Refusals.{number, accepted, refused, settled, firstOf}
+use Rattle.study.specs.Refusals.{number, accepted, refused, settled, firstOf, freshReasons, heldReasons}
 use Rattle.study.specs.Calls.{blockReasons, Figures, figures, blockRecord}
 use Rattle.study.specs.Theorems.{Lawful, Canonical, ValidContents}
 use Rattle.study.proofs.ProblemLaws.{greatestDiameter-is, greatestDiameter-same}
@@ -24,8 +24,8 @@ use Rattle.study.proofs.Approximation.{assignment-feasible}
 use Rattle.study.proofs.StudyLaws.{meets-T, validMinima-T}
 use Rattle.study.proofs.CallLaws.{none-holds}
 use Rattle.study.proofs.Proofs.{for-problem, for-study}
-use Rattle.guarantee.specs.Runs.{make-blocks, Output, Inquiry, inquiring, call-ask, Response}
-use Rattle.guarantee.specs.History.{ownVerdict, verdict, outputs, learnt}
+use Rattle.guarantee.specs.Runs.{make-blocks, Output, Inquiry, inquiring, call-ask, Response, lent}
+use Rattle.guarantee.specs.History.{reasonsAfter, toldAfter, verdict, outputs, learnt}
 use Rattle.guarantee.specs.Theorems.{Guaranteed, CanonicalBlock, blocked}
 
 -- ---- a valid study whose tides together are sufficient
@@ -132,11 +132,11 @@ module _ (H : Contents) (ok : ValidContents H) where
     Q = inquiring (make-blocks list₀ records₀)
 
     accepts : firstOf (Q .own H) ≡ accepted
-    unfolding learnt verdict ownVerdict
+    unfolding learnt verdict reasonsAfter heldReasons freshReasons firstOf
     accepts = ap (λ (r : Response). r .verdict) e
 
     tells : Q .tells H ≡ blocked F list records .output
-    unfolding learnt outputs verdict ownVerdict
+    unfolding learnt outputs toldAfter lent verdict reasonsAfter heldReasons freshReasons firstOf
     tells = sym (ap (λ v. settled v (Q .tells H) (Q .lent)) accepts) ∙ ap (λ (r : Response). r .output) e
 
     ample : T (sufficient S (λ t. true))

@@ -3,7 +3,7 @@
 use Prim.Native.Nat.{ℕ, _≤_}
 use native.Mathlib.Omega.{arith}
 use mathlib.Core.Path.{_≡_, refl, sym, ap, ap₂, _∙_, subst}
-use mathlib.Core.Bool.{Bool, true, false, cond, not}
+use mathlib.Core.Bool.{Bool, true, false}
 use mathlib.Core.List.{List, [], _∷_, _++_}
 use lib.Dec.{T, ltb}
 use lib.Arith.{le→nltb}
@@ -12,55 +12,38 @@ use lib.Seq.{take-append-seam}
 use Rattle.lists.proofs.Tests.{T-true, true-T, T-false}
 use Rattle.study.specs.Problem.{blocking}
 use Rattle.study.specs.Study.{Study, Contents, size, problem}
-use Rattle.study.specs.Refusals.{Numbered, number, Verdict, accepted, refused, settled, value, replied, Reason, _⇒_, firstOf}
+use Rattle.study.specs.Refusals.{Numbered, Verdict, accepted, refused, settled, value, replied, Reason, firstOf}
 use Rattle.study.specs.Calls.{opening, centreNumbers, figures, judgement}
 use Rattle.file_format.specs.File.{fileOf, decoded, readReasons}
 use Rattle.file_format.specs.Theorems.{Bytes}
 use Rattle.validity.specs.Memory.{State, short, isDataset, studyOf, contentsOf, stored}
 use Rattle.validity.proofs.Proofs.{for-datasets}
-use Rattle.dataset.specs.Answers.{freshAnswer, heldAnswer, openAnswer, openLeaves, minimaAnswer, minimaLeaves, enterAnswer, enterLeaves, withdrawAnswer, withdrawLeaves}
-use Rattle.dataset.proofs.AnswerLaws.{Accepted, accepted-held, held-own}
+use Rattle.dataset.specs.Answers.{freshAnswer, freshLeaves, heldAnswer, heldLeaves, openAnswer, openLeaves, minimaAnswer, minimaLeaves, enterAnswer, enterLeaves, withdrawAnswer, withdrawLeaves}
+use Rattle.dataset.proofs.AnswerLaws.{HeldAccepted, fresh-own, accepted-held, held-own}
 use Rattle.study_file.specs.Answers.{readAnswer, readLeaves, writeReasons, writeAnswer, writeReply, writeLeaves}
 use Rattle.study_file.proofs.Proofs.{for-files}
 use Rattle.blocking.specs.Answers.{centresAnswer, centresFront, centresLeaves, blockAnswer, blockReply, blockList, blockRecords, judgeAnswer, judgeReply}
-use Rattle.guarantee.specs.Runs.{updating, find-centres, make-blocks, judge-list, write-file, Output, inquiring, figureNumbers, judgementNumbers, Call, call-open, call-read, call-change, call-ask, reasons, answer, after, lent, output}
+use Rattle.guarantee.specs.Runs.{updating, find-centres, make-blocks, judge-list, write-file, Output, inquiring, figureNumbers, judgementNumbers, Call, call-open, call-read, call-change, call-ask, Query, reasons, answer, made, after, lent, told, output}
 use Rattle.guarantee.specs.Theorems.{replyNumbers, AsContracts, FilesAndDatasets}
-use Rattle.guarantee.proofs.Follows.{past-short}
 
 -- ---- demand 1
 
 module _ (s : State) where
-  held-first : (own : Contents → List Reason)
-      → heldAnswer s own ≡ firstOf ((short s ⇒ number 1) ∷ (not (isDataset s) ⇒ number 21) ∷ own (contentsOf s))
-  unfolding heldAnswer freshAnswer firstOf
-  held-first own = by (short s) (isDataset s)
-    where
-      by : (a b : Bool) → cond a (refused (number 1)) (cond b (firstOf (own (contentsOf s))) (refused (number 21)))
-          ≡ cond a (refused (number 1)) (cond (not b) (refused (number 21)) (firstOf (own (contentsOf s))))
-      by true b = refl
-      by false true = refl
-      by false false = refl
-
-  pub first : (c : Call) → answer s c ≡ firstOf (reasons s c)
-  unfolding answer reasons openAnswer readAnswer freshAnswer firstOf
-  first (call-open k) = refl
-  first (call-read file) = refl
-  first (call-change c) = held-first (updating c .own)
-  first (call-ask q) = held-first (inquiring q .own)
-
   pub unchanged : (c : Call) (r : Numbered) → answer s c ≡ refused r → after s c ≡ s
-  unfolding answer after openLeaves readLeaves
-  unchanged (call-open k) r e = ap (λ v. settled v (stored (opening k) s) s) e
-  unchanged (call-read file) r e = ap (λ v. settled v (stored (decoded file) s) s) e
-  unchanged (call-change c) r e = ap (λ v. settled v (stored (updating c .makes (contentsOf s)) s) s) e
-  unchanged (call-ask q) r e = refl
+  unfolding after
+  unchanged c r e = ap (λ v. settled v (made s c) s) e
 
   pub unwritten : (c : Call) (r : Numbered) → answer s c ≡ refused r → output s c ≡ lent c
-  unfolding answer output lent
-  unwritten (call-open k) r e = refl
-  unwritten (call-read file) r e = refl
-  unwritten (call-change c) r e = refl
-  unwritten (call-ask q) r e = ap (λ v. settled v (inquiring q .tells (contentsOf s)) (inquiring q .lent)) e
+  unfolding output
+  unwritten c r e = ap (λ v. settled v (told s c) (lent c)) e
+
+  pub only-reads : (q : Query) → after s (call-ask q) ≡ s
+  unfolding after made
+  only-reads q = same (answer s (call-ask q))
+    where
+      same : (v : Verdict) → settled v s s ≡ s
+      same accepted = refl
+      same (refused r) = refl
 
 -- ---- the calls of a run are those of the contracts
 
@@ -79,14 +62,14 @@ module _ (s : State) where
 
   on-centres : (g : ℕ) (list : List ℕ) → let c = call-ask (find-centres g list) in
       (output s c .lists ≡ centresLeaves s g list ∷ []) × (output s c .numbers ≡ settled (answer s c) (length (centresFront s g list) ∷ []) [])
-  unfolding answer output inquiring contentsOf centresAnswer centresFront centresLeaves
+  unfolding answer reasons output told lent inquiring contentsOf heldAnswer centresAnswer centresFront centresLeaves
   on-centres g list =
       let v = centresAnswer s list in
       let front = centreNumbers S g in
       let Q = inquiring (find-centres g list) in
-      let toldOutput = Q .tells (contentsOf s) in (
-        part-settled (λ (o : Output). o .lists) v toldOutput (Q .lent) ∙ sym (part-settled (λ (l : List ℕ). (l ++ drop (length l) list) ∷ []) v front []),
-        part-settled (λ (o : Output). o .numbers) v toldOutput (Q .lent) ∙ counted v front,
+      let tells = Q .tells (contentsOf s) in (
+        part-settled (λ (o : Output). o .lists) v tells (Q .lent) ∙ sym (part-settled (λ (l : List ℕ). (l ++ drop (length l) list) ∷ []) v front []),
+        part-settled (λ (o : Output). o .numbers) v tells (Q .lent) ∙ counted v front,
       )
     where
       counted : (v : Verdict) (front : List ℕ) → settled v (length front ∷ []) [] ≡ settled v (length (settled v front []) ∷ []) []
@@ -94,7 +77,8 @@ module _ (s : State) where
       counted (refused r) front = refl
 
   pub as-contracts : AsContracts s
-  unfolding answer after output updating inquiring contentsOf minimaAnswer minimaLeaves enterAnswer enterLeaves withdrawAnswer withdrawLeaves centresAnswer
+  unfolding answer reasons after made output told lent updating inquiring contentsOf freshAnswer freshLeaves heldAnswer heldLeaves openAnswer openLeaves
+      readAnswer readLeaves minimaAnswer minimaLeaves enterAnswer enterLeaves withdrawAnswer withdrawLeaves centresAnswer
       blockAnswer blockReply blockList blockRecords judgeAnswer judgeReply writeAnswer writeReply writeLeaves
   as-contracts =
       record {
@@ -107,11 +91,11 @@ module _ (s : State) where
         on-block = λ list records.
             let v = blockAnswer s (length list) (length records) in
             let Q = inquiring (make-blocks list records) in
-            let toldOutput = Q .tells (contentsOf s) in (
+            let tells = Q .tells (contentsOf s) in (
               refl,
-              part-settled (λ (o : Output). o .numbers) v toldOutput (Q .lent) ∙ numbers-settled figureNumbers v (figures S),
-              part-settled (λ (o : Output). o .lists) v toldOutput (Q .lent) ∙ sym (part-settled (λ l. l ∷ []) v (blocking (problem S) ++ drop (size S) list) list),
-              part-settled (λ (o : Output). o .records) v toldOutput (Q .lent),
+              part-settled (λ (o : Output). o .numbers) v tells (Q .lent) ∙ numbers-settled figureNumbers v (figures S),
+              part-settled (λ (o : Output). o .lists) v tells (Q .lent) ∙ sym (part-settled (λ l. l ∷ []) v (blocking (problem S) ++ drop (size S) list) list),
+              part-settled (λ (o : Output). o .records) v tells (Q .lent),
             );
         on-judge = λ list.
             let v = judgeAnswer s list in
@@ -120,11 +104,11 @@ module _ (s : State) where
         on-write = λ bytes.
             let v = writeAnswer s (length bytes) in
             let Q = inquiring (write-file bytes) in
-            let toldOutput = Q .tells (contentsOf s) in
+            let tells = Q .tells (contentsOf s) in
             let file = fileOf (contentsOf s) in (
               refl,
-              part-settled (λ (o : Output). o .numbers) v toldOutput (Q .lent) ∙ numbers-settled (λ n. n ∷ []) v (length file),
-              part-settled (λ (o : Output). o .lists) v toldOutput (Q .lent) ∙ sym (part-settled (λ l. l ∷ []) v (file ++ drop (length file) bytes) bytes),
+              part-settled (λ (o : Output). o .numbers) v tells (Q .lent) ∙ numbers-settled (λ n. n ∷ []) v (length file),
+              part-settled (λ (o : Output). o .lists) v tells (Q .lent) ∙ sym (part-settled (λ l. l ∷ []) v (file ++ drop (length file) bytes) bytes),
             );
       }
 
@@ -143,7 +127,7 @@ module _ (s : State) (bytes : List ℕ) (n : ℕ) (e : writeReply s (length byte
   unfolding writeReply
   accepts = replied-value (writeAnswer s (length bytes)) (length written) n e
 
-  good : Accepted s (λ H. writeReasons H (length bytes))
+  good : HeldAccepted s (λ H. writeReasons H (length bytes))
   unfolding writeAnswer
   good = accepted-held s (λ H. writeReasons H (length bytes)) (accepts .0)
 
@@ -174,9 +158,9 @@ module _ (over : State) (file bytes : List ℕ) (b : Bytes file) (e : readAnswer
   read = readLeaves over file
 
   not-short : short read ≡ false
-  unfolding readAnswer freshAnswer readLeaves
+  unfolding readAnswer readLeaves freshLeaves
   not-short =
-      let long = past-short (short over) (firstOf (readReasons file)) e .0 in
+      let long = fresh-own over (readReasons file) e .0 in
       ap (λ v. short (settled v (stored (decoded file) over) over)) e ∙ for-datasets .as-long (decoded file) over long ∙ long
 
   own-file : fileOf (contentsOf read) ≡ file

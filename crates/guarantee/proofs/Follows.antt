@@ -8,19 +8,18 @@ use mathlib.Core.List.{List, [], _∷_}
 use mathlib.Core.Option.{Option, none, some}
 use Rattle.lists.proofs.Tests.{T-true, true-T}
 use Rattle.study.specs.Study.{Contents}
-use Rattle.study.specs.Refusals.{number, Verdict, accepted, refused, settled, Reason, firstOf}
+use Rattle.study.specs.Refusals.{Verdict, accepted, refused, settled, Reason, firstOf, freshReasons, heldReasons}
 use Rattle.study.specs.Calls.{openReasons, opening}
 use Rattle.study.specs.Theorems.{ValidContents}
 use Rattle.study.proofs.Proofs.{for-calls}
 use Rattle.file_format.specs.File.{decoded, readReasons}
 use Rattle.file_format.proofs.Proofs.{files}
 use Rattle.validity.specs.Memory.{State, short, isDataset, contentsOf, stored}
-use Rattle.dataset.specs.Answers.{freshAnswer, heldAnswer, openAnswer, openLeaves}
+use Rattle.dataset.specs.Answers.{freshAnswer, heldAnswer}
 use Rattle.validity.proofs.Proofs.{for-datasets}
-use Rattle.dataset.proofs.AnswerLaws.{accepted-held}
-use Rattle.study_file.specs.Answers.{readAnswer, readLeaves}
-use Rattle.guarantee.specs.Runs.{Change, set-minima, enter, withdraw, updating, Inquiry, inquiring, Call, call-open, call-read, call-change, call-ask, answer, after, output, Response, response, run}
-use Rattle.guarantee.specs.History.{held, onHeld, ownVerdict, verdict, changing, changed, step, following, contentsAfter, toldOutput, outputs, learnt}
+use Rattle.dataset.proofs.AnswerLaws.{fresh-own, accepted-held}
+use Rattle.guarantee.specs.Runs.{Change, set-minima, enter, withdraw, updating, Inquiry, inquiring, Call, call-open, call-read, call-change, call-ask, reasons, answer, made, after, lent, told, output, Response, response, run}
+use Rattle.guarantee.specs.History.{held, onHeld, reasonsAfter, verdict, changing, changed, step, following, contentsAfter, tellsOf, toldAfter, outputs, learnt}
 
 -- ---- what is held
 
@@ -48,24 +47,25 @@ holds-valid {s} A = subst ValidContents (A .contents) (for-datasets .valid s (tr
 
 -- ---- what a call answers
 
--- an accepted call was not refused for short memory
-pub past-short : (tooShort : Bool) (own : Verdict) → cond tooShort (refused (number 1)) own ≡ accepted → (tooShort ≡ false) × (own ≡ accepted)
-past-short true own e = absurd (let z : _≡_ {A = ℕ} 0 1 = cc in omega arith)
-past-short false own e = (refl, e)
+-- an accepted call on what is held was refused by none of its own reasons
+pub past-ladder : (tooShort : Bool) (own : List Reason) → firstOf (heldReasons tooShort true own) ≡ accepted → firstOf own ≡ accepted
+unfolding heldReasons freshReasons firstOf
+past-ladder true own e = absurd (let z : _≡_ {A = ℕ} 0 1 = cc in omega arith)
+past-ladder false own e = e
 
 -- a call on a dataset
-answer-held : (s : State) (own : Contents → List Reason) → heldAnswer s own ≡ cond (short s) (refused (number 1)) (onHeld (held s) own)
-unfolding heldAnswer freshAnswer held
+answer-held : (s : State) (own : Contents → List Reason)
+    → firstOf (heldReasons (short s) (isDataset s) (own (contentsOf s))) ≡ firstOf (onHeld (short s) (held s) own)
+unfolding held heldReasons freshReasons firstOf
 answer-held s own = by (short s) (isDataset s)
   where
-    by : (a b : Bool) → cond a (refused (number 1)) (cond b (firstOf (own (contentsOf s))) (refused (number 21)))
-        ≡ cond a (refused (number 1)) (onHeld (cond a none (cond b (some (contentsOf s)) none)) own)
+    by : (a b : Bool) → firstOf (heldReasons a b (own (contentsOf s))) ≡ firstOf (onHeld a (cond a none (cond b (some (contentsOf s)) none)) own)
     by true b = refl
     by false true = refl
     by false false = refl
 
 pub answer-is : (s : State) (c : Call) → answer s c ≡ verdict (short s) (held s) c
-unfolding answer verdict ownVerdict freshAnswer openAnswer readAnswer
+unfolding answer reasons verdict reasonsAfter
 answer-is s (call-open k) = refl
 answer-is s (call-read file) = refl
 answer-is s (call-change c) = answer-held s (updating c .own)
@@ -74,26 +74,29 @@ answer-is s (call-ask q) = answer-held s (inquiring q .own)
 -- ---- what a call that only reads tells
 
 -- an accepted call tells of what is held; of a refused one everything lent stays
-told-held : (s : State) (Q : Inquiry) → settled (heldAnswer s (Q .own)) (Q .tells (contentsOf s)) (Q .lent) ≡ toldOutput (heldAnswer s (Q .own)) Q (held s)
-unfolding heldAnswer freshAnswer held
+told-held : (s : State) (Q : Inquiry) → let v = firstOf (heldReasons (short s) (isDataset s) (Q .own (contentsOf s))) in
+    settled v (Q .tells (contentsOf s)) (Q .lent) ≡ settled v (tellsOf (held s) Q) (Q .lent)
+unfolding held heldReasons freshReasons firstOf
 told-held s Q = by (short s) (isDataset s)
   where
-    by : (a b : Bool) → let v = cond a (refused (number 1)) (cond b (firstOf (Q .own (contentsOf s))) (refused (number 21))) in
-        settled v (Q .tells (contentsOf s)) (Q .lent) ≡ toldOutput v Q (cond a none (cond b (some (contentsOf s)) none))
+    by : (a b : Bool) → let v = firstOf (heldReasons a b (Q .own (contentsOf s))) in
+        settled v (Q .tells (contentsOf s)) (Q .lent) ≡ settled v (tellsOf (cond a none (cond b (some (contentsOf s)) none)) Q) (Q .lent)
     by true b = refl
     by false true = refl
     by false false = refl
 
-output-is : (s : State) (c : Call) → output s c ≡ outputs (short s) (held s) c
-unfolding output outputs answer
-output-is s (call-open k) = refl
-output-is s (call-read file) = refl
-output-is s (call-change c) = refl
-output-is s (call-ask q) = told-held s (inquiring q) ∙ ap (λ v. toldOutput v (inquiring q) (held s)) (answer-is s (call-ask q))
+output-told : (s : State) (c : Call) → output s c ≡ settled (answer s c) (toldAfter (held s) c) (lent c)
+unfolding output told toldAfter lent answer reasons
+output-told s (call-open k) = refl
+output-told s (call-read file) = refl
+output-told s (call-change c) = refl
+output-told s (call-ask q) = told-held s (inquiring q)
 
 response-is : (s : State) (c : Call) → response s c ≡ learnt (short s) (held s) c
-unfolding response learnt
-response-is s c = ap₂ (λ v o. record { verdict = v; output = o }) (answer-is s c) (output-is s c)
+unfolding response learnt outputs
+response-is s c =
+    let v = answer-is s c in
+    ap₂ (λ v o. record { verdict = v; output = o }) v (output-told s c ∙ ap (λ v. settled v (toldAfter (held s) c) (lent c)) v)
 
 -- ---- what a call leaves
 
@@ -123,12 +126,11 @@ module _ (s : State) where
   leaves-settled accepted h new f = f refl
   leaves-settled (refused r) h new f = record { holds = refl; as-long = refl }
 
-  -- Open and Read: their own verdict, and the contents that they bring in
-  leaves-fresh : (own : Verdict) (H : Contents) → (own ≡ accepted → ValidContents H)
+  -- Open and Read: their own reasons, and the contents that they bring in
+  leaves-fresh : (own : List Reason) (H : Contents) → (firstOf own ≡ accepted → ValidContents H)
       → Leaves s (settled (freshAnswer s own) (some H) (held s)) (settled (freshAnswer s own) (stored H s) s)
-  unfolding freshAnswer
   leaves-fresh own H valid =
-      leaves-settled (freshAnswer s own) (some H) (stored H s) (λ e. let q = past-short (short s) own e in leaves-stored s H (q .0) (valid (q .1)))
+      leaves-settled (freshAnswer s own) (some H) (stored H s) (λ e. let q = fresh-own s own e in leaves-stored s H (q .0) (valid (q .1)))
 
   -- a change: its own reasons, and what it makes of what is held
   leaves-held : (own : Contents → List Reason) (f : Contents → Contents) → ((H : Contents) → ValidContents H → firstOf (own H) ≡ accepted → ValidContents (f H))
@@ -140,14 +142,14 @@ module _ (s : State) where
       (leaves-stored s (f (contentsOf s)) (A .not-short) (keeps (contentsOf s) (for-datasets .valid s (true-T (isDataset s) (A .tested))) (A .reasons))))
 
   -- a call that only reads
-  leaves-same : (v : Verdict) → Leaves s (settled v (held s) (held s)) s
+  leaves-same : (v : Verdict) → Leaves s (settled v (held s) (held s)) (settled v s s)
   leaves-same accepted = record { holds = refl; as-long = refl }
   leaves-same (refused r) = record { holds = refl; as-long = refl }
 
   leaves-answered : (c : Call) → Leaves s (settled (answer s c) (changed (held s) c) (held s)) (after s c)
-  unfolding answer after changed openAnswer openLeaves readAnswer readLeaves
-  leaves-answered (call-open k) = leaves-fresh (firstOf (openReasons k)) (opening k) (for-calls .on-open k)
-  leaves-answered (call-read file) = leaves-fresh (firstOf (readReasons file)) (decoded file) (files .valid file)
+  unfolding answer reasons after made changed freshAnswer heldAnswer
+  leaves-answered (call-open k) = leaves-fresh (openReasons k) (opening k) (for-calls .on-open k)
+  leaves-answered (call-read file) = leaves-fresh (readReasons file) (decoded file) (files .valid file)
   leaves-answered (call-change c) = leaves-held (updating c .own) (updating c .makes) (change-valid c)
   leaves-answered (call-ask q) = leaves-same (heldAnswer s (inquiring q .own))
 

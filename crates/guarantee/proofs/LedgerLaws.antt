@@ -23,10 +23,10 @@ use Rattle.study.proofs.CallLaws.{entered-size, entered-old, entered-new, enter
 use Rattle.file_format.specs.File.{decoded}
 use Rattle.validity.specs.Memory.{State, short}
 use Rattle.guarantee.specs.Runs.{Change, set-minima, enter, withdraw, updating, Call, call-open, call-read, call-change, call-ask, answer, run}
-use Rattle.guarantee.specs.History.{held, onHeld, ownVerdict, verdict, changing, changed, step, following, contentsAfter}
+use Rattle.guarantee.specs.History.{held, onHeld, reasonsAfter, verdict, changing, changed, step, following, contentsAfter}
 use Rattle.guarantee.specs.Ledger.{Arrival, Ledger, noArrival, named, nameOf, fileLedger, emptyLedger, withArrival, withGone, noting, noted, noteAll, begun, ledgerAfter, Exactly}
 use Rattle.guarantee.specs.Theorems.{Anew}
-use Rattle.guarantee.proofs.Follows.{past-short, holds, answers}
+use Rattle.guarantee.proofs.Follows.{past-ladder, holds, answers}
 use Rattle.guarantee.proofs.Names.{stays, arrived, remaining-count, name-nth, nth-name}
 
 -- what the calls keep: the study's tides are those that remain, and no name is gone before it is given
@@ -273,10 +273,10 @@ agree-settled (refused r) a h b l f K = K
 
 agree-changing : (own : Contents → List Reason) (f : Contents → Contents) (g : Ledger → Ledger)
     → ((H : Contents) (L : Ledger) → firstOf (own H) ≡ accepted → Matches (H .study) L → Matches (f H .study) (g L))
-    → (h : Option Contents) (l : Option Ledger) → onHeld h own ≡ accepted → Agree h l → Agree (changing h f) (changing l g)
-agree-changing own f g m none l e K = tt
-agree-changing own f g m (some H) none e K = absurd K
-agree-changing own f g m (some H) (some L) e K = m H L e K
+    → (tooShort : Bool) (h : Option Contents) (l : Option Ledger) → firstOf (onHeld tooShort h own) ≡ accepted → Agree h l → Agree (changing h f) (changing l g)
+agree-changing own f g m tooShort none l e K = tt
+agree-changing own f g m tooShort (some H) none e K = absurd K
+agree-changing own f g m tooShort (some H) (some L) e K = m H L (past-ladder tooShort (own H) e) K
 
 change-matches : (c : Change) (H : Contents) (L : Ledger) → firstOf (updating c .own H) ≡ accepted → Matches (H .study) L
     → Matches (updating c .makes H .study) (noting c L)
@@ -285,20 +285,21 @@ change-matches (set-minima M) H L e K = minima-matches (H .study) L M K
 change-matches (enter setting row) H L e K = arrival-matches (H .study) L setting row K
 change-matches (withdraw t) H L e K = let w = withdraws H t e in gone-matches (H .study) L t K (omega (arith, w .low, w .high))
 
-agree-changed : (h : Option Contents) (l : Option Ledger) (c : Call) → ownVerdict h c ≡ accepted → Agree h l → Agree (changed h c) (noted l c)
-unfolding ownVerdict changed noted opening
-agree-changed h l (call-open k) e K = empty-matches k
-agree-changed h l (call-read file) e K = file-matches (decoded file .study)
-agree-changed h l (call-change c) e K = agree-changing (updating c .own) (updating c .makes) (noting c) (change-matches c) h l e K
-agree-changed h l (call-ask q) e K = K
+agree-changed : (tooShort : Bool) (h : Option Contents) (l : Option Ledger) (c : Call) → verdict tooShort h c ≡ accepted → Agree h l
+    → Agree (changed h c) (noted l c)
+unfolding verdict reasonsAfter changed noted opening
+agree-changed tooShort h l (call-open k) e K = empty-matches k
+agree-changed tooShort h l (call-read file) e K = file-matches (decoded file .study)
+agree-changed tooShort h l (call-change c) e K = agree-changing (updating c .own) (updating c .makes) (noting c) (change-matches c) tooShort h l e K
+agree-changed tooShort h l (call-ask q) e K = K
 
 agree-following : (tooShort : Bool) (h : Option Contents) (l : Option Ledger) (cs : List Call) → Agree h l
     → Agree (following tooShort h cs) (noteAll tooShort h l cs)
-unfolding following noteAll step verdict
+unfolding following noteAll step
 agree-following tooShort h l [] K = K
 agree-following tooShort h l (c ∷ cs) K =
     agree-following tooShort (step tooShort h c) (settled (verdict tooShort h c) (noted l c) l) cs
-    (agree-settled (verdict tooShort h c) (changed h c) h (noted l c) l (λ e. agree-changed h l c (past-short tooShort (ownVerdict h c) e .1) K) K)
+    (agree-settled (verdict tooShort h c) (changed h c) h (noted l c) l (λ e. agree-changed tooShort h l c e K) K)
 
 agree-begun : (h : Option Contents) → Agree h (begun h)
 agree-begun none = tt

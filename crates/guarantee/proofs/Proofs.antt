@@ -9,17 +9,17 @@ use mathlib.Core.Option.{Option, none, some}
 use Rattle.study.specs.declared.BlockRecord.{BlockRecord}
 use Rattle.study.specs.Problem.{Feasible}
 use Rattle.study.specs.Study.{Study, Contents, size, problem}
-use Rattle.study.specs.Refusals.{Numbered, number, accepted, refused, firstOf}
+use Rattle.study.specs.Refusals.{Numbered, number, accepted, refused, firstOf, freshReasons, heldReasons}
 use Rattle.study.specs.Calls.{Figures}
 use Rattle.study.specs.Theorems.{ValidContents}
 use Rattle.validity.specs.Memory.{State, short}
 use Rattle.guarantee.specs.Runs.{make-blocks, inquiring, Call, call-ask, answer, after, Response, response, run}
-use Rattle.guarantee.specs.History.{ownVerdict, verdict, contentsAfter, studyIn, studyAfter, learnt}
+use Rattle.guarantee.specs.History.{reasonsAfter, verdict, contentsAfter, studyIn, studyAfter, learnt}
 use Rattle.guarantee.specs.Theorems.{Guaranteed, CanonicalBlock, blocked, Demand1, Demand2, Demand3}
 use Rattle.guarantee.proofs.Follows.{held-some, holds-valid, holds, as-short, settles}
 use Rattle.guarantee.proofs.LedgerLaws.{exactly, anew}
 use Rattle.guarantee.proofs.BlockLaws.{block-25, block-guaranteed, block-canonical}
-use Rattle.guarantee.proofs.DemandLaws.{first, unchanged, unwritten, as-contracts, files-and-datasets}
+use Rattle.guarantee.proofs.DemandLaws.{unchanged, unwritten, only-reads, as-contracts, files-and-datasets}
 
 -- the study is that of the contents
 record Studied (h : Option Contents) (S : Study) : Type 0 where
@@ -48,7 +48,7 @@ module _ (start : State) (calls : List Call) where
     learns e = settles start calls block ∙ ap (λ h. learnt (short start) h block) e
 
     refused-none : contentsAfter start calls ≡ none → (r : Numbered) × (answer (run start calls) block ≡ refused r)
-    unfolding response learnt verdict ownVerdict
+    unfolding response learnt verdict reasonsAfter heldReasons freshReasons firstOf
     refused-none e = by (short start) (ap (λ (r : Response). r .verdict) (learns e))
       where
         by : (tooShort : Bool) → answer (run start calls) block ≡ cond tooShort (refused (number 1)) (refused (number 21))
@@ -64,7 +64,7 @@ module _ (start : State) (calls : List Call) where
       learns-some = learns e ∙ ap (λ tooShort. learnt tooShort (some H) block) long
 
       answer-own : answer (run start calls) block ≡ firstOf (inquiring (make-blocks list₀ records₀) .own H)
-      unfolding response learnt verdict ownVerdict
+      unfolding response learnt verdict reasonsAfter heldReasons freshReasons firstOf
       answer-own = ap (λ (r : Response). r .verdict) learns-some
 
   no-study : (list : List ℕ) (records : List BlockRecord) → studyAfter start calls ≡ none
@@ -110,9 +110,9 @@ module _ (start : State) (calls : List Call) where
         (block-canonical H (valid-after H (K .is)) list₀ list records₀ records F (sym (learns-some list₀ records₀ H (K .is)) ∙ q))
 
 pub demand1 : Demand1
-unfolding after
+unfolding answer
 demand1 =
-    record { contracts = as-contracts; first = first; unchanged = unchanged; unwritten = unwritten; only-reads = λ s q. refl }
+    record { contracts = as-contracts; first = λ s c. refl; unchanged = unchanged; unwritten = unwritten; only-reads = only-reads }
 
 pub demand2 : Demand2
 demand2 =

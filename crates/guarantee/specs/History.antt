@@ -1,34 +1,34 @@
 -- Document 01, "The study and its rivals": the study that the start and the calls bring in, and the count of withdrawals beside it.
 -- The memory is looked at where the calls start, and never again. Assumes nothing.
-use mathlib.Core.Bool.{Bool, cond}
+use mathlib.Core.Bool.{Bool, true, false, cond}
 use mathlib.Core.List.{List, [], _∷_}
 use mathlib.Core.Option.{Option, none, some}
 use Rattle.study.specs.Study.{Study, Contents}
-use Rattle.study.specs.Refusals.{number, Verdict, refused, settled, Reason, firstOf}
+use Rattle.study.specs.Refusals.{Verdict, settled, Reason, firstOf, freshReasons, heldReasons}
 use Rattle.study.specs.Calls.{openReasons, opening}
 use Rattle.file_format.specs.File.{decoded, readReasons}
 use Rattle.validity.specs.Memory.{State, short, isDataset, contentsOf}
-use Rattle.guarantee.specs.Runs.{updating, Inquiry, inquiring, Output, noOutput, Call, call-open, call-read, call-change, call-ask, Response}
+use Rattle.guarantee.specs.Runs.{updating, Inquiry, inquiring, Output, noOutput, Call, call-open, call-read, call-change, call-ask, lent, Response}
 
 -- what record and memory hold: where they are a dataset as described, its contents; otherwise there is none
 unfoldable pub held : State → Option Contents
 held s = cond (short s) none (cond (isDataset s) (some (contentsOf s)) none)
 
--- a call on a dataset: 21 while there is none, then its own reasons
-abbrev pub onHeld : Option Contents → (Contents → List Reason) → Verdict
-onHeld none own = refused (number 21)
-onHeld (some H) own = firstOf (own H)
+-- the reasons of a call on a dataset: 21 while there is none
+abbrev pub onHeld : Bool → Option Contents → (Contents → List Reason) → List Reason
+onHeld tooShort none own = heldReasons tooShort false []
+onHeld tooShort (some H) own = heldReasons tooShort true (own H)
 
--- from the study and the count, if any, and the call: whether it is refused, and why
-unfoldable pub ownVerdict : Option Contents → Call → Verdict
-ownVerdict h (call-open k) = firstOf (openReasons k)
-ownVerdict h (call-read file) = firstOf (readReasons file)
-ownVerdict h (call-change c) = onHeld h (updating c .own)
-ownVerdict h (call-ask q) = onHeld h (inquiring q .own)
+-- from the study and the count, if any, and the call: its reasons. Memory that is too short for a dataset stays so
+unfoldable pub reasonsAfter : Bool → Option Contents → Call → List Reason
+reasonsAfter tooShort h (call-open k) = freshReasons tooShort (openReasons k)
+reasonsAfter tooShort h (call-read file) = freshReasons tooShort (readReasons file)
+reasonsAfter tooShort h (call-change c) = onHeld tooShort h (updating c .own)
+reasonsAfter tooShort h (call-ask q) = onHeld tooShort h (inquiring q .own)
 
--- memory that is too short for a dataset stays so, and refuses every call
+-- whether it is refused, and why
 unfoldable pub verdict : Bool → Option Contents → Call → Verdict
-verdict tooShort h c = cond tooShort (refused (number 1)) (ownVerdict h c)
+verdict tooShort h c = firstOf (reasonsAfter tooShort h c)
 
 -- what is there, changed; nothing, where there is nothing
 abbrev pub changing : {A : Type 0} → Option A → (A → A) → Option A
@@ -66,17 +66,21 @@ studyAfter start calls = studyIn (contentsAfter start calls)
 
 -- ---- what a caller learns
 
--- an accepted query tells of what is held; of a refused one everything lent stays
-abbrev pub toldOutput : Verdict → Inquiry → Option Contents → Output
-toldOutput v Q none = Q .lent
-toldOutput v Q (some H) = settled v (Q .tells H) (Q .lent)
+-- an accepted query tells of what is held
+abbrev pub tellsOf : Option Contents → Inquiry → Output
+tellsOf none Q = Q .lent
+tellsOf (some H) Q = Q .tells H
+
+-- what an accepted call tells
+unfoldable pub toldAfter : Option Contents → Call → Output
+toldAfter h (call-open k) = noOutput
+toldAfter h (call-read file) = noOutput
+toldAfter h (call-change c) = noOutput
+toldAfter h (call-ask q) = tellsOf h (inquiring q)
 
 -- the numbers that a call answers, and what then stands in what it was lent
 unfoldable pub outputs : Bool → Option Contents → Call → Output
-outputs tooShort h (call-open k) = noOutput
-outputs tooShort h (call-read file) = noOutput
-outputs tooShort h (call-change c) = noOutput
-outputs tooShort h (call-ask q) = toldOutput (verdict tooShort h (call-ask q)) (inquiring q) h
+outputs tooShort h c = settled (verdict tooShort h c) (toldAfter h c) (lent c)
 
 -- from the study and the count, if any, and the call: all that its caller learns
 unfoldable pub learnt : Bool → Option Contents → Call → Response

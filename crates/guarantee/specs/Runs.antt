@@ -2,7 +2,6 @@
 -- stands once, in the tables `updating` and `inquiring`; `AsContracts` (Theorems) says that it is what the call's contract cites. Assumes
 -- nothing.
 use Prim.Native.Nat.{ℕ}
-use mathlib.Core.Bool.{not}
 use mathlib.Core.List.{List, [], _∷_, _++_}
 use lib.ListN.{length, drop}
 use Rattle.lists.specs.Lists.{overwrite}
@@ -10,12 +9,11 @@ use Rattle.study.specs.declared.Minima.{Minima}
 use Rattle.study.specs.declared.BlockRecord.{BlockRecord}
 use Rattle.study.specs.Problem.{blocking}
 use Rattle.study.specs.Study.{Contents, size, problem}
-use Rattle.study.specs.Refusals.{number, Verdict, settled, Reason, _⇒_}
-use Rattle.study.specs.Calls.{openReasons, minimaReasons, settingMinima, enterReasons, entering, withdrawReasons, withdrawing, centresReasons, centreNumbers, blockReasons, Figures, figures, blockRecord, judgeReasons, Judgement, approval, disapproval, judgement}
-use Rattle.file_format.specs.File.{fileOf, readReasons}
+use Rattle.study.specs.Refusals.{Verdict, settled, Reason, firstOf, freshReasons, heldReasons}
+use Rattle.study.specs.Calls.{openReasons, opening, minimaReasons, settingMinima, enterReasons, entering, withdrawReasons, withdrawing, centresReasons, centreNumbers, blockReasons, Figures, figures, blockRecord, judgeReasons, Judgement, approval, disapproval, judgement}
+use Rattle.file_format.specs.File.{fileOf, decoded, readReasons}
 use Rattle.validity.specs.Memory.{State, short, isDataset, contentsOf, stored}
-use Rattle.dataset.specs.Answers.{heldAnswer, openAnswer, openLeaves}
-use Rattle.study_file.specs.Answers.{readAnswer, readLeaves, writeReasons}
+use Rattle.study_file.specs.Answers.{writeReasons}
 
 -- ---- the calls that change a dataset's contents
 
@@ -124,26 +122,27 @@ pub data Call : Type 0 where
   call-change : Change → Call
   call-ask : Query → Call
 
--- document 01's reasons, in its order: short book memory (1) first, then 21 except for Open and Read, then the call's own
+-- document 01's reasons, in its order: the ladder that calls share, then the call's own
 unfoldable pub reasons : State → Call → List Reason
-reasons s (call-open k) = (short s ⇒ number 1) ∷ openReasons k
-reasons s (call-read file) = (short s ⇒ number 1) ∷ readReasons file
-reasons s (call-change c) = (short s ⇒ number 1) ∷ (not (isDataset s) ⇒ number 21) ∷ updating c .own (contentsOf s)
-reasons s (call-ask q) = (short s ⇒ number 1) ∷ (not (isDataset s) ⇒ number 21) ∷ inquiring q .own (contentsOf s)
+reasons s (call-open k) = freshReasons (short s) (openReasons k)
+reasons s (call-read file) = freshReasons (short s) (readReasons file)
+reasons s (call-change c) = heldReasons (short s) (isDataset s) (updating c .own (contentsOf s))
+reasons s (call-ask q) = heldReasons (short s) (isDataset s) (inquiring q .own (contentsOf s))
 
 -- whether the call is refused, and why
 unfoldable pub answer : State → Call → Verdict
-answer s (call-open k) = openAnswer s k
-answer s (call-read file) = readAnswer s file
-answer s (call-change c) = heldAnswer s (updating c .own)
-answer s (call-ask q) = heldAnswer s (inquiring q .own)
+answer s c = firstOf (reasons s c)
 
--- the record and the memory that it leaves
+-- the record and the memory that an accepted call leaves
+unfoldable pub made : State → Call → State
+made s (call-open k) = stored (opening k) s
+made s (call-read file) = stored (decoded file) s
+made s (call-change c) = stored (updating c .makes (contentsOf s)) s
+made s (call-ask q) = s
+
+-- a refused call leaves them as they were
 unfoldable pub after : State → Call → State
-after s (call-open k) = openLeaves s k
-after s (call-read file) = readLeaves s file
-after s (call-change c) = settled (heldAnswer s (updating c .own)) (stored (updating c .makes (contentsOf s)) s) s
-after s (call-ask q) = s
+after s c = settled (answer s c) (made s c) s
 
 -- what it is lent besides record and memory
 unfoldable pub lent : Call → Output
@@ -152,12 +151,16 @@ lent (call-read file) = noOutput
 lent (call-change c) = noOutput
 lent (call-ask q) = inquiring q .lent
 
--- the numbers that it answers, and what then stands in what it was lent
+-- the numbers that an accepted call answers, and what it leaves in what it was lent
+unfoldable pub told : State → Call → Output
+told s (call-open k) = noOutput
+told s (call-read file) = noOutput
+told s (call-change c) = noOutput
+told s (call-ask q) = inquiring q .tells (contentsOf s)
+
+-- a refused call answers none, and leaves that as it was
 unfoldable pub output : State → Call → Output
-output s (call-open k) = noOutput
-output s (call-read file) = noOutput
-output s (call-change c) = noOutput
-output s (call-ask q) = settled (heldAnswer s (inquiring q .own)) (inquiring q .tells (contentsOf s)) (inquiring q .lent)
+output s c = settled (answer s c) (told s c) (lent c)
 
 -- all that its caller learns
 pub record Response : Type 0 where

@@ -17,16 +17,16 @@ use Rattle.lists.proofs.Counting.{sum-front}
 use Rattle.study.specs.declared.Minima.{Minima}
 use Rattle.study.specs.Minima.{MinimaFit}
 use Rattle.study.specs.Study.{Contents, size, validMinima}
-use Rattle.study.specs.Refusals.{number, Verdict, accepted, refused, settled, Reason, firstOf}
+use Rattle.study.specs.Refusals.{number, Verdict, accepted, refused, settled, Reason, firstOf, freshReasons, heldReasons}
 use Rattle.study.specs.Calls.{openReasons, opening, minimaReasons, settingMinima, enterReasons, entering, withdrawReasons, withdrawing}
 use Rattle.study.specs.Theorems.{ValidContents}
 use Rattle.study.proofs.StudyLaws.{validMinima-T}
 use Rattle.study.proofs.CallLaws.{none-holds}
-use Rattle.validity.specs.Memory.{State, short, isDataset, contentsOf, stored}
-use Rattle.validity.specs.Validity.{IsDataset}
+use Rattle.validity.specs.Memory.{State, stateOf, setK, setMinima, short, isDataset, contentsOf, stored}
+use Rattle.validity.specs.Validity.{IsStudy}
 use Rattle.validity.proofs.Proofs.{for-datasets}
-use Rattle.dataset.specs.Answers.{freshAnswer, heldAnswer, openAnswer, openLeaves, minimaAnswer, minimaLeaves, enterAnswer, enterLeaves, withdrawAnswer, withdrawLeaves}
-use Rattle.dataset.proofs.AnswerLaws.{accepted-held}
+use Rattle.dataset.specs.Answers.{freshAnswer, freshLeaves, heldAnswer, heldLeaves, openAnswer, openLeaves, minimaAnswer, minimaLeaves, enterAnswer, enterLeaves, withdrawAnswer, withdrawLeaves}
+use Rattle.dataset.proofs.AnswerLaws.{fresh-own, accepted-held}
 use Rattle.narrowing.specs.Narrowing.{narrowed, narrowMinima, narrowDataset, narrowState, Unchanged}
 
 -- what either of two tests tells, or that neither passes
@@ -115,11 +115,11 @@ module _ (s : State) where
     valid e = for-datasets .valid s (true-T (isDataset s) e)
 
     answer-same : heldAnswer s own′ ≡ heldAnswer s own
-    unfolding heldAnswer
-    answer-same = ap (freshAnswer s) (by (isDataset s) refl)
+    unfolding heldAnswer heldReasons freshReasons firstOf
+    answer-same = ap (cond (short s) (refused (number 1))) (by (isDataset s) refl)
       where
         by : (b : Bool) → isDataset s ≡ b
-            → cond b (firstOf (own′ (contentsOf s))) (refused (number 21)) ≡ cond b (firstOf (own (contentsOf s))) (refused (number 21))
+            → cond (not b) (refused (number 21)) (firstOf (own′ (contentsOf s))) ≡ cond (not b) (refused (number 21)) (firstOf (own (contentsOf s)))
         by true e = ap firstOf (same (contentsOf s) (valid e))
         by false e = refl
 
@@ -130,49 +130,37 @@ module _ (s : State) where
       leaves-same answer-same (λ e. let A = accepted-held s own e in makes-same (contentsOf s) (valid (A .tested)) (A .reasons)),
     )
 
-  fresh-own : {own : Verdict} → freshAnswer s own ≡ accepted → own ≡ accepted
-  unfolding freshAnswer
-  fresh-own {own} e = by (short s) e
-    where
-      by : (b : Bool) → cond b (refused (number 1)) own ≡ accepted → own ≡ accepted
-      by true h = absurd (let z : _≡_ {A = ℕ} 0 1 = cc in omega arith)
-      by false h = h
-
   -- ---- the record itself
 
   record-uncut : narrowed (s .dataset .k) ≡ s .dataset .k → narrowMinima (s .dataset .minima) ≡ s .dataset .minima → narrowState s ≡ s
   unfolding narrowDataset
   record-uncut e f =
-      λ i. record {
-        dataset = record { k = e i; n = s .dataset .n; minima = f i; withdrawn = s .dataset .withdrawn };
-        distances = s .distances;
-        settings = s .settings;
-      }
+      λ i. stateOf (setK (e i) (setMinima (f i) (s .dataset))) (s .distances) (s .settings)
 
-  dataset-uncut : IsDataset s → narrowState s ≡ s
+  dataset-uncut : IsStudy s → narrowState s ≡ s
   dataset-uncut D = record-uncut (narrow-small (s .dataset .k) (omega (arith, D .k-high))) (fit-uncut (s .dataset .k) (s .dataset .minima) (D .minima))
 
-  narrow-dataset-uncut : IsDataset (narrowState s) → narrowState s ≡ s
+  narrow-dataset-uncut : IsStudy (narrowState s) → narrowState s ≡ s
   unfolding narrowDataset
   narrow-dataset-uncut D =
       record-uncut (narrow-below (s .dataset .k) (omega (arith, D .k-high))) (narrow-uncut (narrowed (s .dataset .k)) (s .dataset .minima) (D .minima))
 
   record-same : (own : Contents → List Reason) → (heldAnswer (narrowState s) own ≡ heldAnswer s own) × (heldAnswer s own ≡ accepted → narrowState s ≡ s)
-  unfolding heldAnswer freshAnswer short
+  unfolding heldAnswer heldReasons freshReasons firstOf short
   record-same own =
       ⊎-elim (λ e. (ap (λ t. heldAnswer t own) e, λ a. e))
       (λ n. (rw (n .0, n .1), λ a. absurd (true≢false (sym (accepted-held s own a .tested) ∙ n .1))))
-      (either (isDataset (narrowState s)) (isDataset s) (λ t. narrow-dataset-uncut (for-datasets .exactly (narrowState s) .0 t))
-      (λ t. dataset-uncut (for-datasets .exactly s .0 t)))
+      (either (isDataset (narrowState s)) (isDataset s) (λ t. narrow-dataset-uncut (for-datasets .exactly (narrowState s) .0 t .study))
+      (λ t. dataset-uncut (for-datasets .exactly s .0 t .study)))
 
 pub unchanged : (s : State) → Unchanged s
-unfolding openAnswer openLeaves openReasons minimaAnswer minimaLeaves minimaReasons enterAnswer enterLeaves enterReasons withdrawAnswer withdrawLeaves
+unfolding openAnswer openLeaves freshLeaves heldLeaves openReasons minimaAnswer minimaLeaves minimaReasons enterAnswer enterLeaves enterReasons withdrawAnswer withdrawLeaves
     withdrawReasons
 unchanged s =
     record {
       on-open = λ k.
           let e : openAnswer s (narrowed k) ≡ openAnswer s k = rw (between-same 8 k (omega arith)) in
-          (e, leaves-same s e (λ a. ap opening (between-uncut 8 k (omega arith) (none-holds (openReasons k) (fresh-own s a) .0))));
+          (e, leaves-same s e (λ a. ap opening (between-uncut 8 k (omega arith) (none-holds (openReasons k) (fresh-own s (openReasons k) a .1) .0))));
       on-minima = λ M.
           held-same s (λ H ok. rw (valid-same (H .study .k) M))
           (λ H ok a. ap (λ N. settingMinima N H) (valid-uncut (H .study .k) M (none-holds (minimaReasons (H .study) M) a .0)));

@@ -9,19 +9,22 @@ use Rattle.study.specs.declared.Minima.{Minima}
 use Rattle.study.specs.declared.Dataset.{Dataset}
 use Rattle.study.specs.Study.{Contents}
 use Rattle.study.specs.Refusals.{accepted, Reason}
-use Rattle.validity.specs.Memory.{State, stateOf}
+use Rattle.validity.specs.Memory.{State, stateOf, setK, setMinima}
 use Rattle.dataset.specs.Answers.{heldAnswer, openAnswer, openLeaves, minimaAnswer, minimaLeaves, enterAnswer, enterLeaves, withdrawAnswer, withdrawLeaves}
 
+-- 255 for each number above it
 unfoldable pub narrowed : ℕ → ℕ
 narrowed x = cond (ltb x 256) x 255
 
+-- each of the minima
 unfoldable pub narrowMinima : Minima → Minima
 narrowMinima M = record { b0 = narrowed (M .b0); b = map narrowed (M .b) }
 
 -- a record with its k and its minima narrowed
 unfoldable pub narrowDataset : Dataset → Dataset
-narrowDataset r = record { k = narrowed (r .k); n = r .n; minima = narrowMinima (r .minima); withdrawn = r .withdrawn }
+narrowDataset r = setK (narrowed (r .k)) (setMinima (narrowMinima (r .minima)) r)
 
+-- the memory stays
 abbrev pub narrowState : State → State
 narrowState s = stateOf (narrowDataset (s .dataset)) (s .distances) (s .settings)
 

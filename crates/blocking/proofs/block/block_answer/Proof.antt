@@ -18,7 +18,7 @@ returns-2 c = block-24 _ _ _ (passed _ (c .before .enum-told .given .1) (c .befo
 ball-meets-requires : tie.Need-ball-meets-requires
 ball-meets-requires c κs =
     let p = passed _ (c .before .enum-told .given .1) (c .before .before .before .check .ensures) in
-    (sized-arrays _ (p .dataset) (p .long), c .if1 .left)
+    (sized-arrays _ (p .study) (p .long), c .if1 .left)
 
 returns-3 : tie.Need-returns-3
 returns-3 c = block-25 _ _ _ (passed _ (c .before .before .before .enum-told .given .1) (c .before .before .before .before .before .check .ensures)) (c .before .before .if1 .left) (c .before .ball-meets .ensures) (not-true _ (c .if2 .taken))
