@@ -32,7 +32,7 @@ use Rattle.c_api.proofs.RecordLaws.{withRecord, front-written}
 use Rattle.c_api.specs.Records.{Narrow}
 use Rattle.c_api.proofs.CodeLaws.{small, held-narrow}
 use Rattle.c_api.proofs.CallLaws.{lacks-one}
-use Rattle.c_api.proofs.OutputLaws.{reply-refused, reply-value, output-as, code-tooShort, output-tooShort, Reads, code-own, output-own}
+use Rattle.c_api.proofs.OutputLaws.{reply-refused, reply-value, output-as, code-too-short, output-too-short, Reads, code-own, output-own}
 
 -- ---- the list
 
@@ -147,13 +147,13 @@ places-are : {p q : Places} → p .list ≡ q .list → p .centres ≡ q .centre
 places-are a b c d e = λ i. record { list = a i; centres = b i; sizes = c i; diameters = d i; result = e i }
 
 module _ (l : Lent) (p : Places) where
-  pub block-tooShort : (length (l .numbers) < 12) ⊎ (length (p .result) < 3) → (1 ≡ code (blockVerdict l p)) × (p ≡ blockLeft l p)
+  pub block-too-short : (length (l .numbers) < 12) ⊎ (length (p .result) < 3) → (1 ≡ code (blockVerdict l p)) × (p ≡ blockLeft l p)
   unfolding blockVerdict blockLeft
-  block-tooShort h =
+  block-too-short h =
       let e = lacks-one (l .numbers) (p .result) h in (
-        code-tooShort _ e,
-        places-are (output-tooShort _ e _ (p .list)) (output-tooShort _ e _ (p .centres)) (output-tooShort _ e _ (p .sizes)) (output-tooShort _ e _ (p .diameters))
-            (output-tooShort _ e _ (p .result)),
+        code-too-short _ e,
+        places-are (output-too-short _ e _ (p .list)) (output-too-short _ e _ (p .centres)) (output-too-short _ e _ (p .sizes)) (output-too-short _ e _ (p .diameters))
+            (output-too-short _ e _ (p .result)),
       )
 
   abbrev own : Contents → List Reason

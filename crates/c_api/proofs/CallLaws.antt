@@ -24,9 +24,9 @@ use Rattle.file_format.proofs.Proofs.{files}
 use Rattle.file_format.proofs.BitLaws.{bitsAt-small}
 use Rattle.file_format.proofs.DecodedLaws.{decoded-size}
 use Rattle.validity.specs.Memory.{State, stateOf, short, isDataset, contentsOf, recordOf, stored}
-use Rattle.dataset.specs.Answers.{freshAnswer, heldAnswer, openAnswer, openLeaves, minimaAnswer, minimaLeaves, enterAnswer, enterLeaves, withdrawAnswer, withdrawLeaves}
+use Rattle.dataset.specs.Answers.{freshAnswer, freshLeaves, heldAnswer, heldLeaves, openAnswer, openLeaves, minimaAnswer, minimaLeaves, enterAnswer, enterLeaves, withdrawAnswer, withdrawLeaves}
 use Rattle.validity.proofs.Proofs.{for-datasets}
-use Rattle.dataset.proofs.AnswerLaws.{accepted-held}
+use Rattle.dataset.proofs.AnswerLaws.{fresh-own, accepted-held}
 use Rattle.narrowing.specs.Narrowing.{narrowed, narrowDataset}
 use Rattle.narrowing.proofs.Proofs.{unchanged}
 use Rattle.study_file.specs.Answers.{readAnswer, readLeaves}
@@ -70,13 +70,8 @@ pub record Sound (v : Verdict) (H : Contents) : Type 0 where
   pub valid : v ≡ accepted → ValidContents H
 
 module _ (s : State) where
-  fresh-sound : (own : Verdict) (H : Contents) → Narrow own → (own ≡ accepted → ValidContents H) → Sound (freshAnswer s own) H
-  unfolding freshAnswer
-  fresh-sound own H n valid = record { narrow = fresh-narrow s own n; valid = by (short s) }
-    where
-      by : (b : Bool) → cond b (refused (number 1)) own ≡ accepted → ValidContents H
-      by true e = absurd (let z : _≡_ {A = ℕ} 0 1 = cc in omega arith)
-      by false e = valid e
+  fresh-sound : (own : List Reason) (H : Contents) → AllNarrow own → (firstOf own ≡ accepted → ValidContents H) → Sound (freshAnswer s own) H
+  fresh-sound own H n valid = record { narrow = fresh-narrow s own n; valid = λ e. valid (fresh-own s own e .1) }
 
   held-sound : (own : Contents → List Reason) (f : Contents → Contents) → ((H : Contents) → ValidContents H → AllNarrow (own H))
       → ((H : Contents) → ValidContents H → firstOf (own H) ≡ accepted → ValidContents (f H)) → Sound (heldAnswer s own) (f (contentsOf s))
@@ -91,7 +86,7 @@ module _ (s : State) where
 
   pub open-sound : (k : ℕ) → Sound (openAnswer s k) (opening k)
   unfolding openAnswer openReasons
-  open-sound k = fresh-sound (firstOf (openReasons k)) (opening k) (first-narrow (openReasons k) (small tt, tt)) (for-calls .on-open k)
+  open-sound k = fresh-sound (openReasons k) (opening k) (small tt, tt) (for-calls .on-open k)
 
   pub minima-sound : (M : Minima) → Sound (minimaAnswer s M) (settingMinima M (contentsOf s))
   unfolding minimaAnswer minimaReasons
@@ -113,7 +108,7 @@ module _ (s : State) where
 
   pub read-sound : (file : List ℕ) → Sound (readAnswer s file) (decoded file)
   unfolding readAnswer readReasons headReasons tideReasons
-  read-sound file = fresh-sound (firstOf (readReasons file)) (decoded file) (first-narrow (readReasons file) narrow) (files .valid file)
+  read-sound file = fresh-sound (readReasons file) (decoded file) narrow (files .valid file)
     where
       S : Study
       S = decoded file .study
@@ -149,16 +144,16 @@ module _ (l : Lent) {r : Dataset} (e : r ≡ narrowDataset (datasetOf (l .number
       subst (λ x. Same (heldAnswer (withRecord l x) own) (heldAnswer (stateIn l) own) (f (contentsOf (withRecord l x))) (f (contentsOf (stateIn l)))) (sym e)
       (record { verdict = N .0; contents = λ q. ap (λ s. f (contentsOf s)) (N .1 q) })
 
-  pub same-fresh : (own : Verdict) (H : Contents) → Same (freshAnswer (withRecord l r) own) (freshAnswer (stateIn l) own) H H
+  pub same-fresh : (own : List Reason) (H : Contents) → Same (freshAnswer (withRecord l r) own) (freshAnswer (stateIn l) own) H H
   unfolding freshAnswer short stateIn
   same-fresh own H = record { verdict = refl; contents = λ q. refl }
 
 -- ---- what stands afterwards
 
 -- a list of fixed size is too short
-pub left-tooShort : (l : Lent) {tooShort : Bool} (v : Verdict) (s : State) → tooShort ≡ true → (1 ≡ code (roomFirst tooShort v)) × (l ≡ left l (roomFirst tooShort v) s)
+pub left-too-short : (l : Lent) {tooShort : Bool} (v : Verdict) (s : State) → tooShort ≡ true → (1 ≡ code (roomFirst tooShort v)) × (l ≡ left l (roomFirst tooShort v) s)
 unfolding roomFirst left
-left-tooShort l v s e = (rw e, rw e)
+left-too-short l v s e = (rw e, rw e)
 
 -- a call got the record in l as o and made r of it; its verdict w gave the code c and the numbers m
 pub record Stored (l : Lent) (o r : Dataset) (w : Verdict) (c : ℕ) (m : List ℕ) : Type 0 where
@@ -175,7 +170,7 @@ module _ {l : Lent} {o r : Dataset} {w : Verdict} {c : ℕ} {m : List ℕ} (D : 
     left-own : {tooShort : Bool} {v v′ : Verdict} {H H′ : Contents} → tooShort ≡ false → Same v′ v H′ H → w ≡ v′
         → stateOf r d g ≡ settled v′ (stored H′ (withRecord l o)) (withRecord l o)
         → (c ≡ code (roomFirst tooShort v)) × (lent m d g ≡ left l (roomFirst tooShort v) (settled v (stored H (stateIn l)) (stateIn l)))
-    unfolding roomFirst left stored stateIn
+    unfolding roomFirst left stored recordOf stateIn
     left-own {tooShort} {v} {v′} {H} {H′} e S p q =
         let u : w ≡ v = p ∙ S .verdict in
         rw e (
@@ -194,15 +189,15 @@ module _ {l : Lent} {o r : Dataset} {w : Verdict} {c : ℕ} {m : List ℕ} (D : 
 
     pub open-left : (k : ℕ) {y : ℕ} → y ≡ narrowed k → w ≡ openAnswer (withRecord l o) y → stateOf r d g ≡ openLeaves (withRecord l o) y
         → (c ≡ code (openVerdict l k)) × (lent m d g ≡ openLeft l k)
-    unfolding openVerdict openLeft openAnswer openLeaves
+    unfolding openVerdict openLeft openAnswer openLeaves freshLeaves
     open-left k e p q =
         let N = unchanged (withRecord l o) .on-open k in
-        left-own whole (same-fresh l (D .held) (firstOf (openReasons k)) (opening k)) (p ∙ ap (openAnswer (withRecord l o)) e ∙ N .0)
+        left-own whole (same-fresh l (D .held) (openReasons k) (opening k)) (p ∙ ap (openAnswer (withRecord l o)) e ∙ N .0)
         (q ∙ ap (openLeaves (withRecord l o)) e ∙ N .1)
 
     pub minima-left : (minima : List ℕ) {M : Minima} → 9 ≤ length minima → M ≡ minimaAt 0 minima → w ≡ minimaAnswer (withRecord l o) M
         → stateOf r d g ≡ minimaLeaves (withRecord l o) M → (c ≡ code (minimaVerdict l minima)) × (lent m d g ≡ minimaLeft l minima)
-    unfolding minimaVerdict minimaLeft minimaAnswer minimaLeaves
+    unfolding minimaVerdict minimaLeft minimaAnswer minimaLeaves heldLeaves
     minima-left minima {M} room e p q =
         let N = minimaAt 0 minima in
         left-own (lacks-neither (l .numbers) minima (D .room) room) (same-held l (D .held) (λ H. minimaReasons (H .study) N) (settingMinima N))
@@ -210,7 +205,7 @@ module _ {l : Lent} {o r : Dataset} {w : Verdict} {c : ℕ} {m : List ℕ} (D : 
 
     pub enter-left : (setting : ℕ) (row : List ℕ) {y : ℕ} → y ≡ narrowed setting → w ≡ enterAnswer (withRecord l o) y row
         → stateOf r d g ≡ enterLeaves (withRecord l o) y row → (c ≡ code (enterVerdict l setting row)) × (lent m d g ≡ enterLeft l setting row)
-    unfolding enterVerdict enterLeft enterAnswer enterLeaves
+    unfolding enterVerdict enterLeft enterAnswer enterLeaves heldLeaves
     enter-left setting row e p q =
         let N = unchanged (withRecord l o) .on-enter setting row in
         left-own whole (same-held l (D .held) (λ H. enterReasons (H .study) setting row) (entering setting row))
@@ -218,7 +213,7 @@ module _ {l : Lent} {o r : Dataset} {w : Verdict} {c : ℕ} {m : List ℕ} (D : 
 
     pub withdraw-left : (t : ℕ) {y : ℕ} → y ≡ narrowed t → w ≡ withdrawAnswer (withRecord l o) y → stateOf r d g ≡ withdrawLeaves (withRecord l o) y
         → (c ≡ code (withdrawVerdict l t)) × (lent m d g ≡ withdrawLeft l t)
-    unfolding withdrawVerdict withdrawLeft withdrawAnswer withdrawLeaves
+    unfolding withdrawVerdict withdrawLeft withdrawAnswer withdrawLeaves heldLeaves
     withdraw-left t e p q =
         let N = unchanged (withRecord l o) .on-withdraw t in
         left-own whole (same-held l (D .held) (λ H. withdrawReasons H t) (withdrawing t)) (p ∙ ap (withdrawAnswer (withRecord l o)) e ∙ N .0)
@@ -226,8 +221,8 @@ module _ {l : Lent} {o r : Dataset} {w : Verdict} {c : ℕ} {m : List ℕ} (D : 
 
     pub read-left : (file : List ℕ) → w ≡ readAnswer (withRecord l o) file → stateOf r d g ≡ readLeaves (withRecord l o) file
         → (c ≡ code (readVerdict l file)) × (lent m d g ≡ readLeft l file)
-    unfolding readVerdict readLeft readAnswer readLeaves
-    read-left file p q = left-own whole (same-fresh l (D .held) (firstOf (readReasons file)) (decoded file)) p q
+    unfolding readVerdict readLeft readAnswer readLeaves freshLeaves
+    read-left file p q = left-own whole (same-fresh l (D .held) (readReasons file) (decoded file)) p q
 
 -- ---- the next call gets what the last one left
 
@@ -240,26 +235,26 @@ left-state l {tooShort} {v} {H} e S = rw e (by v (S .valid))
         → stateIn (left l w (settled w (stored H (stateIn l)) (stateIn l))) ≡ settled w (stored H (stateIn l)) (stateIn l)
     by accepted valid =
         let fit = validMinima-T (H .study .k) (H .study .minima) .0 (valid refl .study .minima) in
-        ap (λ r. stateOf r (stored H (stateIn l) .distances) (stored H (stateIn l) .settings)) (read-back (recordOf H) (fit .eight) (l .numbers))
+        ap (λ r. stateOf r (stored H (stateIn l) .distances) (stored H (stateIn l) .settings)) (read-back (recordOf H (stateIn l .dataset)) (fit .eight) (l .numbers))
     by (refused y) valid = refl
 
 module _ (l : Lent) (room : 12 ≤ length (l .numbers)) where
   pub open-carried : (k : ℕ) → stateIn (openLeft l k) ≡ openLeaves (stateIn l) k
-  unfolding openLeft openVerdict openLeaves
+  unfolding openLeft openVerdict openLeaves freshLeaves openAnswer
   open-carried k = left-state l (lacks-no 12 (l .numbers) room) (open-sound (stateIn l) k)
 
   pub minima-carried : (minima : List ℕ) → 9 ≤ length minima → stateIn (minimaLeft l minima) ≡ minimaLeaves (stateIn l) (minimaAt 0 minima)
-  unfolding minimaLeft minimaVerdict minimaLeaves
+  unfolding minimaLeft minimaVerdict minimaLeaves heldLeaves minimaAnswer
   minima-carried minima nine = left-state l (lacks-neither (l .numbers) minima room nine) (minima-sound (stateIn l) (minimaAt 0 minima))
 
   pub enter-carried : (setting : ℕ) (row : List ℕ) → stateIn (enterLeft l setting row) ≡ enterLeaves (stateIn l) setting row
-  unfolding enterLeft enterVerdict enterLeaves
+  unfolding enterLeft enterVerdict enterLeaves heldLeaves enterAnswer
   enter-carried setting row = left-state l (lacks-no 12 (l .numbers) room) (enter-sound (stateIn l) setting row)
 
   pub withdraw-carried : (t : ℕ) → stateIn (withdrawLeft l t) ≡ withdrawLeaves (stateIn l) t
-  unfolding withdrawLeft withdrawVerdict withdrawLeaves
+  unfolding withdrawLeft withdrawVerdict withdrawLeaves heldLeaves withdrawAnswer
   withdraw-carried t = left-state l (lacks-no 12 (l .numbers) room) (withdraw-sound (stateIn l) t)
 
   pub read-carried : (file : List ℕ) → stateIn (readLeft l file) ≡ readLeaves (stateIn l) file
-  unfolding readLeft readVerdict readLeaves
+  unfolding readLeft readVerdict readLeaves freshLeaves readAnswer
   read-carried file = left-state l (lacks-no 12 (l .numbers) room) (read-sound (stateIn l) file)

@@ -8,7 +8,7 @@ use lib.Dec.{T, leb, leb→le}
 use Rattle.lists.specs.Lists.{_among_, iota, filter}
 use Rattle.lists.proofs.Members.{filter-mem, map-mem, flatMap-mem, range-mem}
 use Rattle.study.specs.Study.{Contents}
-use Rattle.study.specs.Refusals.{Numbered, number, Verdict, refused, Reason, firstOf}
+use Rattle.study.specs.Refusals.{Numbered, number, Verdict, refused, Reason, firstOf, freshReasons, heldReasons}
 use Rattle.study.specs.declared.refusals.Number.{Number}
 use Rattle.study.specs.declared.refusals.Number.the-variants.{Seven}
 use Rattle.study.specs.Numbers.{saidBy}
@@ -84,18 +84,15 @@ module _ (dist : ℕ → ℕ → ℕ) (n : ℕ) (new : ℕ → ℕ) (few : n ≤
 -- ---- answers
 
 module _ (s : State) where
-  pub fresh-narrow : (own : Verdict) → Narrow own → Narrow (freshAnswer s own)
-  unfolding freshAnswer
-  fresh-narrow own h = by (short s)
-    where
-      by : (b : Bool) → Narrow (cond b (refused (number 1)) own)
-      by true = small tt
-      by false = h
+  pub fresh-narrow : (own : List Reason) → AllNarrow own → Narrow (freshAnswer s own)
+  unfolding freshAnswer freshReasons
+  fresh-narrow own h = first-narrow (freshReasons (short s) own) (small tt, h)
 
   pub held-narrow : (own : Contents → List Reason) → (isDataset s ≡ true → AllNarrow (own (contentsOf s))) → Narrow (heldAnswer s own)
-  unfolding heldAnswer
-  held-narrow own f = fresh-narrow (cond (isDataset s) (firstOf (own (contentsOf s))) (refused (number 21))) (by (isDataset s) f)
+  unfolding heldAnswer heldReasons freshReasons firstOf
+  held-narrow own f = by (short s) (isDataset s) f
     where
-      by : (b : Bool) → (b ≡ true → AllNarrow (own (contentsOf s))) → Narrow (cond b (firstOf (own (contentsOf s))) (refused (number 21)))
-      by true h = first-narrow (own (contentsOf s)) (h refl)
-      by false h = small tt
+      by : (a b : Bool) → (b ≡ true → AllNarrow (own (contentsOf s))) → Narrow (firstOf (heldReasons a b (own (contentsOf s))))
+      by true b h = small tt
+      by false true h = first-narrow (own (contentsOf s)) (h refl)
+      by false false h = small tt

@@ -19,7 +19,7 @@ use Rattle.c_api.proofs.RecordLaws.{withRecord, front-written}
 use Rattle.c_api.specs.Records.{Narrow}
 use Rattle.c_api.proofs.CodeLaws.{small, held-narrow}
 use Rattle.c_api.proofs.CallLaws.{lacks-one}
-use Rattle.c_api.proofs.OutputLaws.{reply-refused, reply-value, output-as, code-tooShort, output-tooShort, Reads, code-own, output-own}
+use Rattle.c_api.proofs.OutputLaws.{reply-refused, reply-value, output-as, code-too-short, output-too-short, Reads, code-own, output-own}
 
 module _ (s : State) (list : List ℕ) (j : Judged) (p : judgedOf j ≡ judgeReply s list) where
   judge-why : {why : Refusal} → j ≡ Judges.Refused why → judgeAnswer s list ≡ refused (numbered why)
@@ -35,9 +35,9 @@ module _ (s : State) (list : List ℕ) (j : Judged) (p : judgedOf j ≡ judgeRep
   judge-value e = reply-value (judgeAnswer s list) (judgement (studyOf s) list) (sym e ∙ p)
 
 module _ (l : Lent) (list result : List ℕ) where
-  pub judge-tooShort : (length (l .numbers) < 12) ⊎ (length result < 2) → (1 ≡ code (judgeVerdict l list result)) × (result ≡ judgeResult l list result)
+  pub judge-too-short : (length (l .numbers) < 12) ⊎ (length result < 2) → (1 ≡ code (judgeVerdict l list result)) × (result ≡ judgeResult l list result)
   unfolding judgeVerdict judgeResult
-  judge-tooShort h = let e = lacks-one (l .numbers) result h in (code-tooShort _ e, output-tooShort _ e _ result)
+  judge-too-short h = let e = lacks-one (l .numbers) result h in (code-too-short _ e, output-too-short _ e _ result)
 
   abbrev own : Contents → List Reason
   own H = judgeReasons (H .study) list

@@ -59,13 +59,13 @@ first-set n (x ∷ xs) h = refl
 
 -- a list of fixed size is too short: 1, and nothing is written
 module _ {tooShort : Bool} (v : Verdict) (e : tooShort ≡ true) where
-  pub code-tooShort : 1 ≡ code (roomFirst tooShort v)
+  pub code-too-short : 1 ≡ code (roomFirst tooShort v)
   unfolding roomFirst
-  code-tooShort = rw e
+  code-too-short = rw e
 
-  pub output-tooShort : (xs old : List ℕ) → old ≡ output (roomFirst tooShort v) xs old
+  pub output-too-short : (xs old : List ℕ) → old ≡ output (roomFirst tooShort v) xs old
   unfolding roomFirst output
-  output-tooShort xs old = rw e
+  output-too-short xs old = rw e
 
 -- r is the record in l as the code holds it, and a list of fixed size has its m places
 pub record Reads (l : Lent) (r : Dataset) (m : ℕ) (fixed : List ℕ) : Type 0 where
@@ -146,10 +146,10 @@ module _ (list : List ℕ) (s : State) where
           )
 
 module _ (l : Lent) (g : ℕ) (list count : List ℕ) where
-  pub centres-tooShort : (length (l .numbers) < 12) ⊎ (length count < 1)
+  pub centres-too-short : (length (l .numbers) < 12) ⊎ (length count < 1)
       → (1 ≡ code (centresVerdict l list count)) × ((list ≡ centresList l g list count) × (count ≡ centresCount l g list count))
   unfolding centresVerdict centresList centresCount
-  centres-tooShort h = let e = lacks-one (l .numbers) count h in (code-tooShort _ e, (output-tooShort _ e _ list, output-tooShort _ e _ count))
+  centres-too-short h = let e = lacks-one (l .numbers) count h in (code-too-short _ e, (output-too-short _ e _ list, output-too-short _ e _ count))
 
   abbrev own : Contents → List Reason
   own H = centresReasons (H .study) (length list)
@@ -206,10 +206,10 @@ module _ (room : ℕ) (s : State) where
     size-fits e = let q = write-size e in omega (arith, q .1, length-fits (q .0))
 
 module _ (l : Lent) (file result : List ℕ) where
-  pub write-tooShort : (length (l .numbers) < 12) ⊎ (length result < 1)
+  pub write-too-short : (length (l .numbers) < 12) ⊎ (length result < 1)
       → (1 ≡ code (writeVerdict l file result)) × ((file ≡ writeFile l file result) × (result ≡ writeLength l file result))
   unfolding writeVerdict writeFile writeLength
-  write-tooShort h = let e = lacks-one (l .numbers) result h in (code-tooShort _ e, (output-tooShort _ e _ file, output-tooShort _ e _ result))
+  write-too-short h = let e = lacks-one (l .numbers) result h in (code-too-short _ e, (output-too-short _ e _ file, output-too-short _ e _ result))
 
   abbrev writes : Contents → List Reason
   writes H = writeReasons H (length file)

@@ -14,16 +14,15 @@ use Rattle.study.specs.Study.{Study, size, problem}
 use Rattle.study.specs.Refusals.{Verdict, accepted, refused, settled}
 use Rattle.study.specs.Calls.{figures, blockRecord}
 use Rattle.validity.specs.Memory.{State, studyOf, contentsOf}
-use Rattle.dataset.specs.Answers.{minimaAnswer, minimaLeaves, enterAnswer, enterLeaves, withdrawAnswer, withdrawLeaves}
 use Rattle.blocking.specs.Answers.{blockAnswer, blockList}
-use Rattle.guarantee.specs.Runs.{updating, Query, make-blocks, inquiring, figureNumbers, Call, call-ask, answer, after, response, run}
+use Rattle.guarantee.specs.Runs.{Query, make-blocks, inquiring, figureNumbers, Call, call-ask, answer, after, lent, told, response, run}
 use Rattle.guarantee.specs.Runs.{output as outputs}
-use Rattle.guarantee.specs.Theorems.{Guaranteed, blocked}
-use Rattle.guarantee.proofs.Proofs.{demand3}
-use Rattle.c_api.specs.Api.{Lent, stateIn, roomFirst, lacks, over, output, left, openLeft, minimaVerdict, minimaLeft, enterLeft, withdrawLeft, readLeft, Places, recordRoom, blockVerdict, blockLeft}
+use Rattle.guarantee.specs.Theorems.{AsContracts, Guaranteed, blocked}
+use Rattle.guarantee.proofs.Proofs.{demand1, demand3}
+use Rattle.c_api.specs.Api.{Lent, minimaAt, stateIn, roomFirst, lacks, over, output, left, openLeft, minimaVerdict, minimaLeft, enterLeft, withdrawLeft, readLeft, Places, recordRoom, blockVerdict, blockLeft}
 use Rattle.c_api.specs.Runs.{CCall, c-open, c-read, c-minima, c-enter, c-withdraw, c-centres, c-block, c-judge, c-write, cAfter, cRun, recordsIn, unless, callsOf}
 use Rattle.c_api.specs.Theorems.{AsRun, CDemand3}
-use Rattle.c_api.proofs.CallLaws.{lacks-yes, lacks-no, lacks-one, left-tooShort, open-carried, minima-carried, enter-carried, withdraw-carried, read-carried}
+use Rattle.c_api.proofs.CallLaws.{lacks-yes, lacks-no, lacks-one, left-too-short, open-carried, minima-carried, enter-carried, withdraw-carried, read-carried}
 use Rattle.c_api.proofs.BlockLaws.{list-output}
 
 -- ---- no call makes the record shorter
@@ -48,29 +47,34 @@ after-long l (c-write file result) = omega arith
 -- ---- a call for C is the call
 
 module _ (l : Lent) (room : 12 ≤ length (l .numbers)) where
-  minima-tooShort : (minima : List ℕ) → length minima < 9 → stateIn (minimaLeft l minima) ≡ stateIn l
+  minima-too-short : (minima : List ℕ) → length minima < 9 → stateIn (minimaLeft l minima) ≡ stateIn l
   unfolding minimaLeft minimaVerdict
-  minima-tooShort minima h = ap stateIn (sym (left-tooShort l _ _ (lacks-one (l .numbers) minima (inr h)) .1))
+  minima-too-short minima h = ap stateIn (sym (left-too-short l _ _ (lacks-one (l .numbers) minima (inr h)) .1))
+
+  -- a call of a run leaves what its contract says
+  abbrev as-contract : AsContracts (stateIn l)
+  as-contract = demand1 .contracts (stateIn l)
 
   minima-step : (minima : List ℕ) → stateIn (cAfter l (c-minima minima)) ≡ run (stateIn l) (callsOf (c-minima minima))
-  unfolding cAfter callsOf run after updating minimaLeaves minimaAnswer
+  unfolding cAfter callsOf run
   minima-step minima =
-      ⊎-elim (λ h. rw (lacks-yes 9 minima h) (minima-tooShort minima h)) (λ h. rw (lacks-no 9 minima h) (minima-carried l room minima h))
+      ⊎-elim (λ h. rw (lacks-yes 9 minima h) (minima-too-short minima h))
+      (λ h. rw (lacks-no 9 minima h) (minima-carried l room minima h ∙ sym (as-contract .on-minima (minimaAt 0 minima) .1)))
       (split (length minima) 9)
 
   -- a call that only reads
   asked : (tooShort : Bool) (q : Query) → stateIn l ≡ run (stateIn l) (unless tooShort (call-ask q))
-  unfolding run after
+  unfolding run
   asked true q = refl
-  asked false q = refl
+  asked false q = sym (demand1 .only-reads (stateIn l) q)
 
   step : (c : CCall) → stateIn (cAfter l c) ≡ run (stateIn l) (callsOf c)
-  unfolding cAfter callsOf run after updating enterLeaves enterAnswer withdrawLeaves withdrawAnswer
-  step (c-open k) = open-carried l room k
-  step (c-read file) = read-carried l room file
+  unfolding cAfter callsOf run
+  step (c-open k) = open-carried l room k ∙ sym (as-contract .on-open k .1)
+  step (c-read file) = read-carried l room file ∙ sym (as-contract .on-read file .1)
   step (c-minima minima) = minima-step minima
-  step (c-enter setting row) = enter-carried l room setting row
-  step (c-withdraw t) = withdraw-carried l room t
+  step (c-enter setting row) = enter-carried l room setting row ∙ sym (as-contract .on-enter setting row .1)
+  step (c-withdraw t) = withdraw-carried l room t ∙ sym (as-contract .on-withdraw t .1)
   step (c-centres g list count) = asked (lacks 1 count) _
   step (c-block p) = asked (lacks 3 (p .result)) _
   step (c-judge list result) = asked (lacks 2 result) _
@@ -106,11 +110,12 @@ module _ (s : State) (p : Places) (e : blockAnswer s (length (p .list)) (recordR
   -- what the caller of the call learns
   answered : response s (call-ask (make-blocks (p .list) (recordsIn p)))
       ≡ blocked (figures S) list (overwrite (figures S .blocks) (blockRecord S) (recordsIn p))
-  unfolding response answer outputs inquiring blockAnswer contentsOf
+  unfolding response outputs told lent inquiring contentsOf
   answered =
       let q = make-blocks (p .list) (recordsIn p) in
-      let a : answer s (call-ask q) ≡ accepted = ap (blockAnswer s (length (p .list))) (length-tabulate (recordRoom p) _) ∙ e in
-      λ i. record { verdict = a i; output = settled (a i) (inquiring q .tells (contentsOf s)) (inquiring q .lent) }
+      let a : answer s (call-ask q) ≡ accepted =
+      demand1 .contracts s .on-block (p .list) (recordsIn p) .0 ∙ ap (blockAnswer s (length (p .list))) (length-tabulate (recordRoom p) _) ∙ e in
+      λ i. record { verdict = a i; output = settled (a i) (told s (call-ask q)) (lent (call-ask q)) }
 
   -- the list that it leaves
   listed : {v : Verdict} → v ≡ accepted → list ≡ output v (blocking (problem S)) (p .list)

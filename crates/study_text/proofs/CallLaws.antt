@@ -15,11 +15,11 @@ use Rattle.study.specs.declared.Outcome.{Outcome}
 use Rattle.study.specs.Study.{Contents, size}
 use Rattle.study.proofs.CallLaws.{opening-valid, minima-valid, entering-valid}
 use Rattle.study.specs.Calls.{openReasons, opening, minimaReasons, settingMinima, enterReasons, entering}
-use Rattle.study.specs.Refusals.{accepted, verdictOf, settled, Reason, firstOf}
+use Rattle.study.specs.Refusals.{accepted, verdictOf, settled, Reason, firstOf, freshReasons}
 use Rattle.study.specs.Theorems.{ValidContents}
 use Rattle.validity.specs.Memory.{State, stateOf, short, studyOf, contentsOf, stored}
 use Rattle.validity.proofs.ValidityLaws.{study-size}
-use Rattle.dataset.specs.Answers.{freshAnswer, heldAnswer, openAnswer, openLeaves, minimaAnswer, minimaLeaves, enterAnswer, enterLeaves}
+use Rattle.dataset.specs.Answers.{freshAnswer, heldAnswer, openAnswer, openLeaves, minimaAnswer, minimaLeaves, enterAnswer, enterLeaves, freshLeaves, heldLeaves}
 use Rattle.dataset.specs.Accepted.{Passed}
 use Rattle.dataset.proofs.AnswerLaws.{held-own}
 use Rattle.narrowing.specs.Narrowing.{narrowed, narrowMinima}
@@ -43,7 +43,7 @@ use Rattle.study_text.proofs.ReachedLaws.{Answers, call-reaches, call-b
 module _ {s t : State} {a : Answer} where
   open-answers : (k : ℕ) → short s ≡ false → verdictOf a ≡ openAnswer s (narrowed k) → t ≡ openLeaves s (narrowed k)
       → Answers s a t (firstOf (openReasons k)) (opening k)
-  unfolding openAnswer openLeaves freshAnswer
+  unfolding openAnswer openLeaves freshLeaves freshAnswer freshReasons firstOf
   open-answers k e v l =
       let N = unchanged s .on-open k in
       record { not-short = e; verdict = rw e at (v ∙ N .0); leaves = rw e at (l ∙ N .1); valid = opening-valid k }
@@ -58,7 +58,7 @@ module _ {s t : State} {a : Answer} where
   module _ (P : Passed s) where
     minima-answers : (M : Minima) → verdictOf a ≡ minimaAnswer s (narrowMinima M) → t ≡ minimaLeaves s (narrowMinima M)
         → Answers s a t (firstOf (minimaReasons (contentsOf s .study) M)) (settingMinima M (contentsOf s))
-    unfolding minimaAnswer minimaLeaves
+    unfolding minimaAnswer minimaLeaves heldLeaves
     minima-answers M v l =
         let N = unchanged s .on-minima M in
         held-answers (λ H. minimaReasons (H .study) M) (settingMinima M (contentsOf s)) P (v ∙ N .0) (l ∙ N .1)
@@ -66,7 +66,7 @@ module _ {s t : State} {a : Answer} where
 
     enter-answers : (x : ℕ) (row : List ℕ) → verdictOf a ≡ enterAnswer s (narrowed x) row → t ≡ enterLeaves s (narrowed x) row
         → Answers s a t (firstOf (enterReasons (contentsOf s .study) x row)) (entering x row (contentsOf s))
-    unfolding enterAnswer enterLeaves
+    unfolding enterAnswer enterLeaves heldLeaves
     enter-answers x row v l =
         let N = unchanged s .on-enter x row in
         held-answers (λ H. enterReasons (H .study) x row) (entering x row (contentsOf s)) P (v ∙ N .0) (l ∙ N .1)

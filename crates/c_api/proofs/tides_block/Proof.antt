@@ -2,15 +2,15 @@
 use borrow.Author.Needs.{needs}
 use native.Mathlib.Omega.{arith}
 use mathlib.Core.Logic.{inl, inr}
-use Rattle.c_api.proofs.BlockLaws.{block-narrow, blocks-small, columns-fit, block-tooShort, block-refused, block-done}
+use Rattle.c_api.proofs.BlockLaws.{block-narrow, blocks-small, columns-fit, block-too-short, block-refused, block-done}
 use Rattle.c_api.proofs.tides_block.Statement.{statement}
 use Rattle.c_api.proofs.tides_block.Tie as tie
 
 returns : tie.Need-returns
-returns c = block-tooShort _ _ (inl (c .if1 .taken))
+returns c = block-too-short _ _ (inl (c .if1 .taken))
 
 returns-2 : tie.Need-returns-2
-returns-2 c = block-tooShort _ _ (inr (c .if2 .taken))
+returns-2 c = block-too-short _ _ (inr (c .if2 .taken))
 
 refusal-code-requires : tie.Need-refusal-code-requires
 refusal-code-requires c κs = block-narrow _ _ _ _ (c .before .before .before .before .before .before .block-core .ensures .0) (c .before .answer .given .1)

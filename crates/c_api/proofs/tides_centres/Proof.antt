@@ -4,15 +4,15 @@ use native.Mathlib.Omega.{arith}
 use mathlib.Core.Path.{sym, subst}
 use mathlib.Core.Logic.{inl, inr}
 use Rattle.c_api.specs.Records.{Narrow}
-use Rattle.c_api.proofs.OutputLaws.{centres-narrow, count-fits, centres-tooShort, centres-refused, centres-done}
+use Rattle.c_api.proofs.OutputLaws.{centres-narrow, count-fits, centres-too-short, centres-refused, centres-done}
 use Rattle.c_api.proofs.tides_centres.Statement.{statement}
 use Rattle.c_api.proofs.tides_centres.Tie as tie
 
 returns : tie.Need-returns
-returns c = centres-tooShort _ _ _ _ (inl (c .if1 .taken))
+returns c = centres-too-short _ _ _ _ (inl (c .if1 .taken))
 
 returns-2 : tie.Need-returns-2
-returns-2 c = centres-tooShort _ _ _ _ (inr (c .if2 .taken))
+returns-2 c = centres-too-short _ _ _ _ (inr (c .if2 .taken))
 
 answer-code-requires : tie.Need-answer-code-requires
 answer-code-requires c κs = subst Narrow (sym (c .before .before .before .before .centres-into .ensures .0)) (centres-narrow _ _)

@@ -1,17 +1,17 @@
 -- A record that is too short, or what the call leaves. Assumes nothing.
 use borrow.Author.Needs.{needs}
 use Rattle.c_api.specs.Api.{enterVerdict, enterLeft}
-use Rattle.c_api.proofs.CallLaws.{lacks-yes, storable, enter-sound, left-tooShort, enter-left}
-use Rattle.dataset.specs.Answers.{enterLeaves}
+use Rattle.c_api.proofs.CallLaws.{lacks-yes, storable, enter-sound, left-too-short, enter-left}
+use Rattle.dataset.specs.Answers.{enterLeaves, heldLeaves, enterAnswer}
 use Rattle.c_api.proofs.tides_enter.Statement.{statement}
 use Rattle.c_api.proofs.tides_enter.Tie as tie
 
 returns : tie.Need-returns
 unfolding enterVerdict enterLeft
-returns c = left-tooShort _ _ _ (lacks-yes 12 _ (c .if1 .taken))
+returns c = left-too-short _ _ _ (lacks-yes 12 _ (c .if1 .taken))
 
 settle-requires : tie.Need-settle-requires
-unfolding enterLeaves
+unfolding enterLeaves heldLeaves enterAnswer
 settle-requires c κs =
     let k = c .before .before .before .before .before in
     storable _ (enter-sound _ _ _) (k .before .before .before .before .before .before .if1 .left) (k .enter .ensures .0) (k .enter .ensures .1)

@@ -2,15 +2,15 @@
 use borrow.Author.Needs.{needs}
 use mathlib.Core.Path.{refl}
 use mathlib.Core.Logic.{inl, inr}
-use Rattle.c_api.proofs.JudgeLaws.{judge-narrow, judge-tooShort, judge-refused, judge-done}
+use Rattle.c_api.proofs.JudgeLaws.{judge-narrow, judge-too-short, judge-refused, judge-done}
 use Rattle.c_api.proofs.tides_judge.Statement.{statement}
 use Rattle.c_api.proofs.tides_judge.Tie as tie
 
 returns : tie.Need-returns
-returns c = judge-tooShort _ _ _ (inl (c .if1 .taken))
+returns c = judge-too-short _ _ _ (inl (c .if1 .taken))
 
 returns-2 : tie.Need-returns-2
-returns-2 c = judge-tooShort _ _ _ (inr (c .if2 .taken))
+returns-2 c = judge-too-short _ _ _ (inr (c .if2 .taken))
 
 refusal-code-requires : tie.Need-refusal-code-requires
 refusal-code-requires c κs = judge-narrow _ _ _ (c .before .before .before .judge .ensures) (c .before .judged .given .1)

@@ -2,21 +2,21 @@
 use borrow.Author.Needs.{needs}
 use mathlib.Core.Logic.{inl, inr}
 use Rattle.c_api.specs.Api.{minimaVerdict, minimaLeft}
-use Rattle.c_api.proofs.CallLaws.{lacks-one, storable, minima-sound, left-tooShort, minima-left}
-use Rattle.dataset.specs.Answers.{minimaLeaves}
+use Rattle.c_api.proofs.CallLaws.{lacks-one, storable, minima-sound, left-too-short, minima-left}
+use Rattle.dataset.specs.Answers.{minimaLeaves, heldLeaves, minimaAnswer}
 use Rattle.c_api.proofs.tides_minima.Statement.{statement}
 use Rattle.c_api.proofs.tides_minima.Tie as tie
 
 returns : tie.Need-returns
 unfolding minimaVerdict minimaLeft
-returns c = left-tooShort _ _ _ (lacks-one _ _ (inl (c .if1 .taken)))
+returns c = left-too-short _ _ _ (lacks-one _ _ (inl (c .if1 .taken)))
 
 returns-2 : tie.Need-returns-2
 unfolding minimaVerdict minimaLeft
-returns-2 c = left-tooShort _ _ _ (lacks-one _ _ (inr (c .if2 .taken)))
+returns-2 c = left-too-short _ _ _ (lacks-one _ _ (inr (c .if2 .taken)))
 
 settle-requires : tie.Need-settle-requires
-unfolding minimaLeaves
+unfolding minimaLeaves heldLeaves minimaAnswer
 settle-requires c κs =
     let k = c .before in
     storable _ (minima-sound _ _) (k .before .before .before .before .before .if1 .left) (k .set-minima .ensures .0) (k .set-minima .ensures .1)

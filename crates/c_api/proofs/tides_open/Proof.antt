@@ -1,17 +1,17 @@
 -- A record that is too short, or what the call leaves. Assumes nothing.
 use borrow.Author.Needs.{needs}
 use Rattle.c_api.specs.Api.{openVerdict, openLeft}
-use Rattle.c_api.proofs.CallLaws.{lacks-yes, storable, open-sound, left-tooShort, open-left}
-use Rattle.dataset.specs.Answers.{openLeaves}
+use Rattle.c_api.proofs.CallLaws.{lacks-yes, storable, open-sound, left-too-short, open-left}
+use Rattle.dataset.specs.Answers.{openLeaves, freshLeaves, openAnswer}
 use Rattle.c_api.proofs.tides_open.Statement.{statement}
 use Rattle.c_api.proofs.tides_open.Tie as tie
 
 returns : tie.Need-returns
 unfolding openVerdict openLeft
-returns c = left-tooShort _ _ _ (lacks-yes 12 _ (c .if1 .taken))
+returns c = left-too-short _ _ _ (lacks-yes 12 _ (c .if1 .taken))
 
 settle-requires : tie.Need-settle-requires
-unfolding openLeaves
+unfolding openLeaves freshLeaves openAnswer
 settle-requires c κs =
     let k = c .before .before .before .before .before in
     storable _ (open-sound _ _) (k .before .before .before .before .before .before .if1 .left) (k .«open» .ensures .0) (k .«open» .ensures .1)

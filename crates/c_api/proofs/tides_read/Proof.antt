@@ -1,17 +1,18 @@
 -- A record that is too short, or what the call leaves. Assumes nothing.
 use borrow.Author.Needs.{needs}
 use Rattle.c_api.specs.Api.{readVerdict, readLeft}
-use Rattle.c_api.proofs.CallLaws.{lacks-yes, storable, read-sound, left-tooShort, read-left}
-use Rattle.study_file.specs.Answers.{readLeaves}
+use Rattle.c_api.proofs.CallLaws.{lacks-yes, storable, read-sound, left-too-short, read-left}
+use Rattle.dataset.specs.Answers.{freshLeaves}
+use Rattle.study_file.specs.Answers.{readLeaves, readAnswer}
 use Rattle.c_api.proofs.tides_read.Statement.{statement}
 use Rattle.c_api.proofs.tides_read.Tie as tie
 
 returns : tie.Need-returns
 unfolding readVerdict readLeft
-returns c = left-tooShort _ _ _ (lacks-yes 12 _ (c .if1 .taken))
+returns c = left-too-short _ _ _ (lacks-yes 12 _ (c .if1 .taken))
 
 settle-requires : tie.Need-settle-requires
-unfolding readLeaves
+unfolding readLeaves freshLeaves readAnswer
 settle-requires c κs =
     let k = c .before .before .before .before .before in
     storable _ (read-sound _ _) (k .before .before .before .before .before .if1 .left) (k .read .ensures .0) (k .read .ensures .1)

@@ -1,17 +1,17 @@
 -- A record that is too short, or what the call leaves. Assumes nothing.
 use borrow.Author.Needs.{needs}
 use Rattle.c_api.specs.Api.{withdrawVerdict, withdrawLeft}
-use Rattle.c_api.proofs.CallLaws.{lacks-yes, storable, withdraw-sound, left-tooShort, withdraw-left}
-use Rattle.dataset.specs.Answers.{withdrawLeaves}
+use Rattle.c_api.proofs.CallLaws.{lacks-yes, storable, withdraw-sound, left-too-short, withdraw-left}
+use Rattle.dataset.specs.Answers.{withdrawLeaves, heldLeaves, withdrawAnswer}
 use Rattle.c_api.proofs.tides_withdraw.Statement.{statement}
 use Rattle.c_api.proofs.tides_withdraw.Tie as tie
 
 returns : tie.Need-returns
 unfolding withdrawVerdict withdrawLeft
-returns c = left-tooShort _ _ _ (lacks-yes 12 _ (c .if1 .taken))
+returns c = left-too-short _ _ _ (lacks-yes 12 _ (c .if1 .taken))
 
 settle-requires : tie.Need-settle-requires
-unfolding withdrawLeaves
+unfolding withdrawLeaves heldLeaves withdrawAnswer
 settle-requires c κs =
     let k = c .before .before .before .before .before in
     storable _ (withdraw-sound _ _) (k .before .before .before .before .before .before .if1 .left) (k .withdraw .ensures .0) (k .withdraw .ensures .1)
