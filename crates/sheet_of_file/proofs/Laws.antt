@@ -13,14 +13,14 @@ use Rattle.study.specs.declared.Refusal.{Refusal}
 use Rattle.study.specs.declared.Answer.{Answer}
 use Rattle.study.specs.declared.Answer.the-variants.{Done, Refused}
 use Rattle.study.specs.Study.{Contents}
-use Rattle.study.specs.Refusals.{Numbered, numbered, Verdict, accepted, refused, verdictOf, settled, Reply, replied, firstOf}
+use Rattle.study.specs.Refusals.{Numbered, numbered, Verdict, accepted, refused, verdictOf, settled, Reply, replied, firstOf, freshReasons}
 use Rattle.study.specs.Theorems.{ValidContents}
 use Rattle.study.specs.Calls.{blockReasons, Figures, figures, blockRecord}
 use Rattle.file_format.specs.File.{decoded, readReasons}
 use Rattle.file_format.proofs.ReasonLaws.{firstOf-later, firstOf-sooner}
 use Rattle.file_format.proofs.Proofs.{files}
 use Rattle.validity.specs.Memory.{State, stateOf, short, isDataset, studyOf, contentsOf, stored}
-use Rattle.dataset.specs.Answers.{freshAnswer}
+use Rattle.dataset.specs.Answers.{freshAnswer, freshLeaves}
 use Rattle.validity.proofs.Proofs.{for-datasets}
 use Rattle.validity.proofs.LayoutLaws.{short-no}
 use Rattle.dataset.proofs.AnswerLaws.{held-own}
@@ -79,7 +79,7 @@ module _ (file : List ℕ) (over : State) (long : short over ≡ false) where
   H = decoded file
 
   own : readAnswer over file ≡ firstOf (readReasons file)
-  unfolding readAnswer freshAnswer freshReasons
+  unfolding readAnswer freshAnswer freshReasons firstOf
   own = rw long
 
   module _ (ok : firstOf (readReasons file) ≡ accepted) where
@@ -109,7 +109,7 @@ module _ (file : List ℕ) (over : State) (long : short over ≡ false) where
     sheet-refused e = sym (refusing file (sym own ∙ sym told ∙ ap verdictOf e))
 
     pub sheet-blocked : {s : State} → a ≡ Done → s ≡ readLeaves over file → blockedText s ≡ sheetOf file
-    unfolding readLeaves
+    unfolding readLeaves freshLeaves readAnswer
     sheet-blocked {s} e f =
         let q : readAnswer over file ≡ accepted = sym told ∙ ap verdictOf e in
         ap blockedText (f ∙ ap (λ v. settled v (stored H over) over) q) ∙ blocked (sym own ∙ q)
