@@ -10,9 +10,9 @@ use Rattle.lists.specs.Lists.{tabulate, overwrite, countBelow, TailKept}
 use Rattle.lists.proofs.Counts.{count-same}
 use Rattle.lists.proofs.Tables.{length-tabulate, getD-tabulate, tabulate-is, getD-overwrite, getD-past, length-overwrite, overwrite-none, overwrite-step, overwrite-done}
 use Rattle.study.specs.Problem.{Problem, centresAmong, centres, block, labels, radius, blocking}
-use Rattle.study.specs.Theorems.{Assignment, FirstAssignment}
-use Rattle.study.proofs.ProblemLaws.{mem-choices, blocks-same, diameter-same, greatestDiameter-same}
-use Rattle.study.proofs.Dictionary.{choice-before, blocking-found}
+use Rattle.study.specs.Theorems.{Assignment, Prefers, FirstAssignment}
+use Rattle.study.proofs.ProblemLaws.{blocks-same, diameter-same, greatestDiameter-same}
+use Rattle.study.proofs.Dictionary.{blocking-found}
 use Rattle.promise.specs.Promise.{Test}
 use Rattle.radius_theory.specs.Arrays.{within, arrayProblem, ValidArrays}
 use Rattle.radius_theory.proofs.RadiiLaws.{lowest-radius}
@@ -20,13 +20,13 @@ use Rattle.radius_search.specs.Front.{Front}
 use Rattle.radius_search.proofs.FrontLaws.{front-at, front-few, front-below, centres-few}
 use Rattle.radius_search.proofs.AssigningLaws.{numbered, numbered-at, allowed-by, assigns}
 use Rattle.radius_search.specs.Ascents.{Least}
-use Rattle.blocking_core.specs.First.{First, Agree}
+use Rattle.blocking_core.specs.First.{rank, First, Agree}
 use Rattle.blocking_core.specs.Measured.{Measured}
 use Rattle.blocking_core.proofs.MeasuredLaws.{across-diameter, widest-diameter}
 use Rattle.blocking_core.specs.Core.{Blocks, Assigns}
 
 module _ {d : List ℕ} {n : ℕ} {E : Test} (Q : ValidArrays d n E) {g count₁ : ℕ} {cs lent allowed found list : List ℕ} (L : Least d n E g count₁ cs lent allowed found)
-    (F : First n count₁ E allowed list) where
+    (F : First rank n count₁ E allowed list) where
   abbrev P : Problem
   P = arrayProblem d n E
 
@@ -50,20 +50,20 @@ module _ {d : List ℕ} {n : ℕ} {E : Test} (Q : ValidArrays d n E) {g count₁
       let a : getD ys x 0 ≡ getD xs x 0 = sym (getD-take t ys x 0 k) ∙ ap (λ z. getD z x 0) e ∙ getD-take t xs x 0 k in
       omega (arith, numbered-at n (labels list) x (omega arith))
 
+  -- a block that t prefers has the lower rank
+  preferred-ranks : (t : ℕ) → t < n → (ys : List ℕ) → Assignment P g ys → Prefers P (centres P g) t (labels ys t) (labels xs t)
+      → rank t (labels ys t - 1) < rank t (labels list t)
+  unfolding arrayProblem Prefers rank
+  preferred-ranks t l ys A q = omega (arith, numbered-at n (labels list) t l, A .low t l)
+
   first : FirstAssignment P g xs
   unfolding arrayProblem
   first =
       record {
         assignment = assignment;
-        foremost = λ t c l b ys A e q.
-            let m = mem-choices P g (centres P g) t (labels xs t) (record { low = assignment .low t l; high = assignment .high t l; in-radius = assignment .in-radius t l }) in
-            omega (
-              arith,
-              choice-before P g (centres P g) t (labels xs t) c m b,
-              numbered-at n (labels list) t l,
-              A .low t l,
-              F .least (λ x. labels ys x - 1) (allowed-by Q g count₁ cs listed allowed (L .table .here) ys A) t l (agrees t l ys e),
-            );
+        foremost = λ t l ys A e q.
+            let G = allowed-by Q g count₁ cs listed allowed (L .table .here) ys A in
+            omega (arith, preferred-ranks t l ys A q, F .least (λ x. labels ys x - 1) G t l (agrees t l ys e));
       }
 
   pub blocking-is : blocking P ≡ xs
@@ -73,7 +73,7 @@ module _ {d : List ℕ} {n : ℕ} {E : Test} (Q : ValidArrays d n E) {g count₁
 
 -- from the search, the first assignment there, and its numbering
 pub assigned-core : {d : List ℕ} {n : ℕ} {E : Test} (Q : ValidArrays d n E) {g count₁ : ℕ} {cs lent allowed found first old list : List ℕ} → n ≤ 120 → Least d n E g count₁ cs lent allowed found
-    → First n count₁ E allowed first → TailKept n old found → TailKept n found first → n ≤ length old → list ≡ overwrite n (λ t. labels first t + 1) first → Assigns d n E g count₁ cs old list
+    → First rank n count₁ E allowed first → TailKept n old found → TailKept n found first → n ≤ length old → list ≡ overwrite n (λ t. labels first t + 1) first → Assigns d n E g count₁ cs old list
 unfolding numbered overwrite labels
 assigned-core {d} {n} {E} Q {g} {count₁} {cs} {first = first} {old = old} {list = list} few L F K J long e =
     record {

@@ -200,7 +200,7 @@ module _ (P : Problem) (D E : ℕ → ℕ) where
   greatestDiameter-same e =
       greatest-same (P .size) _ _ (λ t l. greatest-same t _ _ (λ u k. ap₂ (λ a b. cond (eqb a b) (P .dist u t) 0) (e u (omega arith)) (e t l)))
 
--- ---- choices: the blocks whose centre is at most g away. Nothing else is used of them but their order, in Dictionary.antt
+-- ---- choices: the blocks whose centre is at most g away. All else that is used of them is `choice-before` (Dictionary.antt)
 
 pub record Choice (P : Problem) (g : ℕ) (cs : List ℕ) (t m : ℕ) : Type 0 where
   pub low : 1 ≤ m
