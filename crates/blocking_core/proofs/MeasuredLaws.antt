@@ -25,8 +25,8 @@ pub greatest-none : (f : ℕ → ℕ) → 0 ≡ greatest 0 f
 unfolding greatest
 greatest-none f = refl
 
-pub greatest-more : (f : ℕ → ℕ) (u x best r : ℕ) → best ≡ greatest u f → x ≡ f u → r ≡ max x best → r ≡ greatest (u + 1) f
-greatest-more f u x best r e q h = h ∙ ap₂ (λ a b. max a b) q e ∙ sym (greatest-suc u f)
+pub greatest-more : (f : ℕ → ℕ) {u x best r : ℕ} → best ≡ greatest u f → x ≡ f u → r ≡ max x best → r ≡ greatest (u + 1) f
+greatest-more f {u} e q h = h ∙ ap₂ (λ a b. max a b) q e ∙ sym (greatest-suc u f)
 
 pub measured-none : (d : List ℕ) (n : ℕ) (D : ℕ → ℕ) → Measured d n D 0 (replicate 120 0) (replicate 120 0) 0
 unfolding acrossOf widestOf greatest
@@ -70,16 +70,16 @@ module _ {d : List ℕ} {n : ℕ} {D : ℕ → ℕ} {t : ℕ} {sizes diameters :
       zero-max : (x : ℕ) → max 0 x ≡ x
       zero-max x = omega arith
 
-  pub measured-more : (x y w : ℕ) → x ≡ farthestOf d n D t t → y ≡ max x (getD diameters m 0) → w ≡ max x widest
+  pub measured-more : {x y w : ℕ} → x ≡ farthestOf d n D t t → y ≡ max x (getD diameters m 0) → w ≡ max x widest
       → Measured d n D (t + 1) (set sizes m (getD sizes m 0 + 1)) (set diameters m y) w
   unfolding widestOf
-  measured-more x y w e f h =
+  measured-more {x} {y} {w} e f h =
       record {
         sizes-long = simp length-set (R .sizes-long);
         diameters-long = simp length-set (R .diameters-long);
         size = λ i l. size i l (ℕ-discrete i m);
         across = λ i l. across i l (ℕ-discrete i m);
-        greatest-is = greatest-more (λ u. farthestOf d n D u u) t x widest w (R .greatest-is) e h;
+        greatest-is = greatest-more (λ u. farthestOf d n D u u) (R .greatest-is) e h;
       }
     where
       size : (i : ℕ) → i < 120 → Dec (i ≡ m) → getD (set sizes m (getD sizes m 0 + 1)) i 0 ≡ countBelow (t + 1) (block D (suc i))
