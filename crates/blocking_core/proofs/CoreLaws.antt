@@ -8,7 +8,9 @@ use lib.ListN.{length, getD, take, drop, set}
 use lib.Seq.{getD-take}
 use Rattle.lists.specs.Lists.{tabulate, overwrite, countBelow, TailKept}
 use Rattle.lists.proofs.Counts.{count-same}
-use Rattle.lists.proofs.Tables.{length-tabulate, getD-tabulate, tabulate-is, getD-overwrite, getD-past, length-overwrite, overwrite-none, overwrite-step, overwrite-done}
+use Rattle.lists.proofs.Tables.{length-tabulate, getD-tabulate, tabulate-is, getD-overwrite, getD-past, length-overwrite}
+use Rattle.lists.proofs.Tables.{overwrite-none, overwrite-step, overwrite-done}
+use Rattle.study.specs.Limits.{maxTides}
 use Rattle.study.specs.Problem.{Problem, centresAmong, centres, block, labels, radius, blocking}
 use Rattle.study.specs.Theorems.{Assignment, Prefers, FirstAssignment}
 use Rattle.study.proofs.ProblemLaws.{blocks-same, diameter-same, greatestDiameter-same}
@@ -25,8 +27,9 @@ use Rattle.blocking_core.specs.Measured.{Measured}
 use Rattle.blocking_core.proofs.MeasuredLaws.{across-diameter, widest-diameter}
 use Rattle.blocking_core.specs.Core.{Blocks, Assigns}
 
-module _ {d : List ℕ} {n : ℕ} {E : Test} (Q : ValidArrays d n E) {g count₁ : ℕ} {cs lent allowed found list : List ℕ} (L : Least d n E g count₁ cs lent allowed found)
-    (F : First rank n count₁ E allowed list) where
+-- the first assignment at the least radius
+module _ {d : List ℕ} {n : ℕ} {E : Test} (Q : ValidArrays d n E) {g count₁ : ℕ} {cs lent allowed found list : List ℕ}
+    (L : Least d n E g count₁ cs lent allowed found) (F : First rank n count₁ E allowed list) where
   abbrev P : Problem
   P = arrayProblem d n E
 
@@ -72,15 +75,18 @@ module _ {d : List ℕ} {n : ℕ} {E : Test} (Q : ValidArrays d n E) {g count₁
 -- ---- the answer
 
 -- from the search, the first assignment there, and its numbering
-pub assigned-core : {d : List ℕ} {n : ℕ} {E : Test} (Q : ValidArrays d n E) {g count₁ : ℕ} {cs lent allowed found first old list : List ℕ} → n ≤ 120 → Least d n E g count₁ cs lent allowed found
-    → First rank n count₁ E allowed first → TailKept n old found → TailKept n found first → n ≤ length old → list ≡ overwrite n (λ t. labels first t + 1) first → Assigns d n E g count₁ cs old list
+pub assigned-core : {d : List ℕ} {n : ℕ} {E : Test} (Q : ValidArrays d n E) {g count₁ : ℕ} {cs lent allowed found first old list : List ℕ}
+    → n ≤ maxTides → Least d n E g count₁ cs lent allowed found → First rank n count₁ E allowed first → TailKept n old found
+    → TailKept n found first → n ≤ length old → list ≡ overwrite n (λ t. labels first t + 1) first → Assigns d n E g count₁ cs old list
 unfolding numbered overwrite labels
 assigned-core {d} {n} {E} Q {g} {count₁} {cs} {first = first} {old = old} {list = list} few L F K J long e =
     record {
       radius-of = sym (radius-is Q L F);
       centres-of = L .centres;
       list-of = whole;
-      same-length = ap length e ∙ length-overwrite (λ t. labels first t + 1) first n (omega (arith, K .same-length, J .same-length)) ∙ J .same-length ∙ K .same-length;
+      same-length =
+          ap length e ∙ length-overwrite (λ t. labels first t + 1) first n (omega (arith, K .same-length, J .same-length))
+          ∙ J .same-length ∙ K .same-length;
       low = λ t l. omega (arith, at t l);
       high = λ t l. omega (arith, at t l, F .assigned .below t l, front-few few (L .centres));
       same = λ t l. at t l ∙ sym (ap (λ z. labels z t) (blocking-is Q L F) ∙ numbered-at n (labels first) t l ∙ sym (add-one (labels first t)));
@@ -98,8 +104,9 @@ assigned-core {d} {n} {E} Q {g} {count₁} {cs} {first = first} {old = old} {lis
     whole : list ≡ blocking (arrayProblem d n E) ++ drop n old
     whole = e ∙ ap₂ (λ a b. a ++ b) front (J .rest ∙ K .rest)
 
-pub core-blocks : {d : List ℕ} {n : ℕ} {E : Test} {g count₁ widest : ℕ} {cs old list sizes diameters : List ℕ} → n ≤ 120 → Assigns d n E g count₁ cs old list
-    → Measured d n (labels list) n sizes diameters widest → Blocks d n E count₁ g widest cs sizes diameters
+-- from these and their measures
+pub core-blocks : {d : List ℕ} {n : ℕ} {E : Test} {g count₁ widest : ℕ} {cs old list sizes diameters : List ℕ} → n ≤ maxTides
+    → Assigns d n E g count₁ cs old list → Measured d n (labels list) n sizes diameters widest → Blocks d n E count₁ g widest cs sizes diameters
 unfolding centres arrayProblem
 core-blocks {d} {n} {E} {g} {count₁} {cs = cs} {list = list} few A R =
     record {
@@ -123,7 +130,9 @@ core-blocks {d} {n} {E} {g} {count₁} {cs = cs} {list = list} few A R =
     F = A .centres-of .front
 
     block-same : (i : ℕ) → countBelow n (block (labels list) (suc i)) ≡ countBelow n (block (labels (blocking P)) (suc i))
-    block-same i = count-same n (block (labels list) (suc i)) (block (labels (blocking P)) (suc i)) (λ t l. blocks-same (labels list) (labels (blocking P)) (suc i) t (A .same t l))
+    block-same i =
+        count-same n (block (labels list) (suc i)) (block (labels (blocking P)) (suc i))
+        (λ t l. blocks-same (labels list) (labels (blocking P)) (suc i) t (A .same t l))
 
 -- ---- the first t places are one more
 

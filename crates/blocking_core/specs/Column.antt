@@ -5,6 +5,7 @@ use mathlib.Core.Logic.{_↔_}
 use mathlib.Core.List.{List}
 use lib.Dec.{T}
 use lib.ListN.{length}
+use Rattle.lists.specs.Lists.{at}
 use Rattle.study.specs.Limits.{maxTides}
 use Rattle.promise.specs.Promise.{allows}
 
@@ -17,3 +18,7 @@ pub record Column (i t : ℕ) (May : ℕ → Type 0) (old new : List ℕ) : Type
 -- of the blocks below i that it might go to, tide t has kept those of which Keep holds
 abbrev pub Narrowed : ℕ → ℕ → (ℕ → Type 0) → List ℕ → List ℕ → Type 0
 Narrowed i t Keep old = Column i t (λ m. T (allows old t m) × Keep m) old
+
+-- tide t has kept those of its blocks that rank before v, by a list of ranks
+abbrev pub Restricted : (ranks : List ℕ) (blocks t v : ℕ) (old new : List ℕ) → Type 0
+Restricted ranks blocks t v = Narrowed blocks t (λ m. at ranks m < at ranks v)

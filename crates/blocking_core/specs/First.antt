@@ -7,8 +7,7 @@ use mathlib.Core.List.{List}
 use lib.ListN.{length}
 use Rattle.study.specs.Problem.{labels}
 use Rattle.promise.specs.Promise.{Test, Assigned}
-use Rattle.lists.specs.Lists.{at, TailKept}
-use Rattle.blocking_core.specs.Column.{Narrowed}
+use Rattle.lists.specs.Lists.{TailKept}
 
 -- D and G agree on the tides below t
 abbrev pub Agree : ℕ → (ℕ → ℕ) → (ℕ → ℕ) → Type 0
@@ -30,10 +29,6 @@ pub record SearchTried (n blocks : ℕ) (E : Test) (allowed old new : List ℕ) 
   pub none : r ≡ false → (D : ℕ → ℕ) → Assigned n blocks E allowed D → ⊥
   pub same : r ≡ false → new ≡ old
   pub kept : TailKept n old new
-
--- tide t has kept those of its blocks that rank before v, by a list of ranks
-abbrev pub Restricted : (ranks : List ℕ) (blocks t v : ℕ) (old new : List ℕ) → Type 0
-Restricted ranks blocks t v = Narrowed blocks t (λ m. at ranks m < at ranks v)
 
 -- the assignments of the new table are those of the old one that give t what list gives it; no block that any of them gives it ranks before
 pub record Chosen (rank : ℕ → ℕ) (n blocks : ℕ) (E : Test) (t : ℕ) (old new list : List ℕ) : Type 0 where

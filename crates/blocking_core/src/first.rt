@@ -1,67 +1,21 @@
 // The first assignment by the order in which each tide ranks the blocks, through the promise of the matching search alone.
+use crate::column::fix;
+use crate::column::restrict;
 use matching::search;
 use promise::table::first_allowed;
 use radius_search::counts::wide;
 use study::MAX_TIDES;
 use study::Minima;
 ghost use mathlib.Core.Path.{_≡_};
-ghost use mathlib.Core.Bool.{cond};
-ghost use Prim.Native.Nat.{ℕ, _<_, _≤_};
-ghost use lib.Dec.{eqb, ltb};
+ghost use Prim.Native.Nat.{_<_, _≤_};
 ghost use lib.ListN.{length};
-ghost use Rattle.lists.specs.Lists.{bit, at, overwrite, TailKept};
-ghost use Rattle.study.specs.Limits.{maxTides, tableSize};
+ghost use Rattle.lists.specs.Lists.{at, overwrite, TailKept};
+ghost use Rattle.study.specs.Limits.{maxTides};
 ghost use Rattle.study.specs.Problem.{labels};
 ghost use Rattle.promise.specs.Promise.{Assigned, Asked};
 ghost use Rattle.promise.specs.Promise.{meeting, Able};
-ghost use Rattle.blocking_core.specs.Column.{Column};
-ghost use Rattle.blocking_core.specs.First.{rank, First, SearchTried, Restricted, Chosen};
-
-// An entry x of the table, which stays where the block's rank is below the limit.
-fn entry_kept(x: u8, rank: u64, limit: u64) -> u8
-    ensures { λ r. ⌜ r ≡ cond (ltb rank limit) x 0 ⌝ }
-{
-    if rank < limit {
-        return x;
-    }
-    0
-}
-
-// Leaves tide t those of its blocks that rank before block v.
-fn restrict(allowed: &mut [u8], blocks: usize, ranks: &[u64; MAX_TIDES], t: usize, v: usize)
-    requires { ⌜ (blocks ≤ maxTides) × (t < maxTides) × (tableSize ≤ length (now allowed)) ⌝ }
-    requires { ⌜ v < blocks ⌝ }
-    ensures { λ _. ⌜ Restricted (now (ranks .entry)) blocks t v (now (allowed .entry)) (now (allowed .exit)) ⌝ }
-{
-    let limit = ranks[v];
-    let mut m = 0;
-    while m < blocks {
-        allowed[m * MAX_TIDES + t] = entry_kept(allowed[m * MAX_TIDES + t], ranks[m], limit);
-        m += 1;
-    }
-}
-
-// The entry for block m of a tide that is left block v alone.
-fn entry_fixed(m: usize, v: usize) -> u8
-    ensures { λ r. ⌜ r ≡ bit (eqb m v) ⌝ }
-{
-    if m == v {
-        return 1;
-    }
-    0
-}
-
-// Leaves tide t block v alone, whether it might go there or not.
-fn fix(allowed: &mut [u8], blocks: usize, t: usize, v: usize)
-    requires { ⌜ (blocks ≤ maxTides) × (t < maxTides) × (tableSize ≤ length (now allowed)) ⌝ }
-    ensures { λ _. ⌜ Column blocks t (λ (m : ℕ). m ≡ v) (now (allowed .entry)) (now (allowed .exit)) ⌝ }
-{
-    let mut m = 0;
-    while m < blocks {
-        allowed[m * MAX_TIDES + t] = entry_fixed(m, v);
-        m += 1;
-    }
-}
+ghost use Rattle.blocking_core.specs.Column.{Restricted};
+ghost use Rattle.blocking_core.specs.First.{rank, First, SearchTried, Chosen};
 
 // Copies the first n places.
 fn copy(from: &[u8], to: &mut [u8], n: usize)

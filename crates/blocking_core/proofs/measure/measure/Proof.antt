@@ -25,7 +25,7 @@ farthest-requires c κs =
     let pre = c .before .before .before .before .pre in
     (pre .0, c .loop-test .taken)
 
--- the tide's block is one of 1 .. 120
+-- the tide's block has one of the numbers from 1 to maxTides
 block-fits : (c : tie.After-wide Inv-loop μ-loop) → (1 ≤ c .wide .result) × (c .wide .result ≤ maxTides)
 unfolding labels
 block-fits c =
@@ -62,7 +62,7 @@ returns : tie.Need-returns Inv-loop μ-loop
 returns c =
     let at-loop = c .before in
     let e : at-loop .loop .t ≡ at-loop .before .before .before .args .n = omega arith in
-    measured-done e (at-loop .loop .inv .1)
+    measured-done (at-loop .loop .inv .1) e
 
 pub measure-spec : {M : Type 1} → statement M
 measure-spec =

@@ -1,7 +1,7 @@
 -- An entry stays or goes by the test that the code makes. Assumes nothing.
 use borrow.Author.Tests.{lt-ltb, le-ltb}
-use Rattle.blocking_core.proofs.first.entry_kept.Statement.{statement}
-use Rattle.blocking_core.proofs.first.entry_kept.Tie as tie
+use Rattle.blocking_core.proofs.column.entry_kept.Statement.{statement}
+use Rattle.blocking_core.proofs.column.entry_kept.Tie as tie
 
 returns : tie.Need-returns
 returns c = rw (lt-ltb (c .before .args .rank) (c .before .args .limit) (c .if1 .taken))

@@ -2,8 +2,8 @@
 use borrow.Author.Tests.{eq-eqb, ne-eqb}
 use mathlib.Core.Path.{sym, ap}
 use Rattle.lists.specs.Lists.{bit}
-use Rattle.blocking_core.proofs.first.entry_fixed.Statement.{statement}
-use Rattle.blocking_core.proofs.first.entry_fixed.Tie as tie
+use Rattle.blocking_core.proofs.column.entry_fixed.Statement.{statement}
+use Rattle.blocking_core.proofs.column.entry_fixed.Tie as tie
 
 returns : tie.Need-returns
 returns c = sym (ap bit (eq-eqb (c .before .args .m) (c .before .args .v) (c .if1 .taken)))

@@ -6,8 +6,8 @@ use Rattle.lists.specs.Lists.{at}
 use Rattle.blocking_core.specs.Column.{Narrowed}
 use Rattle.blocking_core.proofs.ColumnLaws.{column-none, restrict-more, column-done}
 use Prim.Native.Nat.{_≤_, _<_, _-_}
-use Rattle.blocking_core.proofs.first.restrict.Statement.{statement}
-use Rattle.blocking_core.proofs.first.restrict.Tie as tie
+use Rattle.blocking_core.proofs.column.restrict.Statement.{statement}
+use Rattle.blocking_core.proofs.column.restrict.Tie as tie
 
 abbrev Inv-loop : tie.InvT-loop
 Inv-loop allowed₀ blocks ranks t v limit m₀ allowed m = (m ≤ blocks) × Narrowed m t (λ x. at ranks x < at ranks v) allowed₀ allowed

@@ -5,8 +5,8 @@ use Rattle.blocking_core.specs.Column.{Column}
 use Rattle.blocking_core.proofs.ColumnLaws.{column-none, fix-more, column-done}
 use mathlib.Core.Path.{_≡_}
 use Prim.Native.Nat.{_≤_, _-_}
-use Rattle.blocking_core.proofs.first.fix.Statement.{statement}
-use Rattle.blocking_core.proofs.first.fix.Tie as tie
+use Rattle.blocking_core.proofs.column.fix.Statement.{statement}
+use Rattle.blocking_core.proofs.column.fix.Tie as tie
 
 abbrev Inv-loop : tie.InvT-loop
 Inv-loop allowed₀ blocks t v m₀ allowed m = (m ≤ blocks) × Column m t (λ x. x ≡ v) allowed₀ allowed
