@@ -13,7 +13,7 @@ use Rattle.lists.specs.Lists.{TailKept}
 abbrev pub Agree : ℕ → (ℕ → ℕ) → (ℕ → ℕ) → Type 0
 Agree t D G = (x : ℕ) → x < t → D x ≡ G x
 
--- what tide t ranks the blocks by, the one of least rank first: today, their numbers
+-- what tide t ranks the blocks by, the one of least rank first: their numbers
 unfoldable pub rank : ℕ → ℕ → ℕ
 rank t m = m
 

@@ -12,8 +12,7 @@ ghost use lib.ListN.{length};
 ghost use Rattle.lists.specs.Lists.{at, overwrite, TailKept};
 ghost use Rattle.study.specs.Limits.{maxTides};
 ghost use Rattle.study.specs.Problem.{labels};
-ghost use Rattle.promise.specs.Promise.{Assigned, Asked};
-ghost use Rattle.promise.specs.Promise.{meeting, Able};
+ghost use Rattle.promise.specs.Promise.{Assigned, Asked, meeting, Able};
 ghost use Rattle.blocking_core.specs.Column.{Restricted};
 ghost use Rattle.blocking_core.specs.First.{rank, First, SearchTried, Chosen};
 
@@ -103,7 +102,7 @@ fn choose(
     fix(allowed, blocks, t, v);
 }
 
-// What tide t ranks the blocks by: today, their numbers.
+// What tide t ranks the blocks by: their numbers.
 fn rank_blocks(blocks: usize, t: usize, ranks: &mut [u64; MAX_TIDES])
     requires { ⌜ (blocks ≤ maxTides) × (length (now ranks) ≡ maxTides) ⌝ }
     ensures { λ _. ⌜ now (ranks .exit) ≡ overwrite blocks (rank t) (now (ranks .entry)) ⌝ }

@@ -47,7 +47,7 @@ pub record Assignment (P : Problem) (g : ℕ) (xs : List ℕ) : Type 0 where
   pub in-radius : (t : ℕ) → t < P .size → P .dist (centreOf (centres P g) (labels xs t)) t ≤ g
   pub enough : (m : ℕ) → 1 ≤ m → m ≤ length (centres P g) → T (P .enough (block (labels xs) m))
 
--- where the blocks belong to the centres cs, tide t prefers block m to block k: today, the lower number
+-- where the blocks belong to the centres cs, tide t prefers block m to block k: m has the lower number
 unfoldable pub Prefers : Problem → List ℕ → ℕ → ℕ → ℕ → Type 0
 Prefers P cs t m k = m < k
 
