@@ -33,13 +33,18 @@ lower-requires c κs =
     let pre = at-loop .before .before .before .before .before .before .pre in
     (asked-on (pre .0) (now .same-length) (now .kept .same-length), (pre .1 .1, choosing-lt (pre .0 .few-tides) (pre .1 .1) now))
 
+-- from where `lower` has answered back to the loop, and to the entry
+abbrev loop-of : tie.After-lower Inv-loop μ-loop → tie.At-loop Inv-loop μ-loop
+loop-of c = c .before .before .before
+
+abbrev entry-of : tie.After-lower Inv-loop μ-loop → tie.Start Inv-loop μ-loop
+entry-of c = loop-of c .before .before .before .before .before .before
+
 slice-read-wide-2 : tie.Need-slice-read-wide-2 Inv-loop μ-loop
 slice-read-wide-2 c =
     let at-lower = c .before .before .before .before .before .before in
-    let at-loop = at-lower .before .before .before in
-    let entry = at-loop .before .before .before .before .before .before in
-    let long = entry .pre .0 .list-long in
-    let to-loop = at-loop .loop .inv .kept .same-length in
+    let long = entry-of at-lower .pre .0 .list-long in
+    let to-loop = loop-of at-lower .loop .inv .kept .same-length in
     let to-lower = at-lower .lower .ensures .1 .kept .same-length in
     omega arith
 
@@ -47,56 +52,52 @@ loop-less : tie.Need-loop-less Inv-loop μ-loop
 unfolding labels
 loop-less c =
     let at-lower = c .before .before .before .before .before .before .before in
-    let at-loop = at-lower .before .before .before in
-    let entry = at-loop .before .before .before .before .before .before in
-    let ranks = entry .args .ranks .now in
-    let pre = entry .pre in
+    let turn = loop-of at-lower .loop in
+    let ranks = entry-of at-lower .args .ranks .now in
+    let pre = entry-of at-lower .pre in
     let lower = at-lower .lower .ensures in
-    let less = choosing-less (pre .0 .few-tides) (pre .1 .1) (at-loop .loop .inv) (lower .0) (lower .1) (c .before .before .if1 .taken) in
-    subst (λ w. at ranks w < at ranks (at-loop .loop .v)) (sym (c .wide2 .ensures)) less
+    let less = choosing-less (pre .0 .few-tides) (pre .1 .1) (turn .inv) (lower .0) (lower .1) (c .before .before .if1 .taken) in
+    subst (λ w. at ranks w < at ranks (turn .v)) (sym (c .wide2 .ensures)) less
 
 loop-again : tie.Need-loop-again Inv-loop μ-loop
 unfolding labels
 loop-again c =
     let at-lower = c .before .before .before .before .before .before .before in
-    let at-loop = at-lower .before .before .before in
-    let pre = at-loop .before .before .before .before .before .before .pre in
+    let now = loop-of at-lower .loop .inv in
+    let pre = entry-of at-lower .pre in
     let lower = at-lower .lower .ensures in
-    choosing-more (pre .0 .few-tides) (pre .1 .1) (at-loop .loop .inv) (lower .0) (lower .1) (c .before .before .if1 .taken) _ (c .wide2 .ensures)
+    choosing-more (pre .0 .few-tides) (pre .1 .1) now (lower .0) (lower .1) (c .before .before .if1 .taken) _ (c .wide2 .ensures)
 
 fix-requires : tie.Need-fix-requires Inv-loop μ-loop
 fix-requires c κs =
     let at-lower = c .before .before .before .before .before .before in
-    let at-loop = at-lower .before .before .before in
-    let pre = at-loop .before .before .before .before .before .before .pre in
-    let few = pre .0 .few-tides in
-    let long = pre .0 .allowed-long in
-    let to-loop = at-loop .loop .inv .same-length in
+    let asked = entry-of at-lower .pre .0 in
+    let few = asked .few-tides in
+    let long = asked .allowed-long in
+    let to-loop = loop-of at-lower .loop .inv .same-length in
     let to-lower = at-lower .lower .ensures .0 .same-length in
-    (pre .0 .few-blocks, omega arith, omega arith)
+    (asked .few-blocks, omega arith, omega arith)
 
 same-length : tie.Need-same-length Inv-loop μ-loop
 same-length c =
     let at-lower = c .before .before .before .before .before .before .before .before .before in
-    let at-loop = at-lower .before .before .before in
-    c .before .before .fix .ensures .same-length ∙ at-lower .lower .ensures .0 .same-length ∙ at-loop .loop .inv .same-length
+    c .before .before .fix .ensures .same-length ∙ at-lower .lower .ensures .0 .same-length ∙ loop-of at-lower .loop .inv .same-length
 
 same-length-2 : tie.Need-same-length-2 Inv-loop μ-loop
 same-length-2 c =
     let at-lower = c .before .before .before .before .before .before .before .before .before in
-    let at-loop = at-lower .before .before .before in
-    at-lower .lower .ensures .1 .kept .same-length ∙ at-loop .loop .inv .kept .same-length
+    at-lower .lower .ensures .1 .kept .same-length ∙ loop-of at-lower .loop .inv .kept .same-length
 
 returns : tie.Need-returns Inv-loop μ-loop
 returns c =
     let at-fix = c .before .before in
     let at-test = at-fix .before .before in
     let at-lower = at-test .before .before .before .before .before in
-    let at-loop = at-lower .before .before .before in
-    let pre = at-loop .before .before .before .before .before .before .pre in
+    let now = loop-of at-lower .loop .inv in
+    let pre = entry-of at-lower .pre in
     let lower = at-lower .lower .ensures in (
-      choosing-end (pre .0 .few-tides) (pre .1 .1) (at-loop .loop .inv) (lower .0) (lower .1) (at-test .if1 .left) (at-fix .fix .ensures),
-      choosing-kept (pre .0 .few-tides) (pre .1 .1) (at-loop .loop .inv) (lower .0) (lower .1),
+      choosing-end (pre .0 .few-tides) (pre .1 .1) now (lower .0) (lower .1) (at-test .if1 .left) (at-fix .fix .ensures),
+      choosing-kept (pre .0 .few-tides) (pre .1 .1) now (lower .0) (lower .1),
     )
 
 pub choose-spec : {M : Type 1} → statement M
