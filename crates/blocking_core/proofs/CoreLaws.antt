@@ -8,11 +8,13 @@ use lib.ListN.{length, getD, take, drop, set}
 use lib.Seq.{getD-take}
 use Rattle.lists.specs.Lists.{tabulate, overwrite, countBelow, TailKept}
 use Rattle.lists.proofs.Counts.{count-same}
-use Rattle.lists.proofs.Tables.{length-tabulate, getD-tabulate, tabulate-is, getD-overwrite, getD-past, length-overwrite, overwrite-none, overwrite-step, overwrite-done}
+use Rattle.lists.proofs.Tables.{length-tabulate, getD-tabulate, tabulate-is, getD-overwrite, getD-past, length-overwrite}
+use Rattle.lists.proofs.Tables.{overwrite-none, overwrite-step, overwrite-done}
+use Rattle.study.specs.Limits.{maxTides}
 use Rattle.study.specs.Problem.{Problem, centresAmong, centres, block, labels, radius, blocking}
-use Rattle.study.specs.Theorems.{Assignment, FirstAssignment}
-use Rattle.study.proofs.ProblemLaws.{mem-choices, blocks-same, diameter-same, greatestDiameter-same}
-use Rattle.study.proofs.Dictionary.{choice-before, blocking-found}
+use Rattle.study.specs.Theorems.{Assignment, Prefers, FirstAssignment}
+use Rattle.study.proofs.ProblemLaws.{blocks-same, diameter-same, greatestDiameter-same}
+use Rattle.study.proofs.Dictionary.{blocking-found}
 use Rattle.promise.specs.Promise.{Test}
 use Rattle.radius_theory.specs.Arrays.{within, arrayProblem, ValidArrays}
 use Rattle.radius_theory.proofs.RadiiLaws.{lowest-radius}
@@ -20,13 +22,14 @@ use Rattle.radius_search.specs.Front.{Front}
 use Rattle.radius_search.proofs.FrontLaws.{front-at, front-few, front-below, centres-few}
 use Rattle.radius_search.proofs.AssigningLaws.{numbered, numbered-at, allowed-by, assigns}
 use Rattle.radius_search.specs.Ascents.{Least}
-use Rattle.blocking_core.specs.First.{First, Agree}
+use Rattle.blocking_core.specs.First.{rank, First, Agree}
 use Rattle.blocking_core.specs.Measured.{Measured}
 use Rattle.blocking_core.proofs.MeasuredLaws.{across-diameter, widest-diameter}
 use Rattle.blocking_core.specs.Core.{Blocks, Assigns}
 
-module _ {d : List ℕ} {n : ℕ} {E : Test} (Q : ValidArrays d n E) {g count₁ : ℕ} {cs lent allowed found list : List ℕ} (L : Least d n E g count₁ cs lent allowed found)
-    (F : First n count₁ E allowed list) where
+-- the first assignment at the least radius
+module _ {d : List ℕ} {n : ℕ} {E : Test} (Q : ValidArrays d n E) {g count₁ : ℕ} {cs lent allowed found list : List ℕ}
+    (L : Least d n E g count₁ cs lent allowed found) (F : First rank n count₁ E allowed list) where
   abbrev P : Problem
   P = arrayProblem d n E
 
@@ -50,20 +53,20 @@ module _ {d : List ℕ} {n : ℕ} {E : Test} (Q : ValidArrays d n E) {g count₁
       let a : getD ys x 0 ≡ getD xs x 0 = sym (getD-take t ys x 0 k) ∙ ap (λ z. getD z x 0) e ∙ getD-take t xs x 0 k in
       omega (arith, numbered-at n (labels list) x (omega arith))
 
+  -- a block that t prefers has the lower rank
+  preferred-ranks : (t : ℕ) → t < n → (ys : List ℕ) → Assignment P g ys → Prefers P (centres P g) t (labels ys t) (labels xs t)
+      → rank t (labels ys t - 1) < rank t (labels list t)
+  unfolding arrayProblem Prefers rank
+  preferred-ranks t l ys A q = omega (arith, numbered-at n (labels list) t l, A .low t l)
+
   first : FirstAssignment P g xs
   unfolding arrayProblem
   first =
       record {
         assignment = assignment;
-        foremost = λ t c l b ys A e q.
-            let m = mem-choices P g (centres P g) t (labels xs t) (record { low = assignment .low t l; high = assignment .high t l; in-radius = assignment .in-radius t l }) in
-            omega (
-              arith,
-              choice-before P g (centres P g) t (labels xs t) c m b,
-              numbered-at n (labels list) t l,
-              A .low t l,
-              F .least (λ x. labels ys x - 1) (allowed-by Q g count₁ cs listed allowed (L .table .here) ys A) t l (agrees t l ys e),
-            );
+        foremost = λ t l ys A e q.
+            let G = allowed-by Q g count₁ cs listed allowed (L .table .here) ys A in
+            omega (arith, preferred-ranks t l ys A q, F .least (λ x. labels ys x - 1) G t l (agrees t l ys e));
       }
 
   pub blocking-is : blocking P ≡ xs
@@ -72,15 +75,18 @@ module _ {d : List ℕ} {n : ℕ} {E : Test} (Q : ValidArrays d n E) {g count₁
 -- ---- the answer
 
 -- from the search, the first assignment there, and its numbering
-pub assigned-core : {d : List ℕ} {n : ℕ} {E : Test} (Q : ValidArrays d n E) {g count₁ : ℕ} {cs lent allowed found first old list : List ℕ} → n ≤ 120 → Least d n E g count₁ cs lent allowed found
-    → First n count₁ E allowed first → TailKept n old found → TailKept n found first → n ≤ length old → list ≡ overwrite n (λ t. labels first t + 1) first → Assigns d n E g count₁ cs old list
+pub assigned-core : {d : List ℕ} {n : ℕ} {E : Test} (Q : ValidArrays d n E) {g count₁ : ℕ} {cs lent allowed found first old list : List ℕ}
+    → n ≤ maxTides → Least d n E g count₁ cs lent allowed found → First rank n count₁ E allowed first → TailKept n old found
+    → TailKept n found first → n ≤ length old → list ≡ overwrite n (λ t. labels first t + 1) first → Assigns d n E g count₁ cs old list
 unfolding numbered overwrite labels
 assigned-core {d} {n} {E} Q {g} {count₁} {cs} {first = first} {old = old} {list = list} few L F K J long e =
     record {
       radius-of = sym (radius-is Q L F);
       centres-of = L .centres;
       list-of = whole;
-      same-length = ap length e ∙ length-overwrite (λ t. labels first t + 1) first n (omega (arith, K .same-length, J .same-length)) ∙ J .same-length ∙ K .same-length;
+      same-length =
+          ap length e ∙ length-overwrite (λ t. labels first t + 1) first n (omega (arith, K .same-length, J .same-length))
+          ∙ J .same-length ∙ K .same-length;
       low = λ t l. omega (arith, at t l);
       high = λ t l. omega (arith, at t l, F .assigned .below t l, front-few few (L .centres));
       same = λ t l. at t l ∙ sym (ap (λ z. labels z t) (blocking-is Q L F) ∙ numbered-at n (labels first) t l ∙ sym (add-one (labels first t)));
@@ -98,8 +104,9 @@ assigned-core {d} {n} {E} Q {g} {count₁} {cs} {first = first} {old = old} {lis
     whole : list ≡ blocking (arrayProblem d n E) ++ drop n old
     whole = e ∙ ap₂ (λ a b. a ++ b) front (J .rest ∙ K .rest)
 
-pub core-blocks : {d : List ℕ} {n : ℕ} {E : Test} {g count₁ widest : ℕ} {cs old list sizes diameters : List ℕ} → n ≤ 120 → Assigns d n E g count₁ cs old list
-    → Measured d n (labels list) n sizes diameters widest → Blocks d n E count₁ g widest cs sizes diameters
+-- from these and their measures
+pub core-blocks : {d : List ℕ} {n : ℕ} {E : Test} {g count₁ widest : ℕ} {cs old list sizes diameters : List ℕ} → n ≤ maxTides
+    → Assigns d n E g count₁ cs old list → Measured d n (labels list) n sizes diameters widest → Blocks d n E count₁ g widest cs sizes diameters
 unfolding centres arrayProblem
 core-blocks {d} {n} {E} {g} {count₁} {cs = cs} {list = list} few A R =
     record {
@@ -123,7 +130,9 @@ core-blocks {d} {n} {E} {g} {count₁} {cs = cs} {list = list} few A R =
     F = A .centres-of .front
 
     block-same : (i : ℕ) → countBelow n (block (labels list) (suc i)) ≡ countBelow n (block (labels (blocking P)) (suc i))
-    block-same i = count-same n (block (labels list) (suc i)) (block (labels (blocking P)) (suc i)) (λ t l. blocks-same (labels list) (labels (blocking P)) (suc i) t (A .same t l))
+    block-same i =
+        count-same n (block (labels list) (suc i)) (block (labels (blocking P)) (suc i))
+        (λ t l. blocks-same (labels list) (labels (blocking P)) (suc i) t (A .same t l))
 
 -- ---- the first t places are one more
 

@@ -12,7 +12,9 @@ use lib.Seq.{getD-set-same, getD-set-other}
 use Rattle.lists.specs.Lists.{countBelow, greatest}
 use Rattle.lists.proofs.Tests.{eq→eqb, cond-yes, cond-no}
 use Rattle.lists.proofs.Counts.{count-zero, count-yes, count-no, count-most}
+use Rattle.study.specs.Limits.{maxTides}
 use Rattle.study.specs.Problem.{block, diameter, greatestDiameter}
+use Rattle.study.proofs.ProblemLaws.{greatest-same}
 use Rattle.promise.specs.Promise.{Test}
 use Rattle.radius_theory.specs.Arrays.{within, arrayProblem}
 use Rattle.blocking_core.specs.Measured.{farthestOf, acrossOf, widestOf, Measured}
@@ -25,27 +27,31 @@ pub greatest-none : (f : ℕ → ℕ) → 0 ≡ greatest 0 f
 unfolding greatest
 greatest-none f = refl
 
-pub greatest-more : (f : ℕ → ℕ) (u x best r : ℕ) → best ≡ greatest u f → x ≡ f u → r ≡ max x best → r ≡ greatest (u + 1) f
-greatest-more f u x best r e q h = h ∙ ap₂ (λ a b. max a b) q e ∙ sym (greatest-suc u f)
+pub greatest-more : (f : ℕ → ℕ) {u x best r : ℕ} → best ≡ greatest u f → x ≡ f u → r ≡ max x best → r ≡ greatest (u + 1) f
+greatest-more f {u} e q h = h ∙ ap₂ (λ a b. max a b) q e ∙ sym (greatest-suc u f)
 
-pub measured-none : (d : List ℕ) (n : ℕ) (D : ℕ → ℕ) → Measured d n D 0 (replicate 120 0) (replicate 120 0) 0
+pub measured-none : (d : List ℕ) (n : ℕ) (D : ℕ → ℕ) → Measured d n D 0 (replicate maxTides 0) (replicate maxTides 0) 0
 unfolding acrossOf widestOf greatest
 measured-none d n D =
     record {
-      sizes-long = length-replicate {A = ℕ} 120 0;
-      diameters-long = length-replicate {A = ℕ} 120 0;
-      size = λ i l. getD-replicate 120 i 0 0 l ∙ sym (count-zero (block D (suc i)));
-      across = λ i l. getD-replicate 120 i 0 0 l;
+      sizes-long = length-replicate {A = ℕ} maxTides 0;
+      diameters-long = length-replicate {A = ℕ} maxTides 0;
+      size = λ i l. getD-replicate maxTides i 0 0 l ∙ sym (count-zero (block D (suc i)));
+      across = λ i l. getD-replicate maxTides i 0 0 l;
       greatest-is = refl;
     }
 
-pub measured-done : {d : List ℕ} {n : ℕ} {D : ℕ → ℕ} {t k : ℕ} {sizes diameters : List ℕ} {widest : ℕ} → t ≡ k → Measured d n D t sizes diameters widest → Measured d n D k sizes diameters widest
-measured-done {d} {n} {D} {sizes = sizes} {diameters = diameters} {widest = widest} e M = subst (λ z. Measured d n D z sizes diameters widest) e M
+module _ {d : List ℕ} {n : ℕ} {D : ℕ → ℕ} {t : ℕ} {sizes diameters : List ℕ} {widest : ℕ} (R : Measured d n D t sizes diameters widest) where
+  pub measured-done : {k : ℕ} → t ≡ k → Measured d n D k sizes diameters widest
+  measured-done e = subst (λ z. Measured d n D z sizes diameters widest) e R
 
-pub measured-small : {d : List ℕ} {n : ℕ} {D : ℕ → ℕ} {t : ℕ} {sizes diameters : List ℕ} {widest : ℕ} → Measured d n D t sizes diameters widest → (i : ℕ) → i < 120 → getD sizes i 0 ≤ t
-measured-small {D = D} {t = t} M i l = omega (arith, M .size i l, count-most t (block D (suc i)))
+  -- no block has more tides than there are
+  pub measured-small : (i : ℕ) → i < maxTides → getD sizes i 0 ≤ t
+  measured-small i l = omega (arith, R .size i l, count-most t (block D (suc i)))
 
-module _ {d : List ℕ} {n : ℕ} {D : ℕ → ℕ} {t : ℕ} {sizes diameters : List ℕ} {widest : ℕ} (R : Measured d n D t sizes diameters widest) (m : ℕ) (few : m < 120) (own : D t ≡ suc m) where
+-- one more tide, which belongs to block m + 1
+module _ {d : List ℕ} {n : ℕ} {D : ℕ → ℕ} {t : ℕ} {sizes diameters : List ℕ} {widest : ℕ} (R : Measured d n D t sizes diameters widest) (m : ℕ)
+    (few : m < maxTides) (own : D t ≡ suc m) where
   mine : T (block D (suc m) t)
   unfolding block
   mine = eq→eqb (D t) (suc m) own
@@ -70,37 +76,33 @@ module _ {d : List ℕ} {n : ℕ} {D : ℕ → ℕ} {t : ℕ} {sizes diameters :
       zero-max : (x : ℕ) → max 0 x ≡ x
       zero-max x = omega arith
 
-  pub measured-more : (x y w : ℕ) → x ≡ farthestOf d n D t t → y ≡ max x (getD diameters m 0) → w ≡ max x widest
+  pub measured-more : {x y w : ℕ} → x ≡ farthestOf d n D t t → y ≡ max x (getD diameters m 0) → w ≡ max x widest
       → Measured d n D (t + 1) (set sizes m (getD sizes m 0 + 1)) (set diameters m y) w
   unfolding widestOf
-  measured-more x y w e f h =
+  measured-more {x} {y} {w} e f h =
       record {
         sizes-long = simp length-set (R .sizes-long);
         diameters-long = simp length-set (R .diameters-long);
         size = λ i l. size i l (ℕ-discrete i m);
         across = λ i l. across i l (ℕ-discrete i m);
-        greatest-is = greatest-more (λ u. farthestOf d n D u u) t x widest w (R .greatest-is) e h;
+        greatest-is = greatest-more (λ u. farthestOf d n D u u) (R .greatest-is) e h;
       }
     where
-      size : (i : ℕ) → i < 120 → Dec (i ≡ m) → getD (set sizes m (getD sizes m 0 + 1)) i 0 ≡ countBelow (t + 1) (block D (suc i))
+      size : (i : ℕ) → i < maxTides → Dec (i ≡ m) → getD (set sizes m (getD sizes m 0 + 1)) i 0 ≡ countBelow (t + 1) (block D (suc i))
       size i l (yes q) =
           subst (λ z. getD (set sizes m (getD sizes m 0 + 1)) z 0 ≡ countBelow (t + 1) (block D (suc z))) (sym q)
-          (getD-set-same sizes m (getD sizes m 0 + 1) 0 (omega (arith, R .sizes-long)) ∙ ap (λ z. z + 1) (R .size m few) ∙ sym (count-yes t (block D (suc m)) mine))
+          (getD-set-same sizes m (getD sizes m 0 + 1) 0 (omega (arith, R .sizes-long)) ∙ ap (λ z. z + 1) (R .size m few)
+          ∙ sym (count-yes t (block D (suc m)) mine))
       size i l (no q) =
           getD-set-other sizes m i (getD sizes m 0 + 1) 0 q ∙ R .size i l ∙ sym (count-no t (block D (suc i)) (other i q))
 
-      across : (i : ℕ) → i < 120 → Dec (i ≡ m) → getD (set diameters m y) i 0 ≡ acrossOf d n D (suc i) (t + 1)
+      across : (i : ℕ) → i < maxTides → Dec (i ≡ m) → getD (set diameters m y) i 0 ≡ acrossOf d n D (suc i) (t + 1)
       across i l (yes q) =
           subst (λ z. getD (set diameters m y) z 0 ≡ acrossOf d n D (suc z) (t + 1)) (sym q)
           (getD-set-same diameters m y 0 (omega (arith, R .diameters-long)) ∙ f ∙ ap₂ (λ a b. max a b) e (R .across m few) ∙ sym across-mine)
       across i l (no q) = getD-set-other diameters m i y 0 q ∙ R .across i l ∙ sym (across-other i q)
 
 -- ---- these are the problem's
-
-greatest-same : (k : ℕ) (f h : ℕ → ℕ) → ((t : ℕ) → t < k → f t ≡ h t) → greatest k f ≡ greatest k h
-unfolding greatest
-greatest-same zero f h e = refl
-greatest-same (suc k) f h e = ap₂ (λ a b. max a b) (e k (omega arith)) (greatest-same k f h (λ t l. e t (omega arith)))
 
 greatest-zero : (k : ℕ) → greatest k (λ t. 0) ≡ 0
 unfolding greatest

@@ -1,5 +1,5 @@
--- The first assignment in dictionary order, tide after tide: a tide gets the least block that any assignment gives it that agrees on the
--- tides before, and keeps that block alone. Assumes nothing.
+-- The first assignment by the order in which each tide ranks the blocks, tide after tide: a tide gets the block of least rank that any
+-- assignment gives it that agrees on the tides before, and keeps that block alone. Assumes nothing.
 use Prim.Native.Nat.{ℕ, _≤_, _<_}
 use mathlib.Core.Path.{_≡_}
 use mathlib.Core.Bool.{Bool, true, false}
@@ -13,22 +13,28 @@ use Rattle.lists.specs.Lists.{TailKept}
 abbrev pub Agree : ℕ → (ℕ → ℕ) → (ℕ → ℕ) → Type 0
 Agree t D G = (x : ℕ) → x < t → D x ≡ G x
 
--- list is an assignment, and at the first tide where another one differs, list has the lower block
-pub record First (n blocks : ℕ) (E : Test) (allowed list : List ℕ) : Type 0 where
-  pub assigned : Assigned n blocks E allowed (labels list)
-  pub least : (G : ℕ → ℕ) → Assigned n blocks E allowed G → (t : ℕ) → t < n → Agree t (labels list) G → labels list t ≤ G t
+-- what tide t ranks the blocks by, the one of least rank first: their numbers
+unfoldable pub rank : ℕ → ℕ → ℕ
+rank t m = m
 
+-- list is an assignment, and the first tide where another one differs ranks its block in list no higher
+pub record First (rank : ℕ → ℕ → ℕ) (n blocks : ℕ) (E : Test) (allowed list : List ℕ) : Type 0 where
+  pub assigned : Assigned n blocks E allowed (labels list)
+  pub least : (G : ℕ → ℕ) → Assigned n blocks E allowed G → (t : ℕ) → t < n → Agree t (labels list) G
+      → rank t (labels list t) ≤ rank t (G t)
+
+-- the answer of a search that writes to list only on yes
 pub record SearchTried (n blocks : ℕ) (E : Test) (allowed old new : List ℕ) (r : Bool) : Type 0 where
   pub found : r ≡ true → Assigned n blocks E allowed (labels new)
   pub none : r ≡ false → (D : ℕ → ℕ) → Assigned n blocks E allowed D → ⊥
   pub same : r ≡ false → new ≡ old
   pub kept : TailKept n old new
 
--- the assignments of the new table are those of the old one that give t what list gives it, which is the least that any gives it
-pub record Settled (n blocks : ℕ) (E : Test) (t : ℕ) (old new list : List ℕ) : Type 0 where
+-- the assignments of the new table are those of the old one that give t what list gives it; no block that any of them gives it ranks before
+pub record Chosen (rank : ℕ → ℕ) (n blocks : ℕ) (E : Test) (t : ℕ) (old new list : List ℕ) : Type 0 where
   pub same-length : length new ≡ length old
   pub assigned : Assigned n blocks E new (labels list)
   pub sound : (G : ℕ → ℕ) → Assigned n blocks E new G → Assigned n blocks E old G
   pub fixed : (G : ℕ → ℕ) → Assigned n blocks E new G → G t ≡ labels list t
   pub complete : (G : ℕ → ℕ) → Assigned n blocks E old G → G t ≡ labels list t → Assigned n blocks E new G
-  pub least : (G : ℕ → ℕ) → Assigned n blocks E old G → labels list t ≤ G t
+  pub least : (G : ℕ → ℕ) → Assigned n blocks E old G → rank (labels list t) ≤ rank (G t)

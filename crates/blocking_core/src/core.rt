@@ -3,8 +3,8 @@ use crate::first::first_assignment;
 use crate::measure::measure;
 use radius_search::LeastRadius;
 use radius_search::least_radius;
-use study::Minima;
 use study::MAX_TIDES;
+use study::Minima;
 use study::TABLE_SIZE;
 ghost use mathlib.Core.Path.{_≡_};
 ghost use mathlib.Core.List.{_++_};
@@ -52,7 +52,8 @@ fn assign(
     requires { ⌜ SizedArrays (Able minima n (now settings)) (now distances) n ⌝ }
     requires { ⌜ ValidArrays (now distances) n (meeting minima n (now settings)) ⌝ }
     requires { ⌜ (0 < n) × (length (now centres) ≡ maxTides) × (n ≤ length (now list)) ⌝ }
-    ensures { λ r. ⌜ Assigns (now (distances .entry)) n (meeting minima n (now (settings .entry))) (r .radius) (r .count) (now (centres .exit)) (now (list .entry)) (now (list .exit)) ⌝ }
+    ensures { λ r. ⌜ Assigns (now (distances .entry)) n (meeting minima n (now (settings .entry))) (r .radius) (r .count)
+        (now (centres .exit)) (now (list .entry)) (now (list .exit)) ⌝ }
 {
     let mut allowed: [u8; TABLE_SIZE] = [0; TABLE_SIZE];
     let found = least_radius(distances, settings, n, minima, centres, &mut allowed, list);
@@ -73,8 +74,10 @@ pub fn block_rows(
     requires { ⌜ SizedArrays (Able minima n (now settings)) (now distances) n ⌝ }
     requires { ⌜ ValidArrays (now distances) n (meeting minima n (now settings)) ⌝ }
     requires { ⌜ (0 < n) × (n ≤ length (now list)) ⌝ }
-    ensures { λ r. ⌜ Blocks (now (distances .entry)) n (meeting minima n (now (settings .entry))) (r .count) (r .radius) (r .widest) (r .centres) (r .sizes) (r .diameters) ⌝ }
-    ensures { λ _. ⌜ now (list .exit) ≡ blocking (arrayProblem (now (distances .entry)) n (meeting minima n (now (settings .entry)))) ++ drop n (now (list .entry)) ⌝ }
+    ensures { λ r. ⌜ Blocks (now (distances .entry)) n (meeting minima n (now (settings .entry))) (r .count) (r .radius) (r .widest)
+        (r .centres) (r .sizes) (r .diameters) ⌝ }
+    ensures { λ _. ⌜ now (list .exit) ≡ blocking (arrayProblem (now (distances .entry)) n (meeting minima n (now (settings .entry))))
+        ++ drop n (now (list .entry)) ⌝ }
 {
     let mut centres: [usize; MAX_TIDES] = [0; MAX_TIDES];
     let found = assign(distances, settings, n, minima, &mut centres, list);

@@ -1,31 +1,20 @@
-// The first assignment in dictionary order, through the promise of the matching search alone.
+// The first assignment by the order in which each tide ranks the blocks, through the promise of the matching search alone.
+use crate::column::fix;
+use crate::column::restrict;
 use matching::search;
 use promise::table::first_allowed;
 use radius_search::counts::wide;
-use study::Minima;
 use study::MAX_TIDES;
+use study::Minima;
 ghost use mathlib.Core.Path.{_≡_};
-ghost use Prim.Native.Nat.{ℕ, _<_, _≤_};
+ghost use Prim.Native.Nat.{_<_, _≤_};
 ghost use lib.ListN.{length};
-ghost use Rattle.lists.specs.Lists.{overwrite, TailKept};
-ghost use Rattle.study.specs.Limits.{maxTides, tableSize};
+ghost use Rattle.lists.specs.Lists.{at, overwrite, TailKept};
+ghost use Rattle.study.specs.Limits.{maxTides};
 ghost use Rattle.study.specs.Problem.{labels};
-ghost use Rattle.promise.specs.Promise.{Assigned, Asked};
-ghost use Rattle.promise.specs.Promise.{meeting, Able};
-ghost use Rattle.blocking_core.specs.Narrowed.{Narrowed};
-ghost use Rattle.blocking_core.specs.First.{First, SearchTried, Settled};
-
-// Takes the blocks from v on away from tide t.
-fn cut(allowed: &mut [u8], t: usize, v: usize)
-    requires { ⌜ (t < maxTides) × (v ≤ maxTides) × (tableSize ≤ length (now allowed)) ⌝ }
-    ensures { λ _. ⌜ Narrowed t (λ (m : ℕ). m < v) (now (allowed .entry)) (now (allowed .exit)) ⌝ }
-{
-    let mut i = v;
-    while i < MAX_TIDES {
-        allowed[i * MAX_TIDES + t] = 0;
-        i += 1;
-    }
-}
+ghost use Rattle.promise.specs.Promise.{Assigned, Asked, meeting, Able};
+ghost use Rattle.blocking_core.specs.Column.{Restricted};
+ghost use Rattle.blocking_core.specs.First.{rank, First, SearchTried, Chosen};
 
 // Copies the first n places.
 fn copy(from: &[u8], to: &mut [u8], n: usize)
@@ -49,7 +38,8 @@ fn try_search(
     list: &mut [u8],
 ) -> bool
     requires { ⌜ Asked (Able minima n (now settings)) n blocks (now allowed) (now list) ⌝ }
-    ensures { λ r. ⌜ SearchTried n blocks (meeting minima n (now (settings .entry))) (now (allowed .entry)) (now (list .entry)) (now (list .exit)) r ⌝ }
+    ensures { λ r. ⌜ SearchTried n blocks (meeting minima n (now (settings .entry))) (now (allowed .entry))
+        (now (list .entry)) (now (list .exit)) r ⌝ }
 {
     let mut trial: [u8; MAX_TIDES] = [0; MAX_TIDES];
     copy(list, &mut trial, n);
@@ -60,32 +50,72 @@ fn try_search(
     true
 }
 
-// Whether there is an assignment that gives tide t a block below v, which is then written to list. The blocks from v on are
-// taken away from t.
+// Whether there is an assignment that gives tide t a block that ranks before v, which is then written to list. The other blocks
+// are taken away from t.
 fn lower(
     n: usize,
     blocks: usize,
     minima: Minima,
     settings: &[u8],
+    ranks: &[u64; MAX_TIDES],
     allowed: &mut [u8],
     list: &mut [u8],
     t: usize,
     v: usize,
 ) -> bool
     requires { ⌜ Asked (Able minima n (now settings)) n blocks (now allowed) (now list) ⌝ }
-    requires { ⌜ (t < n) × (v < maxTides) ⌝ }
-    ensures { λ _. ⌜ Narrowed t (λ (m : ℕ). m < v) (now (allowed .entry)) (now (allowed .exit)) ⌝ }
-    ensures { λ r. ⌜ SearchTried n blocks (meeting minima n (now (settings .entry))) (now (allowed .exit)) (now (list .entry)) (now (list .exit)) r ⌝ }
+    requires { ⌜ (t < n) × (v < blocks) ⌝ }
+    ensures { λ _. ⌜ Restricted (now (ranks .entry)) blocks t v (now (allowed .entry)) (now (allowed .exit)) ⌝ }
+    ensures { λ r. ⌜ SearchTried n blocks (meeting minima n (now (settings .entry))) (now (allowed .exit))
+        (now (list .entry)) (now (list .exit)) r ⌝ }
 {
-    cut(allowed, t, v);
-    if first_allowed(allowed, t, v) >= v {
+    restrict(allowed, blocks, ranks, t, v);
+    if first_allowed(allowed, t, blocks) >= blocks {
         return false;
     }
     try_search(n, blocks, minima, settings, allowed, list)
 }
 
-// Gives tide t the least block that an assignment with the tides before it as they are gives it, and leaves it that block alone.
-fn settle(
+// Gives tide t the block of least rank that an assignment with the tides before it as they are gives it, and leaves it that block
+// alone.
+fn choose(
+    n: usize,
+    blocks: usize,
+    minima: Minima,
+    settings: &[u8],
+    ranks: &[u64; MAX_TIDES],
+    allowed: &mut [u8],
+    list: &mut [u8],
+    t: usize,
+)
+    requires { ⌜ Asked (Able minima n (now settings)) n blocks (now allowed) (now list) ⌝ }
+    requires { ⌜ Assigned n blocks (meeting minima n (now settings)) (now allowed) (labels (now list)) ⌝ }
+    requires { ⌜ t < n ⌝ }
+    ensures { λ _. ⌜ Chosen (at (now (ranks .entry))) n blocks (meeting minima n (now (settings .entry))) t
+        (now (allowed .entry)) (now (allowed .exit)) (now (list .exit)) ⌝ }
+    ensures { λ _. ⌜ TailKept n (now (list .entry)) (now (list .exit)) ⌝ }
+{
+    let mut v = wide(list[t]);
+    while lower(n, blocks, minima, settings, ranks, allowed, list, t, v) {
+        v = wide(list[t]);
+    }
+    fix(allowed, blocks, t, v);
+}
+
+// What tide t ranks the blocks by: their numbers.
+fn rank_blocks(blocks: usize, t: usize, ranks: &mut [u64; MAX_TIDES])
+    requires { ⌜ (blocks ≤ maxTides) × (length (now ranks) ≡ maxTides) ⌝ }
+    ensures { λ _. ⌜ now (ranks .exit) ≡ overwrite blocks (rank t) (now (ranks .entry)) ⌝ }
+{
+    let mut m = 0;
+    while m < blocks {
+        ranks[m] = m as u64;
+        m += 1;
+    }
+}
+
+// Chooses the block of tide t by its ranks of the blocks.
+fn choose_block(
     n: usize,
     blocks: usize,
     minima: Minima,
@@ -97,18 +127,16 @@ fn settle(
     requires { ⌜ Asked (Able minima n (now settings)) n blocks (now allowed) (now list) ⌝ }
     requires { ⌜ Assigned n blocks (meeting minima n (now settings)) (now allowed) (labels (now list)) ⌝ }
     requires { ⌜ t < n ⌝ }
-    ensures { λ _. ⌜ Settled n blocks (meeting minima n (now (settings .entry))) t (now (allowed .entry)) (now (allowed .exit)) (now (list .exit)) ⌝ }
+    ensures { λ _. ⌜ Chosen (rank t) n blocks (meeting minima n (now (settings .entry))) t
+        (now (allowed .entry)) (now (allowed .exit)) (now (list .exit)) ⌝ }
     ensures { λ _. ⌜ TailKept n (now (list .entry)) (now (list .exit)) ⌝ }
 {
-    let mut v = wide(list[t]);
-    while lower(n, blocks, minima, settings, allowed, list, t, v) {
-        v = wide(list[t]);
-    }
-    cut(allowed, t, 0);
-    allowed[v * MAX_TIDES + t] = 1;
+    let mut ranks: [u64; MAX_TIDES] = [0; MAX_TIDES];
+    rank_blocks(blocks, t, &mut ranks);
+    choose(n, blocks, minima, settings, &ranks, allowed, list, t);
 }
 
-// Turns an assignment into the first one in dictionary order. The table is used up.
+// Turns an assignment into the first one in dictionary order of the tides' ranks. The table is used up.
 pub fn first_assignment(
     n: usize,
     blocks: usize,
@@ -119,12 +147,12 @@ pub fn first_assignment(
 )
     requires { ⌜ Asked (Able minima n (now settings)) n blocks (now allowed) (now list) ⌝ }
     requires { ⌜ Assigned n blocks (meeting minima n (now settings)) (now allowed) (labels (now list)) ⌝ }
-    ensures { λ _. ⌜ First n blocks (meeting minima n (now (settings .entry))) (now (allowed .entry)) (now (list .exit)) ⌝ }
+    ensures { λ _. ⌜ First rank n blocks (meeting minima n (now (settings .entry))) (now (allowed .entry)) (now (list .exit)) ⌝ }
     ensures { λ _. ⌜ TailKept n (now (list .entry)) (now (list .exit)) ⌝ }
 {
     let mut t = 0;
     while t < n {
-        settle(n, blocks, minima, settings, allowed, list, t);
+        choose_block(n, blocks, minima, settings, allowed, list, t);
         t += 1;
     }
 }

@@ -10,6 +10,7 @@ ghost use Rattle.study.specs.Limits.{maxTides};
 ghost use Rattle.study.specs.Problem.{labels};
 ghost use Rattle.blocking_core.specs.Measured.{farthestOf, widestOf, Measured};
 
+// The greater of two numbers.
 fn greater(x: u32, y: u32) -> u32
     ensures { λ r. ⌜ r ≡ max x y ⌝ }
 {
@@ -31,7 +32,8 @@ fn inside(block: u8, other: u8, x: u32) -> u32
 
 // The greatest distance of tide t from an earlier tide of its block, or 0.
 fn farthest(distances: &[u32], list: &[u8], n: usize, t: usize) -> u32
-    requires { ⌜ (n ≤ maxTides) × (t < n) × (n * maxTides ≤ length (now distances)) × (n ≤ length (now list)) ⌝ }
+    requires { ⌜ (n ≤ maxTides) × (n * maxTides ≤ length (now distances)) × (n ≤ length (now list)) ⌝ }
+    requires { ⌜ t < n ⌝ }
     ensures { λ r. ⌜ r ≡ farthestOf (now (distances .entry)) n (labels (now (list .entry))) t t ⌝ }
 {
     let mut best = 0;

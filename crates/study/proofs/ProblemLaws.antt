@@ -5,16 +5,19 @@ use native.Mathlib.Omega.{arith}
 use mathlib.Core.Path.{_≡_, refl, sym, ap, ap₂, _∙_, subst}
 use mathlib.Core.Logic.{_⊎_, inl, inr, ⊎-elim, _↔_}
 use mathlib.Core.Bool.{Bool, true, false, cond, _&&_, not}
-use mathlib.Core.List.{List, [], _∷_, _++_, headD, List·Memᴰ·append-cases, Memᴰ·append-left, Memᴰ·append-right, Memᴰ·cast, List·Memᴰ·eq-of-singleton, List·Memᴰ·head as here, List·Memᴰ·tail as there}
+use mathlib.Core.List.{List, [], _∷_, _++_, headD, List·Memᴰ·append-cases, Memᴰ·append-left, Memᴰ·append-right, Memᴰ·cast, List·Memᴰ·eq-of-singleton}
+use mathlib.Core.List.{List·Memᴰ·head as here, List·Memᴰ·tail as there}
 use lib.Dec.{T, leb, ltb, eqb, leb→le, le→leb, ltb→lt, nltb→le, eqb→eq}
 use lib.ListN.{length, getD, length-append, List·getD-append}
 use lib.Seq.{getD-append-seam}
 use Rattle.lists.specs.Lists.{_among_, iota, greatest, tabulate, allOf, filter, tuples}
 use Rattle.lists.proofs.Tests.{and-T, T-left, T-right, split, cond-yes, eq→eqb, every-at, every-of}
-use Rattle.lists.proofs.Members.{no-member, all-at, all-of, not-all, filter-mem, mem-filter, first-mem, nonempty, getD-mem, mem-flatMap, range-mem, mem-range, least-mem, least-le, greatest-ge, greatest-le, greatest-is}
+use Rattle.lists.proofs.Members.{no-member, all-at, all-of, not-all, filter-mem, mem-filter, first-mem, nonempty, getD-mem, mem-flatMap, range-mem, mem-range}
+use Rattle.lists.proofs.Members.{least-mem, least-le, greatest-ge, greatest-le, greatest-is}
 use Rattle.lists.proofs.Tables.{length-tabulate, getD-tabulate, mem-tabulate}
 use Rattle.lists.proofs.Tuples.{Tuple, tuples-mem, mem-tuples}
-use Rattle.study.specs.Problem.{Problem, centresAmong, centres, centreOf, choices, block, labels, allSufficient, assignments, assignable, candidates, radius, diameter, greatestDiameter, Feasible, feasible}
+use Rattle.study.specs.Problem.{Problem, centresAmong, centres, centreOf, choices, block, labels, allSufficient, assignments, assignable, candidates}
+use Rattle.study.specs.Problem.{radius, diameter, greatestDiameter, Feasible, feasible}
 use Rattle.study.specs.Theorems.{Symmetric, Lawful, Assignment}
 
 -- ---- centres
@@ -35,7 +38,8 @@ module _ (P : Problem) (g : ℕ) where
   unfolding centresAmong far
   among-below zero m = no-member m
   among-below (suc t) m =
-      ⊎-elim (λ h. let l = among-below t h in omega arith) (λ e. omega arith) (grow-mem (allOf (far t) (centresAmong (P .dist) g t)) (centresAmong (P .dist) g t) t m)
+      let cs = centresAmong (P .dist) g t in
+      ⊎-elim (λ h. let l = among-below t h in omega arith) (λ e. omega arith) (grow-mem (allOf (far t) cs) cs t m)
 
   pub centre-below : {c : ℕ} → c among centres P g → c < P .size
   unfolding centres
@@ -53,7 +57,9 @@ module _ (P : Problem) (g : ℕ) where
     where
       last : u ≡ t → (b : Bool) → (T (not b) → T (not (allOf (far t) (centresAmong (P .dist) g t))))
           → (c : ℕ) × (c among cond b (centresAmong (P .dist) g t ++ (t ∷ [])) (centresAmong (P .dist) g t)) × (P .dist c u ≤ g)
-      last e true f = (t, Memᴰ·append-right (centresAmong (P .dist) g t) (here refl), subst (λ v. P .dist t v ≤ g) (sym e) (rw (L .symmetric .itself t) (omega arith)))
+      last e true f =
+          let itself : P .dist t t ≤ g = rw (L .symmetric .itself t) (omega arith) in
+          (t, Memᴰ·append-right (centresAmong (P .dist) g t) (here refl), subst (λ v. P .dist t v ≤ g) (sym e) itself)
       last e false f =
           let r = not-all (far t) (centresAmong (P .dist) g t) (f tt) in
           (r .0, r .1, subst (λ v. P .dist (r .0) v ≤ g) (sym e) (nltb→le g (P .dist (r .0) t) (r .2)))
@@ -73,7 +79,8 @@ module _ (P : Problem) (g : ℕ) where
       (λ l. rw (List·getD-append cs (t ∷ []) 0 i (omega arith), List·getD-append cs (t ∷ []) 0 j l) (ih i j h l))
       (λ q. let e : j ≡ length cs = omega (arith, length-append cs (t ∷ [])) in
       let l : i < length cs = omega arith in
-      rw (e, List·getD-append cs (t ∷ []) 0 i l, getD-append-seam cs t [] 0) (ltb→lt g (P .dist (getD cs i 0) t) (all-at (far t) cs s (getD-mem 0 cs i l))))
+      let new = ltb→lt g (P .dist (getD cs i 0) t) (all-at (far t) cs s (getD-mem 0 cs i l)) in
+      rw (e, List·getD-append cs (t ∷ []) 0 i l, getD-append-seam cs t [] 0) new)
       (split j (length cs))
 
   among-apart : (t : ℕ) → Apart (centresAmong (P .dist) g t)
@@ -182,7 +189,7 @@ pub blocks-same : (D E : ℕ → ℕ) (m t : ℕ) → D t ≡ E t → block D m 
 unfolding block
 blocks-same D E m t e = ap (λ z. eqb z m) e
 
-greatest-same : (n : ℕ) (f h : ℕ → ℕ) → ((t : ℕ) → t < n → f t ≡ h t) → greatest n f ≡ greatest n h
+pub greatest-same : (n : ℕ) (f h : ℕ → ℕ) → ((t : ℕ) → t < n → f t ≡ h t) → greatest n f ≡ greatest n h
 greatest-same n f h e =
     let a = greatest-le n f (greatest n h) (λ t l. rw (e t l) (greatest-ge n h t l)) in
     let b = greatest-le n h (greatest n f) (λ t l. rw (← (e t l)) (greatest-ge n f t l)) in
@@ -200,7 +207,7 @@ module _ (P : Problem) (D E : ℕ → ℕ) where
   greatestDiameter-same e =
       greatest-same (P .size) _ _ (λ t l. greatest-same t _ _ (λ u k. ap₂ (λ a b. cond (eqb a b) (P .dist u t) 0) (e u (omega arith)) (e t l)))
 
--- ---- choices: the blocks whose centre is at most g away. Nothing else is used of them but their order, in Dictionary.antt
+-- ---- choices: the blocks whose centre is at most g away. All else that is used of them is `choice-before` (Dictionary.antt)
 
 pub record Choice (P : Problem) (g : ℕ) (cs : List ℕ) (t m : ℕ) : Type 0 where
   pub low : 1 ≤ m
@@ -249,8 +256,9 @@ module _ (P : Problem) (g : ℕ) (xs : List ℕ) where
 
       chosen : (t : ℕ) → t < P .size → Choice P g cs t (getD xs t 0)
       chosen t l =
+          let is = getD-tabulate (P .size) (choices P g cs) t [] l in
           choices-mem P g cs t (getD xs t 0)
-          (subst (λ ms. getD xs t 0 among ms) (getD-tabulate (P .size) (choices P g cs) t [] l) (w .chosen t (rw (length-tabulate (P .size) (choices P g cs)) l)))
+          (subst (λ ms. getD xs t 0 among ms) is (w .chosen t (rw (length-tabulate (P .size) (choices P g cs)) l)))
 
   pub assignment-tuple : Assignment P g xs → IsTuple
   unfolding allSufficient labels

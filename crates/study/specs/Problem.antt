@@ -45,12 +45,13 @@ labels xs t = getD xs t 0
 unfoldable pub allSufficient : Problem → ℕ → List ℕ → Bool
 allSufficient P l xs = allOf (λ m. P .enough (block (labels xs) m)) (iota 1 l)
 
--- document 01: the fillings at g, in dictionary order
+-- document 01: the fillings at g, in dictionary order of the tides' choices
 unfoldable pub assignments : Problem → ℕ → List (List ℕ)
 assignments P g =
     let cs = centres P g in
     filter (allSufficient P (length cs)) (tuples (tabulate (P .size) (choices P g cs)))
 
+-- some filling at g
 unfoldable pub assignable : Problem → ℕ → Bool
 assignable P g = not (isEmpty (assignments P g))
 

@@ -7,10 +7,11 @@ use mathlib.Core.Bool.{Bool, true}
 use mathlib.Core.List.{List}
 use lib.Dec.{T, eqb}
 use lib.ListN.{length, getD, take}
-use Rattle.lists.specs.Lists.{_among_, countBelow, greatest, before}
+use Rattle.lists.specs.Lists.{_among_, countBelow, greatest}
 use Rattle.study.specs.Limits.{maxWithdrawals}
 use Rattle.study.specs.declared.Minima.{Minima}
-use Rattle.study.specs.Problem.{Problem, centres, centreOf, choices, block, labels, assignments, assignable, candidates, radius, blocking, diameter, greatestDiameter, Feasible, feasible}
+use Rattle.study.specs.Problem.{Problem, centres, centreOf, block, labels, assignments, assignable, candidates, radius, blocking}
+use Rattle.study.specs.Problem.{diameter, greatestDiameter, Feasible, feasible}
 use Rattle.study.specs.Study.{Study, Contents, size, tide, problem, Valid, Renumbered}
 use Rattle.study.specs.Refusals.{accepted, firstOf}
 use Rattle.study.specs.Calls.{openReasons, opening, minimaReasons, settingMinima, enterReasons, entering, withdrawReasons, withdrawing}
@@ -46,24 +47,29 @@ pub record Assignment (P : Problem) (g : ℕ) (xs : List ℕ) : Type 0 where
   pub in-radius : (t : ℕ) → t < P .size → P .dist (centreOf (centres P g) (labels xs t)) t ≤ g
   pub enough : (m : ℕ) → 1 ≤ m → m ≤ length (centres P g) → T (P .enough (block (labels xs) m))
 
--- xs comes before ys in dictionary order: by block number, at the first tide where they differ
-pub record Precedes (xs ys : List ℕ) : Type 0 where
-  pub tide : ℕ
-  pub same : take tide xs ≡ take tide ys
-  pub lower : labels xs tide < labels ys tide
+-- where the blocks belong to the centres cs, tide t prefers block m to block k: m has the lower number
+unfoldable pub Prefers : Problem → List ℕ → ℕ → ℕ → ℕ → Type 0
+Prefers P cs t m k = m < k
 
--- an assignment at g, and at no tide does an earlier choice begin an assignment that agrees with it before that tide
+-- xs comes before ys in dictionary order: the first tide where they differ prefers its block in xs
+pub record Precedes (P : Problem) (g : ℕ) (xs ys : List ℕ) : Type 0 where
+  pub tide : ℕ
+  pub inside : tide < P .size
+  pub same : take tide xs ≡ take tide ys
+  pub preferred : Prefers P (centres P g) tide (labels xs tide) (labels ys tide)
+
+-- an assignment at g, and no assignment that agrees with it before a tide gives that tide a block that it prefers
 pub record FirstAssignment (P : Problem) (g : ℕ) (xs : List ℕ) : Type 0 where
   pub assignment : Assignment P g xs
-  pub foremost : (t c : ℕ) → t < P .size → c among before (labels xs t) (choices P g (centres P g) t)
-      → (ys : List ℕ) → Assignment P g ys → take t ys ≡ take t xs → labels ys t ≡ c → ⊥
+  pub foremost : (t : ℕ) → t < P .size → (ys : List ℕ) → Assignment P g ys → take t ys ≡ take t xs
+      → Prefers P (centres P g) t (labels ys t) (labels xs t) → ⊥
 
 -- the blocking is the one that document 01 singles out
 pub record Canonical (P : Problem) : Type 0 where
   pub assignment : Assignment P (radius P) (blocking P)
   pub candidate : radius P among candidates P
   pub lowest : (g : ℕ) → g among candidates P → (xs : List ℕ) → Assignment P g xs → radius P ≤ g
-  pub first : (xs : List ℕ) → Assignment P (radius P) xs → (blocking P ≡ xs) ⊎ Precedes (blocking P) xs
+  pub first : (xs : List ℕ) → Assignment P (radius P) xs → (blocking P ≡ xs) ⊎ Precedes P (radius P) (blocking P) xs
   -- its greatest diameter is that of its blocks
   pub widest : greatestDiameter P (labels (blocking P)) ≡ greatest (length (centres P (radius P))) (λ i. diameter P (labels (blocking P)) (suc i))
 

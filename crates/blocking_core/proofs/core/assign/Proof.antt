@@ -1,9 +1,10 @@
--- The search, the first assignment, its numbering. Assumes nothing.
+-- The radius is the least, the assignment at it the first, and `number` turns it into the list. Assumes nothing.
 use native.Mathlib.Omega.{arith}
 use Rattle.blocking_core.proofs.CoreLaws.{assigned-core}
 use Rattle.radius_search.proofs.FrontLaws.{front-few}
 use Prim.Native.Nat.{ℕ}
 use lib.ListN.{length-replicate}
+use Rattle.study.specs.Limits.{tableSize}
 use borrow.Author.Needs.{needs}
 use Rattle.blocking_core.proofs.core.assign.Statement.{statement}
 use Rattle.blocking_core.proofs.core.assign.Tie as tie
@@ -11,22 +12,48 @@ use Rattle.blocking_core.proofs.core.assign.Tie as tie
 least-radius-requires : tie.Need-least-radius-requires
 least-radius-requires c κs =
     let pre = c .before .before .before .before .before .before .pre in
-    (pre .0, (pre .1 .0, (pre .1 .1 .0, pre .1 .1 .1, let f = pre .0 .few in omega (arith, length-replicate {A = ℕ} 14400 0), pre .1 .1 .2)))
+    let few = pre .0 .few in
+    let long = length-replicate {A = ℕ} tableSize 0 in
+    (pre .0, (pre .1 .0, (pre .1 .1 .0, pre .1 .1 .1, omega (arith, long), pre .1 .1 .2)))
 
 first-assignment-requires : tie.Need-first-assignment-requires
 first-assignment-requires c κs =
-    let pre = c .before .before .before .before .before .before .before .before .before .before .before .before .pre in
-    (record { few-tides = pre .0 .few; few-blocks = front-few (pre .0 .few) (c .before .before .before .before .before .least-radius .ensures .0 .centres); allowed-long = let f = pre .0 .few in omega (arith, c .before .before .before .before .before .least-radius .ensures .0 .table .same-length, length-replicate {A = ℕ} 14400 0); list-long = omega (arith, c .before .before .before .before .before .least-radius .ensures .1 .same-length, pre .1 .1 .2); able = pre .0 .able }, c .before .before .before .before .before .least-radius .ensures .0 .found)
+    let at-radius = c .before .before .before .before .before in
+    let pre = at-radius .before .before .before .before .before .before .before .pre in
+    let least = at-radius .least-radius .ensures in
+    let few = pre .0 .few in
+    let table = least .0 .table .same-length in (
+      record {
+        few-tides = few;
+        few-blocks = front-few few (least .0 .centres);
+        allowed-long = omega (arith, table, length-replicate {A = ℕ} tableSize 0);
+        list-long = omega (arith, least .1 .same-length, pre .1 .1 .2);
+        able = pre .0 .able;
+      },
+      least .0 .found,
+    )
 
 number-requires : tie.Need-number-requires
 number-requires c κs =
-    let pre = c .before .before .before .before .before .before .before .before .before .before .before .before .before .before .before .before .before .pre in
-    (omega (arith, c .before .before .before .before .first-assignment .ensures .1 .same-length, c .before .before .before .before .before .before .before .before .before .before .least-radius .ensures .1 .same-length, pre .1 .1 .2), λ t l. let q = front-few (pre .0 .few) (c .before .before .before .before .before .before .before .before .before .before .least-radius .ensures .0 .centres) in let h = c .before .before .before .before .first-assignment .ensures .0 .assigned .below t l in omega arith)
+    let at-first = c .before .before .before .before in
+    let at-radius = at-first .before .before .before .before .before .before in
+    let pre = at-radius .before .before .before .before .before .before .before .pre in
+    let least = at-radius .least-radius .ensures in
+    let first = at-first .first-assignment .ensures in
+    let few = front-few (pre .0 .few) (least .0 .centres) in (
+      omega (arith, first .1 .same-length, least .1 .same-length, pre .1 .1 .2),
+      λ t l. let below = first .0 .assigned .below t l in omega arith,
+    )
 
 returns : tie.Need-returns
 returns c =
-    let pre = c .before .before .before .before .before .before .before .before .before .before .before .before .before .before .before .before .before .before .before .before .pre in
-    assigned-core (pre .1 .0) (pre .0 .few) (c .before .before .before .before .before .before .before .before .before .before .before .before .before .least-radius .ensures .0) (c .before .before .before .before .before .before .before .first-assignment .ensures .0) (c .before .before .before .before .before .before .before .before .before .before .before .before .before .least-radius .ensures .1) (c .before .before .before .before .before .before .before .first-assignment .ensures .1) (pre .1 .1 .2) (c .before .before .number .ensures)
+    let at-number = c .before .before in
+    let at-first = at-number .before .before .before .before .before in
+    let at-radius = at-first .before .before .before .before .before .before in
+    let pre = at-radius .before .before .before .before .before .before .before .pre in
+    let least = at-radius .least-radius .ensures in
+    let first = at-first .first-assignment .ensures in
+    assigned-core (pre .1 .0) (pre .0 .few) (least .0) (first .0) (least .1) (first .1) (pre .1 .1 .2) (at-number .number .ensures)
 
 pub assign-spec : {M : Type 1} → statement M
 assign-spec =

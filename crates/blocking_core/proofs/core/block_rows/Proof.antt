@@ -1,4 +1,4 @@
--- The whole core. Assumes nothing.
+-- What `assign` finds and what `measure` counts, together. Assumes nothing.
 use native.Mathlib.Omega.{arith}
 use Rattle.blocking_core.proofs.CoreLaws.{core-blocks}
 use Rattle.blocking_core.proofs.MeasuredLaws.{measured-none}
@@ -14,11 +14,17 @@ assign-requires c κs =
 
 measure-requires : tie.Need-measure-requires
 measure-requires c κs =
-    let pre = c .before .before .before .before .before .before .before .before .before .before .before .pre in
-    ((pre .0 .few, pre .0 .distances-long, omega (arith, c .before .before .before .before .before .assign .ensures .same-length, pre .1 .1 .1)), (c .before .before .before .before .before .assign .ensures .low, (c .before .before .before .before .before .assign .ensures .high, measured-none _ _ _)))
+    let at-assign = c .before .before .before .before .before in
+    let pre = at-assign .before .before .before .before .before .before .pre in
+    let found = at-assign .assign .ensures in
+    ((pre .0 .few, pre .0 .distances-long, omega (arith, found .same-length, pre .1 .1 .1)), (found .low, (found .high, measured-none _ _ _)))
 
 returns : tie.Need-returns
-returns c = (core-blocks (c .before .before .before .before .before .before .before .before .before .before .before .before .pre .0 .few) (c .before .before .before .before .before .before .assign .ensures) (c .measure .ensures), c .before .before .before .before .before .before .assign .ensures .list-of)
+returns c =
+    let at-assign = c .before .before .before .before .before .before in
+    let pre = at-assign .before .before .before .before .before .before .pre in
+    let found = at-assign .assign .ensures in
+    (core-blocks (pre .0 .few) found (c .measure .ensures), found .list-of)
 
 pub block-rows-spec : {M : Type 1} → statement M
 block-rows-spec = tie.close (tie.spec assign-requires measure-requires (λ c. search needs) returns)

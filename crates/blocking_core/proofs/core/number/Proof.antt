@@ -1,4 +1,4 @@
--- Blocks numbered from 1. Assumes nothing.
+-- The first t places are one more than they were; the rest is as it was. What falls is n - t. Assumes nothing.
 use native.Mathlib.Omega.{arith}
 use Rattle.blocking_core.proofs.CoreLaws.{NumberedTo, numbered-none, numbered-length, numbered-here, numbered-more, numbered-done}
 use Prim.Native.Nat.{_≤_, _-_}

@@ -1,4 +1,4 @@
--- A copy of the first places. Assumes nothing.
+-- The first t places of `to` hold those of `from`. What falls is n - t. Assumes nothing.
 use native.Mathlib.Omega.{arith}
 use Rattle.study.specs.Problem.{labels}
 use Rattle.lists.proofs.Tables.{length-overwrite, overwrite-none, overwrite-step, overwrite-done}
@@ -20,16 +20,23 @@ loop-holds c = (omega arith, overwrite-none _ _)
 
 slice-write-to : tie.Need-slice-write-to Inv-loop μ-loop
 slice-write-to c =
-    let turn = c .before .before .loop in
-    let q = ap length (turn .inv .1) ∙ length-overwrite (labels (c .before .before .before .args .from .now)) _ (turn .t) (omega arith) in
+    let at-loop = c .before .before in
+    let from = at-loop .before .args .from .now in
+    let q = ap length (at-loop .loop .inv .1) ∙ length-overwrite (labels from) _ (at-loop .loop .t) (omega arith) in
     omega arith
 
 loop-again : tie.Need-loop-again Inv-loop μ-loop
 unfolding labels
-loop-again c = (omega arith, overwrite-step (labels (c .before .before .before .args .from .now)) _ _ (c .before .before .loop .inv .1) refl (omega arith))
+loop-again c =
+    let at-loop = c .before .before in
+    let from = at-loop .before .args .from .now in
+    (omega arith, overwrite-step (labels from) _ _ (at-loop .loop .inv .1) refl (omega arith))
 
 same-length : tie.Need-same-length Inv-loop μ-loop
-same-length c = ap length (c .before .loop .inv .1) ∙ length-overwrite (labels (c .before .before .args .from .now)) _ (c .before .loop .t) (omega arith)
+same-length c =
+    let at-loop = c .before in
+    let from = at-loop .before .args .from .now in
+    ap length (at-loop .loop .inv .1) ∙ length-overwrite (labels from) _ (at-loop .loop .t) (omega arith)
 
 returns : tie.Need-returns Inv-loop μ-loop
 returns c = overwrite-done (labels (c .before .before .args .from .now)) _ (omega arith) (c .before .loop .inv .1)

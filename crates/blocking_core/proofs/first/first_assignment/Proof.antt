@@ -1,5 +1,7 @@
--- Tide after tide. Assumes nothing.
+-- The tides below t are fixed: the table has the assignments of the first table that agree with list below t, none of which comes before
+-- it. What falls is n - t. Assumes nothing.
 use native.Mathlib.Omega.{arith}
+use Rattle.blocking_core.specs.First.{rank}
 use Rattle.blocking_core.proofs.FirstLaws.{Fixed, fixed-start, fixed-more, fixed-end}
 use Rattle.promise.proofs.PromiseLaws.{asked-on}
 use Rattle.promise.specs.Promise.{meeting}
@@ -10,7 +12,8 @@ use Rattle.blocking_core.proofs.first.first_assignment.Statement.{state
 use Rattle.blocking_core.proofs.first.first_assignment.Tie as tie
 
 abbrev Inv-loop : tie.InvT-loop
-Inv-loop n blocks minima settings allowed₀ list₀ t₀ allowed list t = (t ≤ n) × TailKept n list₀ list × Fixed n blocks (meeting minima n settings) t allowed₀ allowed list
+Inv-loop n blocks minima settings allowed₀ list₀ t₀ allowed list t =
+    (t ≤ n) × TailKept n list₀ list × Fixed rank n blocks (meeting minima n settings) t allowed₀ allowed list
 
 abbrev μ-loop : tie.MeasureT-loop
 μ-loop n blocks minima settings allowed₀ list₀ t₀ allowed list t = n - t
@@ -18,18 +21,25 @@ abbrev μ-loop : tie.MeasureT-loop
 loop-holds : tie.Need-loop-holds Inv-loop μ-loop
 loop-holds c = (omega arith, kept-same _ _, fixed-start (c .before .before .before .pre .1))
 
-settle-requires : tie.Need-settle-requires Inv-loop μ-loop
-settle-requires c κs =
-    let turn = c .before .before .before .loop in
-    (asked-on (c .before .before .before .before .before .before .before .pre .0) (turn .inv .2 .same-length) (turn .inv .1 .same-length), (turn .inv .2 .assigned, c .before .before .loop-test .taken))
+choose-block-requires : tie.Need-choose-block-requires Inv-loop μ-loop
+choose-block-requires c κs =
+    let at-loop = c .before .before .before in
+    let now = at-loop .loop .inv in
+    let asked = at-loop .before .before .before .before .pre .0 in
+    (asked-on asked (now .2 .same-length) (now .1 .same-length), (now .2 .assigned, c .before .before .loop-test .taken))
 
 add-t : tie.Need-add-t Inv-loop μ-loop
-add-t c = let f = c .before .before .before .before .before .before .before .before .before .before .before .before .pre .0 .few-tides in omega arith
+add-t c =
+    let at-loop = c .before .before .before .before .before .before .before .before in
+    let few = at-loop .before .before .before .before .pre .0 .few-tides in
+    omega arith
 
 loop-again : tie.Need-loop-again Inv-loop μ-loop
 loop-again c =
-    let turn = c .before .before .before .before .before .before .before .before .loop in
-    (omega arith, kept-on (turn .inv .1) (c .before .before .before .before .settle .ensures .1), fixed-more (turn .inv .2) (c .before .before .before .before .settle .ensures .0))
+    let at-choice = c .before .before .before .before in
+    let now = at-choice .before .before .before .before .loop .inv in
+    let chosen = at-choice .choose-block .ensures in
+    (omega arith, kept-on (now .1) (chosen .1), fixed-more (now .2) (chosen .0))
 
 same-length : tie.Need-same-length Inv-loop μ-loop
 same-length c = c .before .loop .inv .2 .same-length
@@ -47,7 +57,7 @@ first-assignment-spec =
     Inv-loop
     μ-loop
     loop-holds
-    settle-requires
+    choose-block-requires
     add-t
     (λ c. omega arith)
     loop-again

@@ -1,4 +1,4 @@
--- `lower` meets its contract: no search where nothing is left to the tide. Assumes nothing.
+-- No search where no block is left to the tide; otherwise the search's answer is the function's. Assumes nothing.
 use borrow.Author.Needs.{needs}
 use Rattle.blocking_core.proofs.FirstLaws.{tried-nowhere}
 use Rattle.blocking_core.proofs.first.lower.Statement.{statement}
@@ -6,8 +6,9 @@ use Rattle.blocking_core.proofs.first.lower.Tie as tie
 
 returns : tie.Need-returns
 returns c =
-    let pre = c .before .before .before .before .before .before .before .before .before .before .pre in
-    (c .before .before .before .before .before .cut .ensures, tried-nowhere _ (pre .0 .few-blocks) (pre .1 .0) (c .before .before .before .before .before .cut .ensures) (c .before .first-allowed .ensures .none (c .if1 .taken)))
+    let at-restrict = c .before .before .before .before .before in
+    let entry = at-restrict .before .before .before .before .before in
+    (at-restrict .restrict .ensures, tried-nowhere _ (entry .pre .1 .0) (c .before .first-allowed .ensures .none (c .if1 .taken)))
 
 returns-2 : tie.Need-returns-2
 returns-2 c = search needs

@@ -1,4 +1,4 @@
--- The earlier tides of a block, one after the other. Assumes nothing.
+-- best is the greatest distance of t from a tide below u of its block. What falls is t - u. Assumes nothing.
 use borrow.Author.Needs.{needs}
 use native.Mathlib.Omega.{arith}
 use Rattle.blocking_core.specs.Measured.{farthestOf}
@@ -23,10 +23,10 @@ loop-holds c = (omega arith, greatest-none _)
 loop-again : tie.Need-loop-again Inv-loop μ-loop
 unfolding labels farthestOf
 loop-again c =
-    let a = c .before .before .before .before .before .before .before .before .before .args in
-    let l = c .before .before .before .before .before .before .loop in
-    let w = within-is (a .distances .now) (a .n) (l .u) (a .t) (omega arith) (c .before .before .before .before .before .before .before .before .before .pre .1) in
-    (omega arith, greatest-more _ (l .u) (c .before .inside .result) (l .best) (c .greater .result) (l .inv .1) (rw w (c .before .inside .ensures)) (c .greater .ensures))
+    let at-loop = c .before .before .before .before .before .before in
+    let entry = at-loop .before .before .before in
+    let in-table = within-is (entry .args .distances .now) (entry .args .n) (at-loop .loop .u) (entry .args .t) (omega arith) (entry .pre .1) in
+    (omega arith, greatest-more _ (at-loop .loop .inv .1) (rw in-table (c .before .inside .ensures)) (c .greater .ensures))
 
 returns : tie.Need-returns Inv-loop μ-loop
 returns c =

@@ -1,4 +1,4 @@
--- A distance inside a block. Assumes nothing.
+-- The distance counts by the test that the code makes. Assumes nothing.
 use borrow.Author.Tests.{eq-eqb, ne-eqb}
 use Rattle.blocking_core.proofs.measure.inside.Statement.{statement}
 use Rattle.blocking_core.proofs.measure.inside.Tie as tie

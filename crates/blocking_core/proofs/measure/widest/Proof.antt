@@ -1,4 +1,4 @@
--- Tide after tide. Assumes nothing.
+-- best is the greatest diameter of the tides below t. What falls is n - t. Assumes nothing.
 use borrow.Author.Needs.{needs}
 use native.Mathlib.Omega.{arith}
 use Prim.Native.Nat.{_≤_, _-_}
@@ -22,13 +22,13 @@ loop-holds c = (omega arith, greatest-none _)
 farthest-requires : tie.Need-farthest-requires Inv-loop μ-loop
 farthest-requires c κs =
     let pre = c .before .before .before .before .pre in
-    (pre .0, c .loop-test .taken, pre .1, pre .2)
+    (pre, c .loop-test .taken)
 
 loop-again : tie.Need-loop-again Inv-loop μ-loop
 unfolding widestOf
 loop-again c =
     let turn = c .before .before .before .loop in
-    (omega arith, greatest-more _ (turn .t) (c .before .farthest .result) (turn .best) (c .greater .result) (turn .inv .1) (c .before .farthest .ensures) (c .greater .ensures))
+    (omega arith, greatest-more _ (turn .inv .1) (c .before .farthest .ensures) (c .greater .ensures))
 
 returns : tie.Need-returns Inv-loop μ-loop
 returns c =
