@@ -9,9 +9,9 @@ use crate::writing::put_fields;
 use dataset::check;
 use study::Answer;
 use study::Dataset;
+use study::MAX_TIDES;
 use study::Outcome;
 use study::Refusal;
-use study::MAX_TIDES;
 use study::TABLE_SIZE;
 
 mod head;

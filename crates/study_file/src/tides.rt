@@ -1,12 +1,12 @@
 // The tides of a file, one by one, into memory of Read's own: for each its setting (5) and its row (7). A refusal met there ends the reading.
 use crate::length::bit_length;
-use bit_reader::Field;
+use bit_reader::FieldValue;
 use bit_reader::read_field;
 use study::Answer;
+use study::MAX_TIDES;
 use study::Refusal;
 use triangle::Violation;
 use triangle::first_violation;
-use study::MAX_TIDES;
 ghost use mathlib.Core.Path.{_≡_};
 ghost use Prim.Native.Nat.{_+_, _*_, _^_, _≤_, _<_};
 ghost use lib.ListN.{length};
@@ -28,7 +28,7 @@ fn take_row(file: &[u8], start: usize, matrix: &mut [u32], t: usize) -> Answer
 {
     let mut i: usize = 0;
     while i < t {
-        let Field::Value(x) = read_field(file, start + 20 * i, 20) else {
+        let FieldValue::Value(x) = read_field(file, start + 20 * i, 20) else {
             return Answer::Refused(Refusal::FileLength);
         };
         matrix[t * MAX_TIDES + i] = x;
@@ -69,7 +69,7 @@ fn read_tide(file: &[u8], k: usize, matrix: &mut [u32], vector: &mut [u8], t: us
     ensures { λ r. ⌜ Reading (now (file .entry)) (t + 1) r (now (matrix .exit)) (now (vector .exit)) ⌝ }
 {
     let start = bit_length(k, t);
-    let Field::Value(less) = read_field(file, start, 3) else {
+    let FieldValue::Value(less) = read_field(file, start, 3) else {
         return Answer::Refused(Refusal::FileLength);
     };
     if k <= less as usize {

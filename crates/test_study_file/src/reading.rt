@@ -1,8 +1,8 @@
 // Reading bytes, and writing what was read.
-use study::refusals::number_of;
 use study::Answer;
 use study::Dataset;
 use study::Outcome;
+use study::refusals::number_of;
 use study_file::Written;
 use test_tools::samples::nonsense;
 use test_tools::slices::front;

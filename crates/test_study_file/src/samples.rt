@@ -1,12 +1,12 @@
 // Records, datasets and files to try the calls on.
 use crate::reading::write;
 use study::Dataset;
+use study::MAX_TIDES;
+use study::MAX_WITHDRAWALS;
 use study::Minima;
+use study::TABLE_SIZE;
 use test_tools::samples::entered;
 use test_tools::samples::two_tides;
-use study::MAX_TIDES;
-use study::TABLE_SIZE;
-use study::MAX_WITHDRAWALS;
 
 // Four tides on a line at 0, 3, 7 and 12, with minima that they meet.
 pub fn four_tides(distances: &mut [u32], settings: &mut [u8]) -> Dataset {

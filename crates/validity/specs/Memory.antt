@@ -5,6 +5,8 @@ use mathlib.Core.Bool.{Bool, true, cond, _&&_, _||_}
 use mathlib.Core.List.{List, [], _∷_}
 use lib.Dec.{leb, ltb, eqb}
 use lib.ListN.{length, getD}
+use denote.Ref.{RefT, now}
+use denote.Triple.Both.{Both}
 use Rattle.lists.specs.Lists.{between, each, every, tabulate, overwrite, isEmpty}
 use Rattle.study.specs.Limits.{cell, maxTides, tableSize, maxDistance, maxWithdrawals}
 use Rattle.study.specs.declared.Dataset.{Dataset}
@@ -18,6 +20,18 @@ pub record State : Type 0 where
 
 abbrev pub stateOf : Dataset → List ℕ → List ℕ → State
 stateOf r d s = record { dataset = r; distances = d; settings = s }
+
+-- a lent list of numbers as an `ensures` has it: where the function begins, and where it returns
+abbrev pub Lent : Type 0
+Lent = Both (RefT (List ℕ)) (RefT (List ℕ))
+
+-- a record with the lent memory as it is where the function begins
+abbrev pub entryState : Dataset → Lent → Lent → State
+entryState r d s = stateOf r (now (d .entry)) (now (s .entry))
+
+-- a record with the lent memory as it is where the function returns
+abbrev pub exitState : Dataset → Lent → Lent → State
+exitState r d s = stateOf r (now (d .exit)) (now (s .exit))
 
 -- the memory: 14,400 distances in rows of 120, and 120 setting bytes
 unfoldable pub short : State → Bool
