@@ -51,7 +51,8 @@ pub record Got (s : List ℕ) (at w v : ℕ) : Type 0 where
   pub small : v < 2 ^ w
   pub inside : at + w ≤ 8 * length s
 
-module _ (s : List ℕ) (at w : ℕ) where
+module _ {s : List ℕ} {at w : ℕ} where
+  -- what was read where there was no end
   pub got : {f : FieldValue} {v : ℕ} → f ≡ fieldAt s at w → f ≡ FieldValues.Value v → Got s at w v
   got {f} {v} e q = by (leb (at + w) (8 * length s)) (λ t. leb→le (at + w) (8 * length s) t) (sym q ∙ e)
     where
@@ -59,6 +60,7 @@ module _ (s : List ℕ) (at w : ℕ) where
       by true h p = let i : v ≡ bitsAt s at w = cc in record { is = i; small = subst (λ x. x < 2 ^ w) (sym i) (bitsAt-small s at w); inside = h tt }
       by false h p = absurd (let z : _≡_ {A = ℕ} 0 1 = cc in omega arith)
 
+module _ (s : List ℕ) (at w : ℕ) where
   -- inside the bytes there is no end
   pub no-end : {f : FieldValue} → f ≡ fieldAt s at w → f ≡ FieldValues.End → at + w ≤ 8 * length s → ⊥
   no-end {f} e q h = never (sym q ∙ e ∙ ap (λ b. cond b (FieldValues.Value (bitsAt s at w)) FieldValues.End) (le-leb (at + w) (8 * length s) h))
@@ -66,22 +68,25 @@ module _ (s : List ℕ) (at w : ℕ) where
       never : FieldValues.End ≡ FieldValues.Value (bitsAt s at w) → ⊥
       never p = let z : _≡_ {A = ℕ} 0 1 = cc in omega arith
 
-module _ (s : List ℕ) where
-  start : {r : Start} (f g : FieldValue) → r ≡ startOf f g → f ≡ fieldAt s 0 8 → g ≡ fieldAt s 8 7 → {m n : ℕ} → r ≡ Starts.Fields m n → Got s 0 8 m × Got s 8 7 n
+module _ {s : List ℕ} where
+  start : {r : Start} (f g : FieldValue) → r ≡ startOf f g → f ≡ fieldAt s 0 8 → g ≡ fieldAt s 8 7 → {m n : ℕ} → r ≡ Starts.Fields m n
+      → Got s 0 8 m × Got s 8 7 n
   start (FieldValues.Value x) (FieldValues.Value y) e a b {m} {n} q =
       let i : x ≡ m = cc in
-      let j : y ≡ n = cc in (subst (Got s 0 8) i (got s 0 8 a refl), subst (Got s 8 7) j (got s 8 7 b refl))
+      let j : y ≡ n = cc in (subst (Got s 0 8) i (got a refl), subst (Got s 8 7) j (got b refl))
   start (FieldValues.Value x) FieldValues.End e a b q = absurd (let z : _≡_ {A = ℕ} 0 1 = cc in omega arith)
   start FieldValues.End g e a b q = absurd (let z : _≡_ {A = ℕ} 0 1 = cc in omega arith)
 
+  -- what the two fields hold
   pub got-start : {r : Start} {m n : ℕ} → r ≡ startOf (fieldAt s 0 8) (fieldAt s 8 7) → r ≡ Starts.Fields m n → Got s 0 8 m × Got s 8 7 n
   got-start e q = start (fieldAt s 0 8) (fieldAt s 8 7) e refl refl q
 
-  pub no-end-start : {r : Start} → r ≡ startOf (fieldAt s 0 8) (fieldAt s 8 7) → r ≡ Starts.End → 15 ≤ 8 * length s → ⊥
-  no-end-start {r} e q h =
-      never (sym q ∙ e
-      ∙ ap₂ (λ a b. startOf (cond a (FieldValues.Value (bitsAt s 0 8)) FieldValues.End) (cond b (FieldValues.Value (bitsAt s 8 7)) FieldValues.End))
-      (le-leb 8 (8 * length s) (omega arith)) (le-leb 15 (8 * length s) h))
-    where
-      never : Starts.End ≡ Starts.Fields (bitsAt s 0 8) (bitsAt s 8 7) → ⊥
-      never p = let z : _≡_ {A = ℕ} 0 1 = cc in omega arith
+-- fifteen bits are enough for both
+pub no-end-start : (s : List ℕ) {r : Start} → r ≡ startOf (fieldAt s 0 8) (fieldAt s 8 7) → r ≡ Starts.End → 15 ≤ 8 * length s → ⊥
+no-end-start s {r} e q h =
+    never (sym q ∙ e
+    ∙ ap₂ (λ a b. startOf (cond a (FieldValues.Value (bitsAt s 0 8)) FieldValues.End) (cond b (FieldValues.Value (bitsAt s 8 7)) FieldValues.End))
+    (le-leb 8 (8 * length s) (omega arith)) (le-leb 15 (8 * length s) h))
+  where
+    never : Starts.End ≡ Starts.Fields (bitsAt s 0 8) (bitsAt s 8 7) → ⊥
+    never p = let z : _≡_ {A = ℕ} 0 1 = cc in omega arith

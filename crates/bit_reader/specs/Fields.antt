@@ -10,6 +10,7 @@ use Rattle.bit_reader.specs.declared.FieldValue.the-variants as FieldVal
 use Rattle.bit_reader.specs.declared.Start.{Start}
 use Rattle.bit_reader.specs.declared.Start.the-variants as Starts
 
+-- the number in the w bits at a position, or the end where the bytes stop before
 abbrev pub fieldAt : List ℕ → ℕ → ℕ → FieldValue
 fieldAt s at w = cond (leb (at + w) (8 * length s)) (FieldValues.Value (bitsAt s at w)) FieldValues.End
 
@@ -19,7 +20,7 @@ pub record Askable (at w : ℕ) : Type 0 where
   pub narrow : w ≤ 20
   pub low : at < 2 ^ 63
 
--- the mark and the number of tides
+-- the mark and the number of tides of two fields read; the end where one of them is
 abbrev pub startOf : FieldValue → FieldValue → Start
 startOf (FieldValues.Value m) (FieldValues.Value n) = Starts.Fields m n
 startOf (FieldValues.Value m) FieldValues.End = Starts.End

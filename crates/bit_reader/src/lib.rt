@@ -12,12 +12,13 @@ pub enum FieldValue {
     End,
 }
 
-// The mark and the number of tides.
+// The mark and the number of tides with which a file begins, or the end where the bytes stop before.
 pub enum Start {
     Fields(u32, u32),
     End,
 }
 
+// A byte as a wider number.
 fn wide(x: u8) -> u32
     ensures { λ r. ⌜ (r ≡ x) × (r < 256) ⌝ }
 {
@@ -63,12 +64,14 @@ fn start_of(mark: FieldValue, tides: FieldValue) -> Start
     Start::Fields(m, n)
 }
 
+// Bytes and the position of the next bit in them.
 pub struct BitReader<'a> {
     pub bytes: &'a [u8],
     pub bit: usize,
 }
 
 impl<'a> BitReader<'a> {
+    // A reader at a position.
     pub fn new(bytes: &'a [u8], bit: usize) -> BitReader<'a>
         ensures { λ r. ⌜ (r .bytes ≡ bytes .entry) × (r .bit ≡ bit) ⌝ }
     {
@@ -95,7 +98,7 @@ impl<'a> BitReader<'a> {
     }
 }
 
-// With plain parameters, for callers that the borrow checker covers: the field at a position.
+// The field at a position, with plain parameters, for callers that the borrow checker covers.
 pub fn read_field(bytes: &[u8], at: usize, width: usize) -> FieldValue
     requires { ⌜ Askable at width ⌝ }
     ensures { λ f. ⌜ f ≡ fieldAt (now (bytes .entry)) at width ⌝ }

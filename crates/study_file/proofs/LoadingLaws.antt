@@ -25,7 +25,7 @@ use Rattle.file_format.proofs.BitLaws.{bitsAt-small}
 use Rattle.file_format.proofs.DistanceLaws.{distance-most, rule-T}
 use Rattle.file_format.proofs.DecodedLaws.{decoded-size, decoded-tide, decoded-setting, decoded-length, decoded-row}
 use Rattle.file_format.specs.Head.{Head, Clear}
-use Rattle.file_format.proofs.ReadLaws.{broken, Fits, fits-T, clear-none, accepted-T, refused-five, refused-seven, clear-more}
+use Rattle.file_format.proofs.ReadLaws.{violationsAt, Fits, fits-T, clear-none, accepted-T, refused-five, refused-seven, clear-more}
 use Rattle.validity.specs.Memory.{State, stateOf, studyOf, contentsOf, recordOf, distancesOf, settingsOf, stored}
 use Rattle.validity.specs.Validity.{IsDataset}
 use Rattle.validity.proofs.LayoutLaws.{setting-none, distance-none, stored-is, stored-contents}
@@ -238,7 +238,7 @@ module _ (s : List ℕ) where
           ∙ ap₂ (distance (P (t + 1))) p q
           ∙ part-distance (t + 1) i j (omega arith) (omega arith) (omega arith)
 
-      pairs-laid : violations (cell far) t (cell far t) ≡ broken S t
+      pairs-laid : violations (cell far) t (cell far t) ≡ violationsAt S t
       pairs-laid =
           violations-same (cell far) (distance S) t (cell far t) (distance S t)
           (λ i j a b. distance-laid i j (omega arith) (omega arith)) (λ i a. distance-laid t i (omega arith) (omega arith))
@@ -258,19 +258,19 @@ module _ (s : List ℕ) where
         fits-setting : tide S t .setting ≤ S .k
         fits-setting = omega (arith, decoded-setting s t in-file, decoded-k)
 
-        verdict : verdictOf a ≡ violationVerdict (broken S t)
+        verdict : verdictOf a ≡ violationVerdict (violationsAt S t)
         verdict = found ∙ ap violationVerdict (pairs-laid far e)
 
         pub turn-seven : {why : Refusal} → a ≡ Refused why → firstOf (readReasons s) ≡ refused (numbered why)
         turn-seven q =
-            let w = told-pair (broken S t) verdict q in
+            let w = told-pair (violationsAt S t) verdict q in
             refused-seven s t (L .clear) in-file fits-setting (w .0) ∙ ap refused (w .1)
 
         pub turn-next : a ≡ Done → Loaded s (t + 1) far (set vector t (less + 1))
         turn-next q =
             record {
               head = L .head;
-              clear = clear-more s t (L .clear) in-file fits-setting (told-none (broken S t) verdict q);
+              clear = clear-more s t (L .clear) in-file fits-setting (told-none (violationsAt S t) verdict q);
               far = distances-own (P (t + 1)) matrix far (row-laid far e);
               settings = settings-own (P (t + 1)) vector (set vector t (less + 1)) kinds-laid;
               long = omega (arith, far-length far e, L .long);
