@@ -7,7 +7,7 @@ use mathlib.Core.List.{List, [], _∷_, _++_, map, flatMap, map-append, append-n
 use lib.Dec.{lit≤}
 use lib.ListN.{length, getD, take, drop}
 use lib.Seq.{length-take-le, getD-take}
-use Rattle.lists.specs.Lists.{tabulate}
+use Rattle.lists.specs.Lists.{tabulate, over}
 use Rattle.lists.proofs.Tables.{length-tabulate, getD-tabulate, tabulate-suc, tabulate-is}
 use Rattle.study.specs.Limits.{cell}
 use Rattle.study.specs.declared.Dataset.{Dataset}
@@ -19,7 +19,7 @@ use Rattle.file_format.proofs.RunLaws.{runs-total, values-total}
 use Rattle.file_format.proofs.FileLaws.{bitLength-suc}
 use Rattle.validity.specs.Memory.{State, tideOf, contentsOf, studyOf}
 use Rattle.study_file.proofs.Lengths.{Sum, length-sum, bitLength-up}
-use Rattle.study_file.specs.Writing.{over, Adds}
+use Rattle.study_file.specs.Writing.{Adds}
 use Rattle.study_file.proofs.WritingLaws.{adds-none, adds-then}
 use Rattle.study_file.specs.Putting.{Writable, PutFields, headFields}
 
@@ -183,10 +183,10 @@ parts-put σ s {t} {u} {w} l a b c =
         ap₂ (λ (n : ℕ) (bs : List ℕ). field 8 0x54 ∷ field 7 n ∷ field 4 (r .k) ∷ field 7 (r .minima .b0) ∷ field 16 (r .withdrawn) ∷ (map (field 7) bs ++ tides))
         (sym (length-tabulate (r .n) (tideOf σ))) held
 
-over-none : (s : List ℕ) → s ≡ over s []
-unfolding over packed pack tabulate
+over-none : (s : List ℕ) → s ≡ over (packed []) s
+unfolding packed pack tabulate
 over-none s = refl
 
-pub file-written : (H : Contents) (s : List ℕ) {t : List ℕ} → PutFields s 0 (fields H) t → t ≡ fileOf H ++ drop (length (fileOf H)) s
-unfolding fileOf over
+pub file-written : (H : Contents) (s : List ℕ) {t : List ℕ} → PutFields s 0 (fields H) t → t ≡ over (fileOf H) s
+unfolding fileOf
 file-written H s a = a .next s [] (record { is = over-none s; place = refl; bits = λ p. lit≤ tt; room = omega arith }) .is

@@ -7,6 +7,7 @@ use mathlib.Core.List.{List, [], _++_}
 use lib.Dec.{ltb, lt→ltb}
 use lib.Arith.{le→nltb}
 use lib.ListN.{length, drop}
+use Rattle.lists.specs.Lists.{over}
 use Rattle.lists.proofs.Tests.{T-true, T-false}
 use Rattle.study.specs.declared.Refusal.{Refusal}
 use Rattle.study.specs.declared.Answer.{Answer}
@@ -31,11 +32,11 @@ module _ (σ : State) (file : List ℕ) where
   -- what an answer makes of reply and file
   by-verdict : (v : Verdict) → writeAnswer σ (length file) ≡ v
       → (replied v (length (fileOf (contentsOf σ))) ≡ writeReply σ (length file))
-      × (settled v (fileOf (contentsOf σ) ++ drop (length (fileOf (contentsOf σ))) file) file ≡ writeLeaves σ file)
+      × (settled v (over (fileOf (contentsOf σ)) file) file ≡ writeLeaves σ file)
   unfolding writeReply writeLeaves
   by-verdict v e = (
     ap (λ v. replied v (length (fileOf H))) (sym e),
-    ap (λ v. settled v (fileOf H ++ drop (length (fileOf H)) file) file) (sym e),
+    ap (λ v. settled v (over (fileOf H) file) file) (sym e),
   )
 
   -- short memory, or no dataset

@@ -11,11 +11,12 @@ use lib.Dec.{T, eqb, eqb→eq}
 use lib.ListN.{length, getD, set, drop, length-append, length-drop, length-set, List·getD-append, List·getD-eq-default}
 use lib.Pow.{pow-pos, pow-mono, shl-lt, shl-exact, shr-shr, field, mod-mod-pow}
 use lib.Seq.{getD-append-add, getD-drop, getD-set-same, getD-set-other, ext-getD}
+use Rattle.lists.specs.Lists.{over}
 use Rattle.lists.proofs.Tests.{test, split, cond-yes, cond-no}
 use Rattle.file_format.specs.Bits.{binary, bitsOf, packed, Bits}
 use Rattle.bit_reader.proofs.FieldLaws.{one-moved}
 use Rattle.file_format.proofs.BitLaws.{append-bit, binary-ext, binary-small, binary-zero, binary-split, length-bitsOf, bitsOf-bit, bits-binary, length-pack, pack-at}
-use Rattle.study_file.specs.Writing.{over, Stands, Adds}
+use Rattle.study_file.specs.Writing.{Stands, Adds}
 
 -- the number v in the c bits at p, inside one byte; the first bits of a byte clear it
 unfoldable pub withPart : List ℕ → ℕ → ℕ → ℕ → List ℕ
@@ -51,18 +52,16 @@ module _ (old bs : List ℕ) (room : (length bs + 7) / 8 ≤ length old) where
   unfolding packed
   packed-length = length-pack ((length bs + 7) / 8) (λ p. getD bs p 0)
 
-  over-length : length (over old bs) ≡ length old
-  unfolding over
+  over-length : length (over (packed bs) old) ≡ length old
   over-length = omega (arith, length-append (packed bs) (drop (length (packed bs)) old), length-drop (length (packed bs)) old, packed-length)
 
-  over-new : (i : ℕ) → i < (length bs + 7) / 8 → getD (over old bs) i 0 ≡ binary (λ p. getD bs p 0) (8 * i) 8
-  unfolding over packed
+  over-new : (i : ℕ) → i < (length bs + 7) / 8 → getD (over (packed bs) old) i 0 ≡ binary (λ p. getD bs p 0) (8 * i) 8
+  unfolding packed
   over-new i l =
       List·getD-append (packed bs) (drop (length (packed bs)) old) 0 i (omega (arith, packed-length))
       ∙ pack-at ((length bs + 7) / 8) (λ p. getD bs p 0) i l
 
-  over-old : (i : ℕ) → (length bs + 7) / 8 ≤ i → getD (over old bs) i 0 ≡ getD old i 0
-  unfolding over
+  over-old : (i : ℕ) → (length bs + 7) / 8 ≤ i → getD (over (packed bs) old) i 0 ≡ getD old i 0
   over-old i l =
       let w = packed-length in
       let e : length (packed bs) + (i - length (packed bs)) ≡ i = omega arith in
@@ -72,13 +71,13 @@ module _ (old bs : List ℕ) (room : (length bs + 7) / 8 ≤ length old) where
       ∙ ap (λ x. getD old x 0) e
 
   -- the byte that the next bit goes to, as the next bit finds it
-  byte-found : cond (eqb (length bs % 8) 0) 0 (getD (over old bs) (length bs / 8) 0) ≡ binary (λ p. getD bs p 0) (8 * (length bs / 8)) 8
+  byte-found : cond (eqb (length bs % 8) 0) 0 (getD (over (packed bs) old) (length bs / 8) 0) ≡ binary (λ p. getD bs p 0) (8 * (length bs / 8)) 8
   byte-found =
       ⊎-elim
       (λ t. let e = eqb→eq (length bs % 8) 0 t in
-      cond-yes (eqb (length bs % 8) 0) 0 (getD (over old bs) (length bs / 8) 0) t
+      cond-yes (eqb (length bs % 8) 0) 0 (getD (over (packed bs) old) (length bs / 8) 0) t
       ∙ sym (binary-zero (λ p. getD bs p 0) (8 * (length bs / 8)) 8 (λ j l. List·getD-eq-default bs 0 (omega arith))))
-      (λ t. cond-no (eqb (length bs % 8) 0) 0 (getD (over old bs) (length bs / 8) 0) t
+      (λ t. cond-no (eqb (length bs % 8) 0) 0 (getD (over (packed bs) old) (length bs / 8) 0) t
       ∙ over-new (length bs / 8) (⊎-elim (λ l. absurd (begun (length bs % 8) t (omega arith))) (λ l. omega arith) (split (length bs % 8) 1)))
       (test (eqb (length bs % 8) 0))
     where
@@ -159,36 +158,36 @@ module _ (old bs : List ℕ) (bit : Bits (λ p. getD bs p 0)) (c v : ℕ) (insid
       omega arith
 
   abbrev stored : ℕ
-  stored = (cond (eqb (length bs % 8) 0) 0 (getD (over old bs) (length bs / 8) 0) + v * 2 ^ (8 - length bs % 8 - c)) % 256
+  stored = (cond (eqb (length bs % 8) 0) 0 (getD (over (packed bs) old) (length bs / 8) 0) + v * 2 ^ (8 - length bs % 8 - c)) % 256
 
   stored-is : stored ≡ binary g (8 * q) 8
   stored-is =
       ap (λ y. (y + v * 2 ^ r) % 256) (byte-found old bs room) ∙ ap (λ y. y % 256) byte ∙ mod-eq-of-lt (binary-small g bit′ (8 * q) 8)
 
-  pub put-part : 1 ≤ c → withPart (over old bs) (length bs) c v ≡ over old (bs ++ bitsOf c v)
+  pub put-part : 1 ≤ c → withPart (over (packed bs) old) (length bs) c v ≡ over (packed (bs ++ bitsOf c v)) old
   unfolding withPart
   put-part one =
-      ext-getD 0 (set (over old bs) q stored) (over old cs) (length-set (over old bs) q stored ∙ over-length old bs room ∙ sym (over-length old cs room′))
+      ext-getD 0 (set (over (packed bs) old) q stored) (over (packed cs) old) (length-set (over (packed bs) old) q stored ∙ over-length old bs room ∙ sym (over-length old cs room′))
       (λ i k. ⊎-elim (λ l. lower i l)
-      (λ l. ⊎-elim (λ m. higher i m) (λ m. let e : q ≡ i = omega arith in subst (λ y. getD (set (over old bs) q stored) y 0 ≡ getD (over old cs) y 0) e here) (split q i))
+      (λ l. ⊎-elim (λ m. higher i m) (λ m. let e : q ≡ i = omega arith in subst (λ y. getD (set (over (packed bs) old) q stored) y 0 ≡ getD (over (packed cs) old) y 0) e here) (split q i))
       (split i q))
     where
-      lower : (i : ℕ) → i < q → getD (set (over old bs) q stored) i 0 ≡ getD (over old cs) i 0
+      lower : (i : ℕ) → i < q → getD (set (over (packed bs) old) q stored) i 0 ≡ getD (over (packed cs) old) i 0
       lower i k =
-          getD-set-other (over old bs) q i stored 0 (λ e. omega arith)
+          getD-set-other (over (packed bs) old) q i stored 0 (λ e. omega arith)
           ∙ over-new old bs room i (omega arith)
           ∙ binary-ext f g (8 * i) (8 * i) 8 (λ z o. before (8 * i + z) (omega arith))
           ∙ sym (over-new old cs room′ i (omega (arith, longer)))
 
-      higher : (i : ℕ) → q < i → getD (set (over old bs) q stored) i 0 ≡ getD (over old cs) i 0
+      higher : (i : ℕ) → q < i → getD (set (over (packed bs) old) q stored) i 0 ≡ getD (over (packed cs) old) i 0
       higher i k =
-          getD-set-other (over old bs) q i stored 0 (λ e. omega arith)
+          getD-set-other (over (packed bs) old) q i stored 0 (λ e. omega arith)
           ∙ over-old old bs room i (omega arith)
           ∙ sym (over-old old cs room′ i (omega (arith, longer)))
 
-      here : getD (set (over old bs) q stored) q 0 ≡ getD (over old cs) q 0
+      here : getD (set (over (packed bs) old) q stored) q 0 ≡ getD (over (packed cs) old) q 0
       here =
-          getD-set-same (over old bs) q stored 0 (omega (arith, over-length old bs room))
+          getD-set-same (over (packed bs) old) q stored 0 (omega (arith, over-length old bs room))
           ∙ stored-is
           ∙ sym (over-new old cs room′ q (omega (arith, longer)))
 
@@ -198,7 +197,7 @@ unfolding withPart
 adds-part s at c v one inside small fits =
     record { next = λ old bs st. step old bs (st .is) (st .place) st; same = length-set s (at / 8) _ }
   where
-    step : (old bs : List ℕ) → s ≡ over old bs → at ≡ length bs → Stands old bs s at → Stands old (bs ++ bitsOf c v) (withPart s at c v) (at + length (bitsOf c v))
+    step : (old bs : List ℕ) → s ≡ over (packed bs) old → at ≡ length bs → Stands old bs s at → Stands old (bs ++ bitsOf c v) (withPart s at c v) (at + length (bitsOf c v))
     step old bs e p st =
         let n : length s ≡ length old = ap length e ∙ over-length old bs (st .room) in
         let l : length (bs ++ bitsOf c v) ≡ length bs + length (bitsOf c v) = length-append bs (bitsOf c v) in

@@ -3,16 +3,13 @@
 use Prim.Native.Nat.{ℕ, _+_, _/_, _≤_}
 use mathlib.Core.Path.{_≡_}
 use mathlib.Core.List.{List, _++_}
-use lib.ListN.{length, getD, drop}
+use lib.ListN.{length, getD}
+use Rattle.lists.specs.Lists.{over}
 use Rattle.file_format.specs.Bits.{packed, Bits}
 
--- the bytes that bs fill, over the front of old
-unfoldable pub over : List ℕ → List ℕ → List ℕ
-over old bs = packed bs ++ drop (length (packed bs)) old
-
--- s has the bits bs over the front of old, and the next bit goes to `at`
+-- s has the bytes that the bits bs fill over the front of old, and the next bit goes to `at`
 pub record Stands (old bs s : List ℕ) (at : ℕ) : Type 0 where
-  pub is : s ≡ over old bs
+  pub is : s ≡ over (packed bs) old
   pub place : at ≡ length bs
   pub bits : Bits (λ p. getD bs p 0)
   pub room : (length bs + 7) / 8 ≤ length old

@@ -15,7 +15,7 @@ returns c =
 returns-2 : tie.Need-returns-2
 returns-2 c =
     let args = c .before .before .before .before .before .before .before .before .before .args in
-    tide-five (args .file .now) (args .k) (args .t) (args .matrix .now) (args .vector .now) (c .before .before .before .before .before .before .before .before .before .pre) (c .before .before .before .before .before .bit-length .result) (c .before .before .before .before .before .bit-length .ensures .0) (got (args .file .now) (c .before .before .before .before .before .bit-length .result) 3 (c .before .before .before .before .read-field .ensures) (c .before .before .less .given .1)) (c .if1 .taken)
+    tide-five (args .file .now) (args .k) (args .t) (args .matrix .now) (args .vector .now) (c .before .before .before .before .before .before .before .before .before .pre) (c .before .before .before .before .before .bit-length .result) (c .before .before .before .before .before .bit-length .ensures .0) (got (c .before .before .before .before .read-field .ensures) (c .before .before .less .given .1)) (c .if1 .taken)
 
 read-row-requires : tie.Need-read-row-requires
 read-row-requires c κs =
@@ -26,12 +26,12 @@ read-row-requires c κs =
 returns-3 : tie.Need-returns-3
 returns-3 c =
     let args = c .before .before .before .before .before .before .before .before .before .before .before .before .before .before .before .args in
-    tide-stops (args .file .now) (args .k) (args .t) (args .matrix .now) (args .vector .now) (c .before .before .before .before .before .before .before .before .before .before .before .before .before .before .before .pre) (c .before .before .before .before .before .before .before .before .before .before .before .bit-length .result) (c .before .before .before .before .before .before .before .before .before .before .before .bit-length .ensures .0) (got (args .file .now) (c .before .before .before .before .before .before .before .before .before .before .before .bit-length .result) 3 (c .before .before .before .before .before .before .before .before .before .before .read-field .ensures) (c .before .before .before .before .before .before .before .before .less .given .1)) (c .before .before .before .before .before .before .if1 .left) (c .before .before .before .before .read-row .ensures) (c .enum-told3 .given .1)
+    tide-stops (args .file .now) (args .k) (args .t) (args .matrix .now) (args .vector .now) (c .before .before .before .before .before .before .before .before .before .before .before .before .before .before .before .pre) (c .before .before .before .before .before .before .before .before .before .before .before .bit-length .result) (c .before .before .before .before .before .before .before .before .before .before .before .bit-length .ensures .0) (got (c .before .before .before .before .before .before .before .before .before .before .read-field .ensures) (c .before .before .before .before .before .before .before .before .less .given .1)) (c .before .before .before .before .before .before .if1 .left) (c .before .before .before .before .read-row .ensures) (c .enum-told3 .given .1)
 
 returns-4 : tie.Need-returns-4
 returns-4 c =
     let args = c .before .before .before .before .before .before .before .before .before .before .before .before .before .before .before .args in
-    tide-goes (args .file .now) (args .k) (args .t) (args .matrix .now) (args .vector .now) (c .before .before .before .before .before .before .before .before .before .before .before .before .before .before .before .pre) (c .before .before .before .before .before .before .before .before .before .before .before .bit-length .result) (c .before .before .before .before .before .before .before .before .before .before .before .bit-length .ensures .0) (got (args .file .now) (c .before .before .before .before .before .before .before .before .before .before .before .bit-length .result) 3 (c .before .before .before .before .before .before .before .before .before .before .read-field .ensures) (c .before .before .before .before .before .before .before .before .less .given .1)) (c .before .before .before .before .before .before .if1 .left) (c .before .before .before .before .read-row .ensures) (c .enum-told2 .given .1)
+    tide-goes (args .file .now) (args .k) (args .t) (args .matrix .now) (args .vector .now) (c .before .before .before .before .before .before .before .before .before .before .before .before .before .before .before .pre) (c .before .before .before .before .before .before .before .before .before .before .before .bit-length .result) (c .before .before .before .before .before .before .before .before .before .before .before .bit-length .ensures .0) (got (c .before .before .before .before .before .before .before .before .before .before .read-field .ensures) (c .before .before .before .before .before .before .before .before .less .given .1)) (c .before .before .before .before .before .before .if1 .left) (c .before .before .before .before .read-row .ensures) (c .enum-told2 .given .1)
 
 pub read-tide-spec : {M : Type 1} → statement M
 read-tide-spec =

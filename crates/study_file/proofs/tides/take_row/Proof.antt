@@ -39,7 +39,7 @@ loop-again : tie.Need-loop-again Inv-loop μ-loop
 loop-again c =
     let args = c .before .before .before .before .before .before .before .before .args in
     let turn = c .before .before .before .before .before .loop in
-    (omega arith, row-taken (args .file .now) (args .start) (args .t) (turn .i) (c .before .x .given .0 .0) _ (omega arith) (got (args .file .now) (args .start + 20 * turn .i) 20 (c .before .before .before .read-field .ensures) (c .before .x .given .1)) (turn .inv .1), simp length-set (turn .inv .2))
+    (omega arith, row-taken (args .file .now) (args .start) (args .t) (turn .i) (c .before .x .given .0 .0) _ (omega arith) (got (c .before .before .before .read-field .ensures) (c .before .x .given .1)) (turn .inv .1), simp length-set (turn .inv .2))
 
 same-length-2 : tie.Need-same-length-2 Inv-loop μ-loop
 same-length-2 c = c .before .loop .inv .2
