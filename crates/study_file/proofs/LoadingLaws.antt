@@ -39,12 +39,12 @@ use Rattle.study_file.specs.Loading.{part, Loaded, Reading, violationVer
 not-refused : {why : Refusal} → Done ≡ Refused why → ⊥
 not-refused e = let z : _≡_ {A = ℕ} 0 1 = cc in omega arith
 
-pub reached : (s : List ℕ) (t : ℕ) (matrix vector : List ℕ) → Loaded s t matrix vector → Reading s t Done matrix vector
-reached s t matrix vector L = record { goes = λ _. L; stops = λ why e. absurd (not-refused e) }
+pub reached : {s : List ℕ} {t : ℕ} {matrix vector : List ℕ} → Loaded s t matrix vector → Reading s t Done matrix vector
+reached L = record { goes = λ _. L; stops = λ why e. absurd (not-refused e) }
 
-pub stopped : (s : List ℕ) (t : ℕ) (matrix vector : List ℕ) {a : Answer} {why : Refusal} → a ≡ Refused why → firstOf (readReasons s) ≡ refused (numbered why)
-    → Reading s t a matrix vector
-stopped s t matrix vector {a} {why} e f =
+pub stopped : {s : List ℕ} {t : ℕ} {matrix vector : List ℕ} {a : Answer} {why : Refusal} → a ≡ Refused why
+    → firstOf (readReasons s) ≡ refused (numbered why) → Reading s t a matrix vector
+stopped {why = why} e f =
     record { goes = λ q. absurd (not-refused (sym q ∙ e)); stops = λ x q. f ∙ ap refused (ap numbered (same x (sym e ∙ q))) }
   where
     same : (x : Refusal) → Refused why ≡ Refused x → why ≡ x
@@ -57,7 +57,8 @@ told-none (p ∷ ps) {a} e q = absurd (never (sym (ap verdictOf q) ∙ e))
     never : accepted ≡ refused (firstViolation (p ∷ ps)) → ⊥
     never z = let z : _≡_ {A = ℕ} 0 1 = cc in omega arith
 
-told-pair : (ps : List Pair) {a : Answer} {why : Refusal} → verdictOf a ≡ violationVerdict ps → a ≡ Refused why → T (not (isEmpty ps)) × (firstViolation ps ≡ numbered why)
+told-pair : (ps : List Pair) {a : Answer} {why : Refusal} → verdictOf a ≡ violationVerdict ps → a ≡ Refused why
+    → T (not (isEmpty ps)) × (firstViolation ps ≡ numbered why)
 told-pair [] {a} {why} e q = absurd (never (sym (ap verdictOf q) ∙ e))
   where
     never : refused (numbered why) ≡ accepted → ⊥
@@ -169,14 +170,15 @@ module _ (s : List ℕ) where
   abbrev recordAt : ℕ → Dataset
   recordAt t = record { k = bitsAt s 15 4; n = t; minima = minimaAt s (bitsAt s 15 4); withdrawn = bitsAt s 26 16 }
 
-  module _ (t : ℕ) (few : t ≤ n) (matrix vector : List ℕ) (L : Loaded s t matrix vector) where
-    abbrev σ : State
-    σ = stateOf (recordAt t) matrix vector
+  -- memory with t tides
+  abbrev σ : ℕ → List ℕ → List ℕ → State
+  σ t matrix vector = stateOf (recordAt t) matrix vector
 
+  module _ (t : ℕ) (few : t ≤ n) (matrix vector : List ℕ) (L : Loaded s t matrix vector) where
     valid : ValidContents (part s t)
     valid = part-valid t few (L .head) (L .clear)
 
-    laid : stored (part s t) σ ≡ σ
+    laid : stored (part s t) (σ t matrix vector) ≡ σ t matrix vector
     unfolding stored recordOf part
     laid =
         λ i. record {
@@ -185,12 +187,12 @@ module _ (s : List ℕ) where
           settings = sym (L .settings) i;
         }
 
-    is-dataset : IsDataset σ
-    is-dataset = subst IsDataset laid (stored-is (part s t) valid σ)
+    is-dataset : IsDataset (σ t matrix vector)
+    is-dataset = subst IsDataset laid (stored-is (part s t) valid (σ t matrix vector))
 
-    study-is : studyOf σ ≡ P t
+    study-is : studyOf (σ t matrix vector) ≡ P t
     unfolding contentsOf
-    study-is = ap (λ (H : Contents). H .study) (ap contentsOf (sym laid) ∙ stored-contents (part s t) valid σ)
+    study-is = ap (λ (H : Contents). H .study) (ap contentsOf (sym laid) ∙ stored-contents (part s t) valid (σ t matrix vector))
 
   -- ---- one tide more
 
@@ -219,14 +221,21 @@ module _ (s : List ℕ) where
     in-file : t < size S
     in-file = omega (arith, decoded-size s)
 
+    -- memory holds t tides, and entering tide t makes it t + 1
+    so-far : IsDataset (σ t matrix vector)
+    so-far = is-dataset t (omega arith) matrix vector L
+
+    entered-part : (x : ℕ) → x ≡ tideAt s k t .setting → entered x (row t) (studyOf (σ t matrix vector)) ≡ P (t + 1)
+    entered-part x e = ap (entered x (row t)) (study-is t (omega arith) matrix vector L) ∙ next-part t x e
+
     -- the row and the column of tide t
     module _ (far : List ℕ) (e : far ≡ withRow (tideAt s (bitsAt s 15 4) t .row) t matrix) where
       row-laid : far ≡ distancesOf (P (t + 1)) matrix
       row-laid =
-          let σ = stateOf (recordAt t) matrix vector in
+          let x = tideAt s k t .setting in
           e ∙ ap (λ m. withRow (row t) m matrix) (sym (row-length t))
-          ∙ entered-distances σ (is-dataset t (omega arith) matrix vector L) (tideAt s k t .setting) (row t) (row-length t) below (L .long)
-          ∙ ap (λ (Q : Study). distancesOf Q matrix) (ap (entered (tideAt s k t .setting) (row t)) (study-is t (omega arith) matrix vector L) ∙ next-part t (tideAt s k t .setting) refl)
+          ∙ entered-distances (σ t matrix vector) so-far x (row t) (row-length t) below (L .long)
+          ∙ ap (λ (Q : Study). distancesOf Q matrix) (entered-part x refl)
 
       distance-laid : (i j : ℕ) → i ≤ t → j ≤ t → cell far i j ≡ distance S i j
       unfolding distancesOf
@@ -282,9 +291,8 @@ module _ (s : List ℕ) where
 
             kinds-laid : set vector t (less + 1) ≡ settingsOf (P (t + 1)) vector
             kinds-laid =
-                let σ = stateOf (recordAt t) matrix vector in
-                entered-settings σ (is-dataset t (omega arith) matrix vector L) (less + 1) (row t) (row-length t) below (L .enough)
-                ∙ ap (λ (Q : Study). settingsOf Q vector) (ap (entered (less + 1) (row t)) (study-is t (omega arith) matrix vector L) ∙ next-part t (less + 1) x-is)
+                entered-settings (σ t matrix vector) so-far (less + 1) (row t) (row-length t) below (L .enough)
+                ∙ ap (λ (Q : Study). settingsOf Q vector) (entered-part (less + 1) x-is)
 
   -- ---- the start and the end
 

@@ -5,7 +5,7 @@ use mathlib.Core.Logic.{_⊎_, ⊎-elim}
 use mathlib.Core.Bool.{cond}
 use mathlib.Core.List.{List}
 use lib.ListN.{length, getD, replicate, length-replicate, getD-replicate, List·getD-eq-default}
-use Rattle.lists.specs.Lists.{overwrite}
+use Rattle.lists.specs.Lists.{at, overwrite}
 use Rattle.lists.proofs.Tests.{split}
 use Rattle.study.specs.declared.Dataset.{Dataset}
 use Rattle.study.specs.declared.Refusal.{Refusal}
@@ -43,9 +43,9 @@ module _ (s : List ℕ) {a : Answer} (verdict : verdictOf a ≡ firstOf (headRea
   pub head-passed : Head s
   head-passed = head-T s .0 (sym verdict ∙ ap verdictOf q)
 
-  pub tides-begin : {r : Dataset} → r ≡ recordOf (decoded s) → (matrix vector : List ℕ) → matrix ≡ replicate 14400 0 → vector ≡ replicate 120 0
+  pub tides-begin : {r : Dataset} → r ≡ recordOf (decoded s) → {matrix vector : List ℕ} → matrix ≡ replicate 14400 0 → vector ≡ replicate 120 0
       → (r .k ≡ bitsAt s 15 4) × (r .n ≡ bitsAt s 8 7) × Loaded s 0 matrix vector
-  tides-begin e matrix vector x y = (
+  tides-begin e {matrix} {vector} x y = (
     kinds-is s e,
     count-is s e,
     loaded-none s matrix vector head-passed (sym verdict ∙ ap verdictOf q)
@@ -79,15 +79,15 @@ module _ (σ : State) (file : List ℕ) where
     read-head {a} {why} e q = refuses q (refused-head file (sym e ∙ ap verdictOf q))
 
     -- while a tide is read
-    pub read-tide : {a : Answer} {why : Refusal} (n : ℕ) (x y : List ℕ) → Reading file n a x y → a ≡ Refused why
+    pub read-tide : {a : Answer} {why : Refusal} {n : ℕ} {x y : List ℕ} → Reading file n a x y → a ≡ Refused why
         → (verdictOf a ≡ readAnswer σ file) × (σ ≡ readLeaves σ file)
-    read-tide {a} {why} n x y r q = refuses q (r .stops why q)
+    read-tide {why = why} r q = refuses q (r .stops why q)
 
-    pub read-done : {a : Answer} {r : Dataset} (x y : List ℕ) {d g : List ℕ} → Reading file (r .n) a x y → a ≡ Done → r ≡ recordOf (decoded file)
-        → d ≡ overwrite 14400 (λ (p : ℕ). getD x p 0) (σ .distances) → g ≡ overwrite 120 (λ (i : ℕ). getD y i 0) (σ .settings)
+    pub read-done : {a : Answer} {r : Dataset} {x y d g : List ℕ} → Reading file (r .n) a x y → a ≡ Done → r ≡ recordOf (decoded file)
+        → d ≡ overwrite 14400 (at x) (σ .distances) → g ≡ overwrite 120 (at y) (σ .settings)
         → (verdictOf a ≡ readAnswer σ file) × (stateOf r d g ≡ readLeaves σ file)
     unfolding stored
-    read-done {a} {r} x y {d} {g} t q e f h =
+    read-done {r = r} {x} {y} t q e f h =
         let count : r .n ≡ bitsAt file 8 7 = count-is file e in
         let L : Loaded file (bitsAt file 8 7) x y = subst (λ n. Loaded file n x y) count (t .goes q) in
         let w = by-verdict accepted (own ∙ loaded-accepted file x y L) in (

@@ -1,4 +1,4 @@
--- `read` meets its contract: one law for each way out. Assumes nothing.
+-- `read` meets its contract: what refuses leaves record and memory as they are, and each way out has one law. Assumes nothing.
 use Rattle.study_file.proofs.ReadCallLaws.{head-passed, tides-begin, read-short, read-head, read-tide, read-done}
 use Rattle.validity.specs.Memory.{stateOf}
 use mathlib.Core.Logic.{inl, inr}
@@ -19,24 +19,45 @@ returns-2 c =
 
 returns-3 : tie.Need-returns-3
 returns-3 c =
-    let args = c .before .before .before .before .before .before .before .before .args in
-    read-head (stateOf (args .dataset) (args .distances .now) (args .settings .now)) (args .file .now) (c .before .before .before .before .if1 .left) (c .before .before .before .if2 .left) (c .before .before .head-answer .ensures) (c .enum-told2 .given .1)
+    let at-head = c .before .before in
+    let after-lengths = at-head .before in
+    let args = after-lengths .before .before .before .before .before .args in
+    let σ = stateOf (args .dataset) (args .distances .now) (args .settings .now) in
+    read-head σ (args .file .now) (after-lengths .before .if1 .left) (after-lengths .if2 .left) (at-head .head-answer .ensures) (c .enum-told2 .given .1)
 
 record-of-requires : tie.Need-record-of-requires
-record-of-requires c κs = head-passed (c .before .before .before .before .before .before .before .before .args .file .now) (c .before .before .head-answer .ensures) (c .enum-told .given .1)
+record-of-requires c κs =
+    let at-head = c .before .before in
+    let args = at-head .before .before .before .before .before .before .args in
+    head-passed (args .file .now) (at-head .head-answer .ensures) (c .enum-told .given .1)
 
 read-tides-requires : tie.Need-read-tides-requires
-read-tides-requires c κs = tides-begin (c .before .before .before .before .before .before .before .before .before .before .before .before .args .file .now) (c .before .before .before .before .before .before .head-answer .ensures) (c .before .before .before .before .enum-told .given .1) (c .before .before .before .record-of .ensures) _ _ refl refl
+read-tides-requires c κs =
+    let at-record = c .before .before .before in
+    let at-head = at-record .before .before .before in
+    let args = at-head .before .before .before .before .before .before .args in
+    tides-begin (args .file .now) (at-head .head-answer .ensures) (at-record .before .enum-told .given .1) (at-record .record-of .ensures) refl refl
 
 returns-4 : tie.Need-returns-4
 returns-4 c =
-    let args = c .before .before .before .before .before .before .before .before .before .before .before .before .before .before .before .before .before .args in
-    read-tide (stateOf (args .dataset) (args .distances .now) (args .settings .now)) (args .file .now) (c .before .before .before .before .before .before .before .before .before .before .before .before .before .if1 .left) (c .before .before .before .before .before .before .before .before .before .before .before .before .if2 .left) _ _ _ (c .before .before .before .before .read-tides .ensures) (c .enum-told4 .given .1)
+    let at-tides = c .before .before .before .before in
+    let after-lengths = at-tides .before .before .before .before .before .before .before .before in
+    let args = after-lengths .before .before .before .before .before .args in
+    let σ = stateOf (args .dataset) (args .distances .now) (args .settings .now) in
+    read-tide σ (args .file .now) (after-lengths .before .if1 .left) (after-lengths .if2 .left) (at-tides .read-tides .ensures) (c .enum-told4 .given .1)
 
 returns-5 : tie.Need-returns-5
 returns-5 c =
-    let args = c .before .before .before .before .before .before .before .before .before .before .before .before .before .before .before .before .before .before .before .before .before .before .before .before .before .before .before .args in
-    read-done (stateOf (args .dataset) (args .distances .now) (args .settings .now)) (args .file .now) (c .before .before .before .before .before .before .before .before .before .before .before .before .before .before .before .before .before .before .before .before .before .before .before .if1 .left) (c .before .before .before .before .before .before .before .before .before .before .before .before .before .before .before .before .before .before .before .before .before .before .if2 .left) _ _ (c .before .before .before .before .before .before .before .before .before .before .before .before .before .before .read-tides .ensures) (c .before .before .before .before .before .before .before .before .before .before .enum-told3 .given .1) (c .before .before .before .before .before .before .before .before .before .before .before .before .before .before .before .before .before .before .record-of .ensures) (c .before .before .before .before .before .before .before .copy-distances .ensures) (c .before .before .copy-settings .ensures)
+    let at-settings = c .before .before in
+    let at-distances = at-settings .before .before .before .before .before in
+    let after-tides = at-distances .before .before .before in
+    let at-tides = after-tides .before .before .before .before in
+    let at-record = at-tides .before .before .before .before in
+    let after-lengths = at-record .before .before .before .before in
+    let args = after-lengths .before .before .before .before .before .args in
+    let σ = stateOf (args .dataset) (args .distances .now) (args .settings .now) in
+    read-done σ (args .file .now) (after-lengths .before .if1 .left) (after-lengths .if2 .left) (at-tides .read-tides .ensures)
+    (after-tides .enum-told3 .given .1) (at-record .record-of .ensures) (at-distances .copy-distances .ensures) (at-settings .copy-settings .ensures)
 
 pub read-spec : {M : Type 1} → statement M
 read-spec =
