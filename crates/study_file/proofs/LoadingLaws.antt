@@ -22,7 +22,7 @@ use Rattle.study.specs.Theorems.{ValidContents}
 use Rattle.file_format.specs.Bits.{bitsAt}
 use Rattle.file_format.specs.File.{bitLength, tideAt, minimaAt, decoded, headReasons, readReasons}
 use Rattle.file_format.proofs.BitLaws.{bitsAt-small}
-use Rattle.file_format.proofs.DistanceLaws.{distance-most, rule-T}
+use Rattle.file_format.proofs.AcceptedLaws.{contents-valid}
 use Rattle.file_format.proofs.DecodedLaws.{decoded-size, decoded-tide, decoded-setting, decoded-length, decoded-row}
 use Rattle.file_format.specs.Head.{Head, Clear}
 use Rattle.file_format.proofs.ReadLaws.{violationsAt, Fits, fits-T, clear-none, accepted-T, refused-five, refused-seven, clear-more}
@@ -144,20 +144,16 @@ module _ (s : List ℕ) where
     part-valid : ValidContents (part s t)
     unfolding part
     part-valid =
+        contents-valid s (tabulate t (tideAt s k)) head (omega (arith, part-size t, head .few)) (λ u l.
         record {
-          study = record {
-            k-low = head .k-low;
-            k-high = head .k-high;
-            few = omega (arith, part-size t, head .few);
-            minima = head .minima;
-            setting-low = λ u l. subst (λ (x : Tide). 1 ≤ x .setting) (same u l) (fits u l .low);
-            setting-high = λ u l. subst (λ (x : Tide). x .setting ≤ k) (same u l) (high u l);
-            row-length = λ u l. subst (λ (x : Tide). length (x .row) ≡ u) (same u l) (decoded-length s u (inside u l));
-            distance-high = distance-most (P t) 1048575 (λ u i l m. subst (λ (x : Tide). getD (x .row) i 0 ≤ 1048575) (same u l) (small u i l m));
-            triangle = rule-T (P t) .1 obeyed;
+          fits = record {
+            low = subst (λ (x : Tide). 1 ≤ x .setting) (same u l) (fits u l .low);
+            high = subst (λ (x : Tide). x .setting ≤ k) (same u l) (high u l);
+            obeyed = obeyed u l;
           };
-          counted = omega (arith, bitsAt-small s 26 16);
-        }
+          long = subst (λ (x : Tide). length (x .row) ≡ u) (same u l) (decoded-length s u (inside u l));
+          small = λ i m. subst (λ (x : Tide). getD (x .row) i 0 ≤ 1048575) (same u l) (small u i l m);
+        })
       where
         high : (u : ℕ) → u < size (P t) → tide S u .setting ≤ k
         high u l = subst (λ z. tide S u .setting ≤ z) decoded-k (fits u l .high)

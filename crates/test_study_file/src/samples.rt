@@ -28,7 +28,7 @@ pub fn four_tides(distances: &mut [u32], settings: &mut [u8]) -> Dataset {
 // 120 tides, the greatest k and the greatest count.
 pub fn full_record() -> Dataset {
     let minima = Minima {
-        b0: MAX_TIDES,
+        b0: MAX_TIDES as u8,
         b: [15; 8],
     };
     Dataset {
@@ -45,6 +45,7 @@ fn position(i: usize) -> u32 {
     at as u32
 }
 
+// The distance of two positions.
 fn gap(a: u32, b: u32) -> u32 {
     if a < b {
         return b - a;

@@ -31,21 +31,17 @@ returns-3 : tie.Need-returns-3
 returns-3 c =
     let at-row = c .before .before .before .before in
     let at-setting = at-row .before .before .before .before in
-    let at-start = at-setting .before .before .before in
-    let entry = at-start .before .before .before .before in
-    tide-stops (at-tide (entry .pre) (at-start .bit-length .ensures .0))
-    (got (at-setting .before .before .read-field .ensures) (at-setting .less .given .1))
-    (at-row .before .before .if1 .left) (at-row .read-row .ensures) (c .enum-told3 .given .1)
+    let here = at-tide (at-setting .before .before .before .before .before .before .before .pre) (at-setting .before .before .before .bit-length .ensures .0) in
+    let setting = got (at-setting .before .before .read-field .ensures) (at-setting .less .given .1) in
+    tide-stops here setting (at-row .before .before .if1 .left) (at-row .read-row .ensures) (c .enum-told3 .given .1)
 
 returns-4 : tie.Need-returns-4
 returns-4 c =
     let at-row = c .before .before .before .before in
     let at-setting = at-row .before .before .before .before in
-    let at-start = at-setting .before .before .before in
-    let entry = at-start .before .before .before .before in
-    tide-goes (at-tide (entry .pre) (at-start .bit-length .ensures .0))
-    (got (at-setting .before .before .read-field .ensures) (at-setting .less .given .1))
-    (at-row .before .before .if1 .left) (at-row .read-row .ensures) (c .enum-told2 .given .1)
+    let here = at-tide (at-setting .before .before .before .before .before .before .before .pre) (at-setting .before .before .before .bit-length .ensures .0) in
+    let setting = got (at-setting .before .before .read-field .ensures) (at-setting .less .given .1) in
+    tide-goes here setting (at-row .before .before .if1 .left) (at-row .read-row .ensures) (c .enum-told2 .given .1)
 
 pub read-tide-spec : {M : Type 1} → statement M
 read-tide-spec =
