@@ -5,13 +5,14 @@ use mathlib.Core.List.{List}
 use lib.Dec.{leb}
 use lib.ListN.{length}
 use Rattle.file_format.specs.Bits.{bitsAt}
-use Rattle.bit_reader.specs.declared.Field.{Field}
-use Rattle.bit_reader.specs.declared.Field.the-variants as Read
+use Rattle.bit_reader.specs.declared.FieldValue.{FieldValue}
+use Rattle.bit_reader.specs.declared.FieldValue.the-variants as FieldValues
 use Rattle.bit_reader.specs.declared.Start.{Start}
-use Rattle.bit_reader.specs.declared.Start.the-variants as Begin
+use Rattle.bit_reader.specs.declared.Start.the-variants as Starts
 
-abbrev pub fieldAt : List ℕ → ℕ → ℕ → Field
-fieldAt s at w = cond (leb (at + w) (8 * length s)) (Read.Value (bitsAt s at w)) Read.End
+-- the number in the w bits at a position, or the end where the bytes stop before
+abbrev pub fieldAt : List ℕ → ℕ → ℕ → FieldValue
+fieldAt s at w = cond (leb (at + w) (8 * length s)) (FieldValues.Value (bitsAt s at w)) FieldValues.End
 
 -- a field that can be asked for: its width is that of a field of the file, and its position fits a word
 pub record Askable (at w : ℕ) : Type 0 where
@@ -19,8 +20,8 @@ pub record Askable (at w : ℕ) : Type 0 where
   pub narrow : w ≤ 20
   pub low : at < 2 ^ 63
 
--- the mark and the number of tides
-abbrev pub startOf : Field → Field → Start
-startOf (Read.Value m) (Read.Value n) = Begin.Fields m n
-startOf (Read.Value m) Read.End = Begin.End
-startOf Read.End f = Begin.End
+-- the mark and the number of tides of two fields read; the end where one of them is
+abbrev pub startOf : FieldValue → FieldValue → Start
+startOf (FieldValues.Value m) (FieldValues.Value n) = Starts.Fields m n
+startOf (FieldValues.Value m) FieldValues.End = Starts.End
+startOf FieldValues.End f = Starts.End

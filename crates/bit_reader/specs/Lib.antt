@@ -1,2 +1,2 @@
--- Fields, to be read; the laws of it are under proofs/.
+-- Fields: what a read field is, for the contracts here and above; its laws are under proofs/.
 pub mod Fields

@@ -7,17 +7,18 @@ ghost use denote.Ref.{now};
 ghost use Rattle.bit_reader.specs.Fields.{fieldAt, Askable, startOf};
 
 // A field's value, or the end where the bytes stop before.
-pub enum Field {
+pub enum FieldValue {
     Value(u32),
     End,
 }
 
-// The mark and the number of tides.
+// The mark and the number of tides with which a file begins, or the end where the bytes stop before.
 pub enum Start {
     Fields(u32, u32),
     End,
 }
 
+// A byte as a wider number.
 fn wide(x: u8) -> u32
     ensures { λ r. ⌜ (r ≡ x) × (r < 256) ⌝ }
 {
@@ -35,40 +36,42 @@ fn byte_at(bytes: &[u8], i: usize) -> u32
 }
 
 // The field of `width` bits at a position, most significant bit first, cut out of the four bytes that it can stand in.
-pub fn field_at(bytes: &[u8], at: usize, width: usize) -> Field
+pub fn field_at(bytes: &[u8], at: usize, width: usize) -> FieldValue
     requires { ⌜ Askable at width ⌝ }
     ensures { λ r. ⌜ r ≡ fieldAt (now (bytes .entry)) at width ⌝ }
 {
     if bytes.len() < (at + width + 7) / 8 {
-        return Field::End;
+        return FieldValue::End;
     }
     let i = at / 8;
     let high = wide(bytes[i]) * 16777216 + byte_at(bytes, i + 1) * 65536;
     let low = byte_at(bytes, i + 2) * 256 + byte_at(bytes, i + 3);
     let rest = (32 - at % 8 - width) as u32;
     let w = width as u32;
-    Field::Value(((high + low) >> rest) % (1 << w))
+    FieldValue::Value(((high + low) >> rest) % (1 << w))
 }
 
 // What two fields say together.
-fn start_of(mark: Field, tides: Field) -> Start
+fn start_of(mark: FieldValue, tides: FieldValue) -> Start
     ensures { λ r. ⌜ r ≡ startOf mark tides ⌝ }
 {
-    let Field::Value(m) = mark else {
+    let FieldValue::Value(m) = mark else {
         return Start::End;
     };
-    let Field::Value(n) = tides else {
+    let FieldValue::Value(n) = tides else {
         return Start::End;
     };
     Start::Fields(m, n)
 }
 
+// Bytes and the position of the next bit in them.
 pub struct BitReader<'a> {
     pub bytes: &'a [u8],
     pub bit: usize,
 }
 
 impl<'a> BitReader<'a> {
+    // A reader at a position.
     pub fn new(bytes: &'a [u8], bit: usize) -> BitReader<'a>
         ensures { λ r. ⌜ (r .bytes ≡ bytes .entry) × (r .bit ≡ bit) ⌝ }
     {
@@ -76,7 +79,7 @@ impl<'a> BitReader<'a> {
     }
 
     // The field at the reader's position.
-    pub fn take(self, width: usize) -> Field
+    pub fn take(self, width: usize) -> FieldValue
         requires { ⌜ Askable (self .bit) width ⌝ }
         ensures { λ f. ⌜ f ≡ fieldAt (now (self .entry .bytes)) (self .entry .bit) width ⌝ }
     {
@@ -95,8 +98,8 @@ impl<'a> BitReader<'a> {
     }
 }
 
-// With plain parameters, for callers that the borrow checker covers: the field at a position.
-pub fn read_field(bytes: &[u8], at: usize, width: usize) -> Field
+// The field at a position, with plain parameters, for callers that the borrow checker covers.
+pub fn read_field(bytes: &[u8], at: usize, width: usize) -> FieldValue
     requires { ⌜ Askable at width ⌝ }
     ensures { λ f. ⌜ f ≡ fieldAt (now (bytes .entry)) at width ⌝ }
 {

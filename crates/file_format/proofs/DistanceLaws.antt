@@ -28,7 +28,7 @@ module _ (S : Study) where
       (λ m. let e : t ≡ u = omega arith in subst (λ z. distance S t z ≤ b) e (omega (arith, distance-itself S t))) (split u t))
       (split t u)
 
-  -- the rule holds exactly when no tide breaks it with two tides before it
+  -- the rule holds exactly when no pair of earlier tides violates it with any tide
   pub rule-T : TriangleInequality S ↔ ((t : ℕ) → t < size S → T (isEmpty (violations (distance S) t (distance S t))))
   rule-T =
       let turn = distance-both-ways S in (

@@ -68,7 +68,8 @@ module _ (H : Contents) (shaped : Shaped H) where
   pub fields-total : total (fields H) ≡ bitLength (H .study .k) (size (H .study))
   unfolding fields
   fields-total =
-      omega (arith, total-append (map (field 7) first) (flatMap tideFields (S .tides)), tides-begin, runs-total tideFields noTide (bitLength (S .k)) (S .tides) begins)
+      let of-tides = runs-total tideFields noTide (bitLength (S .k)) (S .tides) begins in
+      omega (arith, total-append (map (field 7) first) (flatMap tideFields (S .tides)), tides-begin, of-tides)
 
   minima : (g : ℕ → ℕ → ℕ) → Agrees g 42 (map (field 7) first) ↔ ((j : ℕ) → j < S .k → g (42 + 7 * j) 7 ≡ getD (S .minima .b) j 0)
   minima g =

@@ -71,15 +71,15 @@ head-T s = (
     fill : ℕ
     fill = bitsAt s (bitLength k n) (8 * length s - bitLength k n)
 
--- the pairs of earlier tides with which tide t breaks the triangle rule
-abbrev pub broken : Study → ℕ → List Pair
-broken S t = violations (distance S) t (distance S t)
+-- the pairs of earlier tides that violate the triangle inequality with tide t
+abbrev pub violationsAt : Study → ℕ → List Pair
+violationsAt S t = violations (distance S) t (distance S t)
 
 -- none of tide t holds
 pub record Fits (S : Study) (t : ℕ) : Type 0 where
   pub low : 1 ≤ tide S t .setting
   pub high : tide S t .setting ≤ S .k
-  pub obeyed : T (isEmpty (broken S t))
+  pub obeyed : T (isEmpty (violationsAt S t))
 
 pub fits-T : (S : Study) (t : ℕ) → (firstOf (tideReasons S t) ≡ accepted) ↔ Fits S t
 unfolding tideReasons
@@ -88,8 +88,8 @@ fits-T S t =
     let both = between-T 1 (S .k) (tide S t .setting) in (
       λ e. let h = none-holds (tideReasons S t) e in
           let b = both .0 (not-not set (h .0)) in
-          record { low = b .0; high = b .1; obeyed = not-not (isEmpty (broken S t)) (h .1 .0) },
-      λ f. holds-none (tideReasons S t) (not-not-of set (both .1 (f .low, f .high)), (not-not-of (isEmpty (broken S t)) (f .obeyed), tt)),
+          record { low = b .0; high = b .1; obeyed = not-not (isEmpty (violationsAt S t)) (h .1 .0) },
+      λ f. holds-none (tideReasons S t) (not-not-of set (both .1 (f .low, f .high)), (not-not-of (isEmpty (violationsAt S t)) (f .obeyed), tt)),
     )
 
 -- ---- the whole list
@@ -137,12 +137,12 @@ module _ (s : List ℕ) where
     unfolding tideReasons
     refused-five h = refused-tide (refused-at (tideReasons S t) 0 tt (not-T set? (λ x. omega (arith, between-T 1 (S .k) (tide S t .setting) .0 x))))
 
-    pub refused-seven : tide (decoded s .study) t .setting ≤ decoded s .study .k → T (not (isEmpty (broken (decoded s .study) t)))
-        → firstOf (readReasons s) ≡ refused (firstViolation (broken (decoded s .study) t))
+    pub refused-seven : tide (decoded s .study) t .setting ≤ decoded s .study .k → T (not (isEmpty (violationsAt (decoded s .study) t)))
+        → firstOf (readReasons s) ≡ refused (firstViolation (violationsAt (decoded s .study) t))
     unfolding tideReasons
     refused-seven h b = refused-tide (refused-at (tideReasons S t) 1 (not-not-of set? (set h), tt) b)
 
-    pub clear-more : tide (decoded s .study) t .setting ≤ decoded s .study .k → T (isEmpty (broken (decoded s .study) t)) → Clear s (t + 1)
+    pub clear-more : tide (decoded s .study) t .setting ≤ decoded s .study .k → T (isEmpty (violationsAt (decoded s .study) t)) → Clear s (t + 1)
     clear-more h b =
         let e = fits-T S t .1 (record { low = omega (arith, decoded-setting s t held); high = h; obeyed = b }) in
         record {

@@ -21,18 +21,21 @@ bitsAt s at w = binary (bitAt s) at w
 
 -- ---- writing: fields, bits, bytes
 
+-- a field of a file: how many bits it has, and the number in them
 pub record Field : Type 0 where
   pub width : ℕ
   pub value : ℕ
 
+-- the field of w bits that holds v
 abbrev pub field : ℕ → ℕ → Field
 field w v = record { width = w; value = v }
 
--- the w bits of v
+-- the w bits of v, most significant first
 abbrev pub bitsOf : ℕ → ℕ → List ℕ
 bitsOf zero v = []
 bitsOf (suc w) v = bitsOf w (v / 2) ++ (v % 2 ∷ [])
 
+-- the bits of fields, one field after the other
 unfoldable pub allBits : List Field → List ℕ
 allBits fs = flatMap (λ (f : Field). bitsOf (f .width) (f .value)) fs
 

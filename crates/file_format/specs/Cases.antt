@@ -41,6 +41,7 @@ fresh S = record { study = S; withdrawals = 0 }
 
 -- ---- questions and replies
 
+-- what a worked case asks
 pub data Question : Type 0 where
   -- Block, lent a list and records of n places
   block-of : Study → Question
@@ -54,6 +55,7 @@ pub data Question : Type 0 where
   write : Contents → Question
   read : List ℕ → Question
 
+-- what it gets, where nothing refuses it
 pub data CaseValue : Type 0 where
   -- Block's figures, list and records
   blocked : Figures → List ℕ → List BlockRecord → CaseValue
@@ -74,10 +76,12 @@ reply (enter S setting row) = replied (firstOf (enterReasons S setting row)) (ho
 reply (write H) = value (file (fileOf H))
 reply (read s) = replied (firstOf (readReasons s)) (holds (decoded s))
 
+-- a question with the reply that document 01 gives
 pub record WorkedCase : Type 0 where
   pub asked : Question
   pub given : Reply CaseValue
 
+-- a worked case, written as a sentence
 infix 10 _gives_
 abbrev pub _gives_ : Question → Reply CaseValue → WorkedCase
 q gives r = record { asked = q; given = r }
@@ -96,19 +100,23 @@ recordOf c t d = record { centre = c; tides = t; diameter = d }
 
 -- ---- the worked cases
 
+-- case 1: six tides, three to a block
 unfoldable pub case1 : Study
 case1 = plain 3 (2 ∷ 5 ∷ 0 ∷ 1 ∷ 3 ∷ 7 ∷ [])
 
+-- case 2: two settings, one tide of each to a block
 unfoldable pub case2 : Study
 case2 = line 2 2 (1 ∷ 1 ∷ []) (1 ∷ 2 ∷ 1 ∷ 2 ∷ []) (0 ∷ 1 ∷ 10 ∷ 11 ∷ [])
 
+-- case 3: two tides at one place
 unfoldable pub case3 : Study
 case3 = plain 2 (2 ∷ 0 ∷ 2 ∷ 4 ∷ [])
 
+-- case 4: three tides in the middle
 unfoldable pub case4 : Study
 case4 = plain 2 (0 ∷ 10 ∷ 5 ∷ 5 ∷ 5 ∷ [])
 
--- two tides at 3
+-- case 7: two tides at distance 3
 unfoldable pub case7 : Study
 case7 = plain 1 (0 ∷ 3 ∷ [])
 
@@ -116,6 +124,7 @@ case7 = plain 1 (0 ∷ 3 ∷ [])
 unfoldable pub one-tide : Study
 one-tide = plain 1 (0 ∷ [])
 
+-- the worked cases of document 01, in its order
 unfoldable pub cases : List WorkedCase
 cases =
     -- 1: at 3 there is no filling; at 4 there is one again
@@ -149,6 +158,7 @@ cases =
     ∷ (write (fresh one-tide) gives value (file (0x54 ∷ 0x02 ∷ 0x20 ∷ 0x40 ∷ 0x00 ∷ 0x00 ∷ 0x00 ∷ [])))
     ∷ []
 
+-- the definitions give what document 01 gives
 abbrev pub WorkedCases : Type 0
 WorkedCases = AsGiven cases
 
@@ -163,9 +173,11 @@ studyIn (enter S setting row) = S ∷ []
 studyIn (write H) = H .study ∷ []
 studyIn (read s) = []
 
+-- the studies of all worked cases
 unfoldable pub studies : List Study
 studies = flatMap (λ (c : WorkedCase). studyIn (c .asked)) cases
 
+-- each of them is valid
 abbrev pub ValidStudies : Type 0
 ValidStudies = (S : Study) → S among studies → Valid S
 
@@ -197,5 +209,6 @@ order =
     gives refusal (seven 1 2))
     ∷ []
 
+-- the earlier reason counts in each of them
 abbrev pub InOrder : Type 0
 InOrder = AsGiven order

@@ -19,6 +19,7 @@ use Rattle.file_format.specs.Bits.{bitsAt, Field, field, allBits, packed
 unfoldable pub tideFields : Tide → List Field
 tideFields x = field 3 (x .setting - 1) ∷ map (field 20) (x .row)
 
+-- all fields of the file of given contents, in document 01's order
 unfoldable pub fields : Contents → List Field
 fields H =
     let S = H .study in
@@ -35,13 +36,15 @@ fields H =
     -- k minima, then each tide
     ∷ (map (field 7) (take (S .k) (S .minima .b)) ++ flatMap tideFields (S .tides))
 
+-- the file of given contents: the bytes that its fields fill
 unfoldable pub fileOf : Contents → List ℕ
 fileOf H = packed (allBits (fields H))
 
--- without the fill bits
+-- the bits of a file of n tides and k settings, without the fill bits
 unfoldable pub bitLength : ℕ → ℕ → ℕ
 bitLength k n = 42 + 7 * k + 3 * n + 10 * (n * (n - 1))
 
+-- its bytes: the last one is filled with zero bits
 unfoldable pub byteLength : ℕ → ℕ → ℕ
 byteLength k n = (bitLength k n + 7) / 8
 
@@ -57,6 +60,7 @@ tideAt s k t =
 unfoldable pub minimaAt : List ℕ → ℕ → Minima
 minimaAt s k = record { b0 = bitsAt s 19 7; b = tabulate k (λ j. bitsAt s (42 + 7 * j) 7) ++ replicate (8 - k) 0 }
 
+-- the contents that given bytes hold
 unfoldable pub decoded : List ℕ → Contents
 decoded s =
     let n = bitsAt s 8 7 in
@@ -80,14 +84,15 @@ headReasons s =
     ∷ (not (eqb (bitsAt s end (8 * length s - end)) 0) ⇒ number 11)
     ∷ []
 
--- of tide t: its setting, and the first pair of earlier tides with which it violates the triangle inequality
+-- of tide t: its setting, and the first pair of earlier tides that violates the triangle inequality with it
 unfoldable pub tideReasons : Study → ℕ → List Reason
 tideReasons S t =
-    let broken = violations (distance S) t (distance S t) in
+    let violating = violations (distance S) t (distance S t) in
     (not (between 1 (S .k) (tide S t .setting)) ⇒ number 5)
-    ∷ (not (isEmpty broken) ⇒ firstViolation broken)
+    ∷ (not (isEmpty violating) ⇒ firstViolation violating)
     ∷ []
 
+-- all reasons: those before any tide, then those of each tide
 unfoldable pub readReasons : List ℕ → List Reason
 readReasons s =
     let S = decoded s .study in

@@ -10,7 +10,7 @@ use Rattle.study.specs.Refusals.{accepted, firstOf}
 use Rattle.file_format.specs.Bits.{bitsAt}
 use Rattle.file_format.specs.File.{bitLength, byteLength, minimaAt, decoded, headReasons, tideReasons}
 
--- none before any tide holds
+-- no reason before any tide holds: what the fields before the tides then are
 pub record Head (s : List ℕ) : Type 0 where
   pub six : 6 ≤ length s
   pub mark : bitsAt s 0 8 ≡ 0x54

@@ -9,10 +9,11 @@ use Rattle.study.specs.Refusals.{accepted, firstOf}
 use Rattle.study.specs.Theorems.{ValidContents}
 use Rattle.file_format.specs.File.{fileOf, byteLength, decoded, readReasons}
 
--- bytes
+-- each is a byte
 abbrev pub Bytes : List ℕ → Type 0
 Bytes s = (i : ℕ) → getD s i 0 < 256
 
+-- files and valid contents correspond one to one
 pub record Files : Type 0 where
   pub bytes : (H : Contents) → ValidContents H → Bytes (fileOf H)
   pub file-length : (H : Contents) → ValidContents H → length (fileOf H) ≡ byteLength (H .study .k) (size (H .study))

@@ -57,6 +57,10 @@ tabulate n f = map f (iota 0 n)
 unfoldable pub overwrite : {A : Type 0} → ℕ → (ℕ → A) → List A → List A
 overwrite n f l = tabulate n f ++ drop n l
 
+-- xs in the front of a list; the places past them stay
+abbrev pub over : {A : Type 0} → List A → List A → List A
+over xs l = xs ++ drop (length xs) l
+
 -- the places from n on stay, and so does the length
 pub record TailKept (n : ℕ) (old new : List ℕ) : Type 0 where
   pub same-length : length new ≡ length old

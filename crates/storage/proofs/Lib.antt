@@ -1,2 +1,3 @@
 -- Laws, cited by the proofs of this crate and of those above it.
+pub mod FillLaws
 pub mod PlaceLaws

@@ -60,24 +60,26 @@ module _ (row : List ℕ) where
     unfolding withRow
     on-row zero i h l = absurd (omega arith)
     on-row (suc m) i h l =
-        getD-set-other (set (withRow row m d) (length row * 120 + m) (getD row m 0)) (m * 120 + length row) (length row * 120 + i) (getD row m 0) 0 (λ e. omega arith)
-        ∙ ⊎-elim (λ k. getD-set-other (withRow row m d) (length row * 120 + m) (length row * 120 + i) (getD row m 0) 0 (λ e. omega arith) ∙ on-row m i (omega arith) k)
+        let x = getD row m 0 in
+        getD-set-other (set (withRow row m d) (length row * 120 + m) x) (m * 120 + length row) (length row * 120 + i) x 0 (λ e. omega arith)
+        ∙ ⊎-elim (λ k. getD-set-other (withRow row m d) (length row * 120 + m) (length row * 120 + i) x 0 (λ e. omega arith) ∙ on-row m i (omega arith) k)
         (λ k. let e : i ≡ m = omega arith in
-        subst (λ z. getD (set (withRow row m d) (length row * 120 + m) (getD row m 0)) (length row * 120 + z) 0 ≡ getD row z 0) (sym e)
-        (getD-set-same (withRow row m d) (length row * 120 + m) (getD row m 0) 0 (omega (arith, row-length d m))))
+        subst (λ z. getD (set (withRow row m d) (length row * 120 + m) x) (length row * 120 + z) 0 ≡ getD row z 0) (sym e)
+        (getD-set-same (withRow row m d) (length row * 120 + m) x 0 (omega (arith, row-length d m))))
         (split i m)
 
     on-column : (m i : ℕ) → m ≤ length row → i < m → getD (withRow row m d) (i * 120 + length row) 0 ≡ getD row i 0
     unfolding withRow
     on-column zero i h l = absurd (omega arith)
     on-column (suc m) i h l =
+        let x = getD row m 0 in
         ⊎-elim
-        (λ k. getD-set-other (set (withRow row m d) (length row * 120 + m) (getD row m 0)) (m * 120 + length row) (i * 120 + length row) (getD row m 0) 0 (λ e. omega arith)
-        ∙ getD-set-other (withRow row m d) (length row * 120 + m) (i * 120 + length row) (getD row m 0) 0 (λ e. omega arith) ∙ on-column m i (omega arith) k)
+        (λ k. getD-set-other (set (withRow row m d) (length row * 120 + m) x) (m * 120 + length row) (i * 120 + length row) x 0 (λ e. omega arith)
+        ∙ getD-set-other (withRow row m d) (length row * 120 + m) (i * 120 + length row) x 0 (λ e. omega arith) ∙ on-column m i (omega arith) k)
         (λ k. let e : i ≡ m = omega arith in
         subst (λ z. getD (withRow row (suc m) d) (z * 120 + length row) 0 ≡ getD row z 0) (sym e)
-        (getD-set-same (set (withRow row m d) (length row * 120 + m) (getD row m 0)) (m * 120 + length row) (getD row m 0) 0
-        (omega (arith, row-length d m, length-set (withRow row m d) (length row * 120 + m) (getD row m 0)))))
+        (getD-set-same (set (withRow row m d) (length row * 120 + m) x) (m * 120 + length row) x 0
+        (omega (arith, row-length d m, length-set (withRow row m d) (length row * 120 + m) x))))
         (split i m)
 
     -- any other place

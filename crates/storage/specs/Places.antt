@@ -12,10 +12,11 @@ unfoldable pub withRow : List ℕ → ℕ → List ℕ → List ℕ
 withRow row zero d = d
 withRow row (suc m) d = set (set (withRow row m d) (length row * maxTides + m) (getD row m 0)) (m * maxTides + length row) (getD row m 0)
 
--- what place p, and setting t, hold once tide m is gone: what belongs to the tides that move there; past the memory there is none
+-- what place p of the distances holds once tide m is gone: the distance of the tides that move there; past the memory there is none
 unfoldable pub movedDistance : List ℕ → ℕ → ℕ → ℕ
 movedDistance d m p =
     cond (leb maxTides (skip m (p / maxTides))) 0 (cond (leb maxTides (skip m (p % maxTides))) 0 (cell d (skip m (p / maxTides)) (skip m (p % maxTides))))
 
+-- what place t of the settings holds once tide m is gone: the setting of the tide that moves there; past the memory there is none
 unfoldable pub movedSetting : List ℕ → ℕ → ℕ → ℕ
 movedSetting g m t = cond (leb maxTides (skip m t)) 0 (getD g (skip m t) 0)

@@ -9,6 +9,7 @@ ghost use Rattle.study.specs.Limits.{maxTides, tableSize};
 ghost use Rattle.study.specs.Calls.{skip};
 ghost use Rattle.storage.specs.Places.{withRow, movedDistance, movedSetting};
 
+// All places of the distances are 0.
 pub fn clear_distances(distances: &mut [u32])
     requires { ⌜ tableSize ≤ length (now distances) ⌝ }
     ensures { λ _. ⌜ now (distances .exit) ≡ overwrite tableSize (λ _. 0) (now (distances .entry)) ⌝ }
@@ -20,6 +21,7 @@ pub fn clear_distances(distances: &mut [u32])
     }
 }
 
+// All places of the settings are 0.
 pub fn clear_settings(settings: &mut [u8])
     requires { ⌜ maxTides ≤ length (now settings) ⌝ }
     ensures { λ _. ⌜ now (settings .exit) ≡ overwrite maxTides (λ _. 0) (now (settings .entry)) ⌝ }
@@ -75,6 +77,7 @@ fn moved_distance(distances: &[u32], m: usize, p: usize) -> u32
     distances[i * MAX_TIDES + j]
 }
 
+// What setting t is once tide m is gone.
 fn moved_setting(settings: &[u8], m: usize, t: usize) -> u8
     requires { ⌜ maxTides ≤ length (now settings) ⌝ }
     requires { ⌜ t < maxTides ⌝ }
@@ -99,6 +102,7 @@ pub fn remove_row(distances: &mut [u32], m: usize)
     }
 }
 
+// Tide m's setting goes, and those after it move down by one.
 pub fn remove_setting(settings: &mut [u8], m: usize)
     requires { ⌜ maxTides ≤ length (now settings) ⌝ }
     ensures { λ _. ⌜ now (settings .exit) ≡ overwrite maxTides (movedSetting (now (settings .entry)) m) (now (settings .entry)) ⌝ }

@@ -22,10 +22,10 @@ use Rattle.study.specs.Theorems.{ValidContents}
 use Rattle.file_format.specs.Bits.{bitsAt}
 use Rattle.file_format.specs.File.{bitLength, tideAt, minimaAt, decoded, headReasons, readReasons}
 use Rattle.file_format.proofs.BitLaws.{bitsAt-small}
-use Rattle.file_format.proofs.DistanceLaws.{distance-most, rule-T}
+use Rattle.file_format.proofs.AcceptedLaws.{contents-valid}
 use Rattle.file_format.proofs.DecodedLaws.{decoded-size, decoded-tide, decoded-setting, decoded-length, decoded-row}
 use Rattle.file_format.specs.Head.{Head, Clear}
-use Rattle.file_format.proofs.ReadLaws.{broken, Fits, fits-T, clear-none, accepted-T, refused-five, refused-seven, clear-more}
+use Rattle.file_format.proofs.ReadLaws.{violationsAt, Fits, fits-T, clear-none, accepted-T, refused-five, refused-seven, clear-more}
 use Rattle.validity.specs.Memory.{State, stateOf, studyOf, contentsOf, recordOf, distancesOf, settingsOf, stored}
 use Rattle.validity.specs.Validity.{IsStudy}
 use Rattle.validity.proofs.LayoutLaws.{setting-none, distance-none, stored-is, stored-contents}
@@ -39,12 +39,12 @@ use Rattle.study_file.specs.Loading.{part, Loaded, Reading, violationVer
 not-refused : {why : Refusal} → Done ≡ Refused why → ⊥
 not-refused e = let z : _≡_ {A = ℕ} 0 1 = cc in omega arith
 
-pub reached : (s : List ℕ) (t : ℕ) (matrix vector : List ℕ) → Loaded s t matrix vector → Reading s t Done matrix vector
-reached s t matrix vector L = record { goes = λ _. L; stops = λ why e. absurd (not-refused e) }
+pub reached : {s : List ℕ} {t : ℕ} {matrix vector : List ℕ} → Loaded s t matrix vector → Reading s t Done matrix vector
+reached L = record { goes = λ _. L; stops = λ why e. absurd (not-refused e) }
 
-pub stopped : (s : List ℕ) (t : ℕ) (matrix vector : List ℕ) {a : Answer} {why : Refusal} → a ≡ Refused why → firstOf (readReasons s) ≡ refused (numbered why)
-    → Reading s t a matrix vector
-stopped s t matrix vector {a} {why} e f =
+pub stopped : {s : List ℕ} {t : ℕ} {matrix vector : List ℕ} {a : Answer} {why : Refusal} → a ≡ Refused why
+    → firstOf (readReasons s) ≡ refused (numbered why) → Reading s t a matrix vector
+stopped {why = why} e f =
     record { goes = λ q. absurd (not-refused (sym q ∙ e)); stops = λ x q. f ∙ ap refused (ap numbered (same x (sym e ∙ q))) }
   where
     same : (x : Refusal) → Refused why ≡ Refused x → why ≡ x
@@ -57,7 +57,8 @@ told-none (p ∷ ps) {a} e q = absurd (never (sym (ap verdictOf q) ∙ e))
     never : accepted ≡ refused (firstViolation (p ∷ ps)) → ⊥
     never z = let z : _≡_ {A = ℕ} 0 1 = cc in omega arith
 
-told-pair : (ps : List Pair) {a : Answer} {why : Refusal} → verdictOf a ≡ violationVerdict ps → a ≡ Refused why → T (not (isEmpty ps)) × (firstViolation ps ≡ numbered why)
+told-pair : (ps : List Pair) {a : Answer} {why : Refusal} → verdictOf a ≡ violationVerdict ps → a ≡ Refused why
+    → T (not (isEmpty ps)) × (firstViolation ps ≡ numbered why)
 told-pair [] {a} {why} e q = absurd (never (sym (ap verdictOf q) ∙ e))
   where
     never : refused (numbered why) ≡ accepted → ⊥
@@ -143,20 +144,16 @@ module _ (s : List ℕ) where
     part-valid : ValidContents (part s t)
     unfolding part
     part-valid =
+        contents-valid s (tabulate t (tideAt s k)) head (omega (arith, part-size t, head .few)) (λ u l.
         record {
-          study = record {
-            k-low = head .k-low;
-            k-high = head .k-high;
-            few = omega (arith, part-size t, head .few);
-            minima = head .minima;
-            setting-low = λ u l. subst (λ (x : Tide). 1 ≤ x .setting) (same u l) (fits u l .low);
-            setting-high = λ u l. subst (λ (x : Tide). x .setting ≤ k) (same u l) (high u l);
-            row-length = λ u l. subst (λ (x : Tide). length (x .row) ≡ u) (same u l) (decoded-length s u (inside u l));
-            distance-high = distance-most (P t) 1048575 (λ u i l m. subst (λ (x : Tide). getD (x .row) i 0 ≤ 1048575) (same u l) (small u i l m));
-            triangle = rule-T (P t) .1 obeyed;
+          fits = record {
+            low = subst (λ (x : Tide). 1 ≤ x .setting) (same u l) (fits u l .low);
+            high = subst (λ (x : Tide). x .setting ≤ k) (same u l) (high u l);
+            obeyed = obeyed u l;
           };
-          counted = omega (arith, bitsAt-small s 26 16);
-        }
+          long = subst (λ (x : Tide). length (x .row) ≡ u) (same u l) (decoded-length s u (inside u l));
+          small = λ i m. subst (λ (x : Tide). getD (x .row) i 0 ≤ 1048575) (same u l) (small u i l m);
+        })
       where
         high : (u : ℕ) → u < size (P t) → tide S u .setting ≤ k
         high u l = subst (λ z. tide S u .setting ≤ z) decoded-k (fits u l .high)
@@ -169,14 +166,15 @@ module _ (s : List ℕ) where
   abbrev recordAt : ℕ → Dataset
   recordAt t = record { k = bitsAt s 15 4; n = t; minima = minimaAt s (bitsAt s 15 4); withdrawn = bitsAt s 26 16 }
 
-  module _ (t : ℕ) (few : t ≤ n) (matrix vector : List ℕ) (L : Loaded s t matrix vector) where
-    abbrev σ : State
-    σ = stateOf (recordAt t) matrix vector
+  -- memory with t tides
+  abbrev σ : ℕ → List ℕ → List ℕ → State
+  σ t matrix vector = stateOf (recordAt t) matrix vector
 
+  module _ (t : ℕ) (few : t ≤ n) (matrix vector : List ℕ) (L : Loaded s t matrix vector) where
     valid : ValidContents (part s t)
     valid = part-valid t few (L .head) (L .clear)
 
-    laid : stored (part s t) σ ≡ σ
+    laid : stored (part s t) (σ t matrix vector) ≡ σ t matrix vector
     unfolding stored recordOf part
     laid =
         λ i. record {
@@ -185,12 +183,12 @@ module _ (s : List ℕ) where
           settings = sym (L .settings) i;
         }
 
-    is-dataset : IsStudy σ
-    is-dataset = subst IsStudy laid (stored-is (part s t) valid σ)
+    is-dataset : IsStudy (σ t matrix vector)
+    is-dataset = subst IsStudy laid (stored-is (part s t) valid (σ t matrix vector))
 
-    study-is : studyOf σ ≡ P t
+    study-is : studyOf (σ t matrix vector) ≡ P t
     unfolding contentsOf
-    study-is = ap (λ (H : Contents). H .study) (ap contentsOf (sym laid) ∙ stored-contents (part s t) valid σ)
+    study-is = ap (λ (H : Contents). H .study) (ap contentsOf (sym laid) ∙ stored-contents (part s t) valid (σ t matrix vector))
 
   -- ---- one tide more
 
@@ -219,14 +217,21 @@ module _ (s : List ℕ) where
     in-file : t < size S
     in-file = omega (arith, decoded-size s)
 
+    -- memory holds t tides, and entering tide t makes it t + 1
+    so-far : IsStudy (σ t matrix vector)
+    so-far = is-dataset t (omega arith) matrix vector L
+
+    entered-part : (x : ℕ) → x ≡ tideAt s k t .setting → entered x (row t) (studyOf (σ t matrix vector)) ≡ P (t + 1)
+    entered-part x e = ap (entered x (row t)) (study-is t (omega arith) matrix vector L) ∙ next-part t x e
+
     -- the row and the column of tide t
     module _ (far : List ℕ) (e : far ≡ withRow (tideAt s (bitsAt s 15 4) t .row) t matrix) where
       row-laid : far ≡ distancesOf (P (t + 1)) matrix
       row-laid =
-          let σ = stateOf (recordAt t) matrix vector in
+          let x = tideAt s k t .setting in
           e ∙ ap (λ m. withRow (row t) m matrix) (sym (row-length t))
-          ∙ entered-distances σ (is-dataset t (omega arith) matrix vector L) (tideAt s k t .setting) (row t) (row-length t) below (L .long)
-          ∙ ap (λ (Q : Study). distancesOf Q matrix) (ap (entered (tideAt s k t .setting) (row t)) (study-is t (omega arith) matrix vector L) ∙ next-part t (tideAt s k t .setting) refl)
+          ∙ entered-distances (σ t matrix vector) so-far x (row t) (row-length t) below (L .long)
+          ∙ ap (λ (Q : Study). distancesOf Q matrix) (entered-part x refl)
 
       distance-laid : (i j : ℕ) → i ≤ t → j ≤ t → cell far i j ≡ distance S i j
       unfolding distancesOf
@@ -238,7 +243,7 @@ module _ (s : List ℕ) where
           ∙ ap₂ (distance (P (t + 1))) p q
           ∙ part-distance (t + 1) i j (omega arith) (omega arith) (omega arith)
 
-      pairs-laid : violations (cell far) t (cell far t) ≡ broken S t
+      pairs-laid : violations (cell far) t (cell far t) ≡ violationsAt S t
       pairs-laid =
           violations-same (cell far) (distance S) t (cell far t) (distance S t)
           (λ i j a b. distance-laid i j (omega arith) (omega arith)) (λ i a. distance-laid t i (omega arith) (omega arith))
@@ -258,19 +263,19 @@ module _ (s : List ℕ) where
         fits-setting : tide S t .setting ≤ S .k
         fits-setting = omega (arith, decoded-setting s t in-file, decoded-k)
 
-        verdict : verdictOf a ≡ violationVerdict (broken S t)
+        verdict : verdictOf a ≡ violationVerdict (violationsAt S t)
         verdict = found ∙ ap violationVerdict (pairs-laid far e)
 
         pub turn-seven : {why : Refusal} → a ≡ Refused why → firstOf (readReasons s) ≡ refused (numbered why)
         turn-seven q =
-            let w = told-pair (broken S t) verdict q in
+            let w = told-pair (violationsAt S t) verdict q in
             refused-seven s t (L .clear) in-file fits-setting (w .0) ∙ ap refused (w .1)
 
         pub turn-next : a ≡ Done → Loaded s (t + 1) far (set vector t (less + 1))
         turn-next q =
             record {
               head = L .head;
-              clear = clear-more s t (L .clear) in-file fits-setting (told-none (broken S t) verdict q);
+              clear = clear-more s t (L .clear) in-file fits-setting (told-none (violationsAt S t) verdict q);
               far = distances-own (P (t + 1)) matrix far (row-laid far e);
               settings = settings-own (P (t + 1)) vector (set vector t (less + 1)) kinds-laid;
               long = omega (arith, far-length far e, L .long);
@@ -282,9 +287,8 @@ module _ (s : List ℕ) where
 
             kinds-laid : set vector t (less + 1) ≡ settingsOf (P (t + 1)) vector
             kinds-laid =
-                let σ = stateOf (recordAt t) matrix vector in
-                entered-settings σ (is-dataset t (omega arith) matrix vector L) (less + 1) (row t) (row-length t) below (L .enough)
-                ∙ ap (λ (Q : Study). settingsOf Q vector) (ap (entered (less + 1) (row t)) (study-is t (omega arith) matrix vector L) ∙ next-part t (less + 1) x-is)
+                entered-settings (σ t matrix vector) so-far (less + 1) (row t) (row-length t) below (L .enough)
+                ∙ ap (λ (Q : Study). settingsOf Q vector) (entered-part (less + 1) x-is)
 
   -- ---- the start and the end
 

@@ -1,13 +1,13 @@
 -- Fields written after fields over the front of old bytes, and that all fields of contents write their file. Assumes nothing.
-use Prim.Native.Nat.{ℕ, _+_, _-_, _*_, _^_, _≤_, _<_}
+use Prim.Native.Nat.{ℕ, _+_, _-_, _*_, _≤_, _<_}
 use native.Mathlib.Omega.{arith}
 use native.Mathlib.Numerals.{add-one}
 use mathlib.Core.Path.{_≡_, refl, sym, ap, ap₂, _∙_, subst}
 use mathlib.Core.List.{List, [], _∷_, _++_, map, flatMap, map-append, append-nil, append-assoc}
 use lib.Dec.{lit≤}
-use lib.ListN.{length, getD, take, drop}
+use lib.ListN.{length, getD, take}
 use lib.Seq.{length-take-le, getD-take}
-use Rattle.lists.specs.Lists.{tabulate}
+use Rattle.lists.specs.Lists.{tabulate, over}
 use Rattle.lists.proofs.Tables.{length-tabulate, getD-tabulate, tabulate-suc, tabulate-is}
 use Rattle.study.specs.Limits.{cell}
 use Rattle.study.specs.declared.Dataset.{Dataset}
@@ -19,34 +19,39 @@ use Rattle.file_format.proofs.RunLaws.{runs-total, values-total}
 use Rattle.file_format.proofs.FileLaws.{bitLength-suc}
 use Rattle.validity.specs.Memory.{State, tideOf, contentsOf, studyOf}
 use Rattle.study_file.proofs.Lengths.{Sum, length-sum, bitLength-up}
-use Rattle.study_file.specs.Writing.{over, Adds}
+use Rattle.study_file.specs.Writing.{Adds}
 use Rattle.study_file.proofs.WritingLaws.{adds-none, adds-then}
-use Rattle.study_file.specs.Putting.{Writable, PutFields, headFields}
+use Rattle.study_file.specs.Putting.{Writable, TideInside, PutFields, headFields}
 
-module _ (σ : State) (file : List ℕ) (W : Writable σ file) where
+-- ---- room
+
+module _ {σ : State} {file : List ℕ} (W : Writable σ file) where
   sum : (t : ℕ) → t ≤ 120 → Sum (σ .dataset .k) t
   sum t l = length-sum (σ .dataset .k) t (W .study .k-high) l
 
   pub head-room : (6 ≤ length file) × (σ .dataset .n ≤ 120)
   head-room = let s = sum (σ .dataset .n) (W .study .few) in (omega (arith, s .first, W .room, W .study .k-low), W .study .few)
 
-  pub minima-room : 42 + 7 * σ .dataset .k ≤ 8 * length file
-  minima-room = let s = sum (σ .dataset .n) (W .study .few) in omega (arith, s .first, W .room)
-
-  pub eight : σ .dataset .k ≤ length (σ .dataset .minima .b)
-  eight = omega (arith, W .study .minima .eight, W .study .k-high)
-
   -- in what the file has become
-  module _ (new : List ℕ) (same : length new ≡ length file) where
-    pub tide-room : (t start : ℕ) → t < σ .dataset .n → start ≡ bitLength (σ .dataset .k) t
-        → ((t < 120) × (14400 ≤ length (σ .distances)) × (t < length (σ .settings)) × (1 ≤ getD (σ .settings) t 0))
-        × ((start + (3 + 20 * t) ≤ 8 * length new) × (start < 2 ^ 61))
-    tide-room t start l e =
+  module _ {at : ℕ} {bs new : List ℕ} (a : Adds file at bs new) where
+    pub minima-room : (σ .dataset .k ≤ 8) × (42 + 7 * σ .dataset .k ≤ 8 * length new)
+    minima-room = let s = sum (σ .dataset .n) (W .study .few) in (W .study .k-high, omega (arith, s .first, W .room, a .same))
+
+    pub tide-room : (t : ℕ) {start : ℕ} → t < σ .dataset .n → start ≡ bitLength (σ .dataset .k) t
+        → TideInside new (σ .distances) (σ .settings) start t
+    tide-room t {start} l e =
         let few = W .study .few in
-        let s = sum t (omega arith) in (
-          (omega arith, W .long .distances, omega (arith, W .long .settings), W .study .setting-low t l),
-          (omega (arith, bitLength-up (σ .dataset .k) t (σ .dataset .n) l, W .room), omega (arith, s .most)),
-        )
+        let s = sum t (omega arith) in
+        record {
+          few = omega arith;
+          long = W .long .distances;
+          held = omega (arith, W .long .settings);
+          set = W .study .setting-low t l;
+          inside = omega (arith, bitLength-up (σ .dataset .k) t (σ .dataset .n) l, W .room, a .same);
+          low = omega (arith, s .most);
+        }
+
+-- ---- fields
 
 flatMap-append : {A B : Type 0} (h : A → List B) (xs ys : List A) → flatMap h (xs ++ ys) ≡ flatMap h xs ++ flatMap h ys
 unfolding flatMap
@@ -61,29 +66,29 @@ allBits-append : (fs gs : List Field) → allBits (fs ++ gs) ≡ allBits fs ++ a
 unfolding allBits
 allBits-append fs gs = flatMap-append (λ (f : Field). bitsOf (f .width) (f .value)) fs gs
 
-pub puts-none : (s : List ℕ) (at : ℕ) → PutFields s at [] s
+pub puts-none : {s : List ℕ} {at : ℕ} → PutFields s at [] s
 unfolding allBits flatMap
-puts-none s at = adds-none s at
+puts-none = adds-none
 
-pub puts-one : (s : List ℕ) (at w v : ℕ) {t : List ℕ} → Adds s at (bitsOf w v) t → PutFields s at (field w v ∷ []) t
+pub puts-one : {s : List ℕ} {at : ℕ} (w v : ℕ) {t : List ℕ} → Adds s at (bitsOf w v) t → PutFields s at (field w v ∷ []) t
 unfolding allBits
-puts-one s at w v {t} a = subst (λ bs. Adds s at bs t) (sym (flatMap-one (λ (f : Field). bitsOf (f .width) (f .value)) (field w v))) a
+puts-one {s} {at} w v {t} a = subst (λ bs. Adds s at bs t) (sym (flatMap-one (λ (f : Field). bitsOf (f .width) (f .value)) (field w v))) a
 
-pub puts-then : (s : List ℕ) (at : ℕ) (fs : List Field) (p : ℕ) (gs : List Field) {t u : List ℕ} → PutFields s at fs t → p ≡ at + total fs → PutFields t p gs u → PutFields s at (fs ++ gs) u
-puts-then s at fs p gs {t} {u} a e b =
-    subst (λ bs. Adds s at bs u) (sym (allBits-append fs gs))
-    (adds-then s at (allBits fs) t p (allBits gs) u a (e ∙ ap (λ n. at + n) (sym (length-allBits fs))) b)
+puts-then : {s : List ℕ} {at : ℕ} (fs : List Field) {p : ℕ} (gs : List Field) {t u : List ℕ} → PutFields s at fs t → p ≡ at + total fs
+    → PutFields t p gs u → PutFields s at (fs ++ gs) u
+puts-then {s} {at} fs gs {u = u} a e b =
+    subst (λ bs. Adds s at bs u) (sym (allBits-append fs gs)) (adds-then a (e ∙ ap (λ n. at + n) (sym (length-allBits fs))) b)
 
 -- ---- a run of one width: f 0, f 1, ..
 
-pub run-none : (s : List ℕ) (at w : ℕ) (f : ℕ → ℕ) → PutFields s at (map (field w) (tabulate 0 f)) s
+pub run-none : {s : List ℕ} {at : ℕ} (w : ℕ) (f : ℕ → ℕ) → PutFields s at (map (field w) (tabulate 0 f)) s
 unfolding tabulate
-run-none s at w f = puts-none s at
+run-none w f = puts-none
 
-pub run-more : (s : List ℕ) (at w : ℕ) (f : ℕ → ℕ) (i v : ℕ) {t u : List ℕ} → PutFields s at (map (field w) (tabulate i f)) t → v ≡ f i
-    → PutFields t (at + w * i) (field w v ∷ []) u → PutFields s at (map (field w) (tabulate (i + 1) f)) u
-run-more s at w f i v {t} {u} a e b =
-    subst (λ fs. PutFields s at fs u) more (puts-then s at (map (field w) (tabulate i f)) (at + w * i) (field w v ∷ []) a place b)
+pub run-more : {s : List ℕ} {at : ℕ} (w : ℕ) (f : ℕ → ℕ) (i : ℕ) {v : ℕ} {t u : List ℕ} → PutFields s at (map (field w) (tabulate i f)) t
+    → v ≡ f i → PutFields t (at + w * i) (field w v ∷ []) u → PutFields s at (map (field w) (tabulate (i + 1) f)) u
+run-more {s} {at} w f i {v} {t} {u} a e b =
+    subst (λ fs. PutFields s at fs u) more (puts-then (map (field w) (tabulate i f)) (field w v ∷ []) a place b)
   where
     place : at + w * i ≡ at + total (map (field w) (tabulate i f))
     place = ap (λ x. at + x) (ap (λ x. w * x) (sym (length-tabulate i f)) ∙ sym (values-total w (tabulate i f)))
@@ -94,72 +99,75 @@ run-more s at w f i v {t} {u} a e b =
         ∙ sym (map-append (field w) (tabulate i f) (f i ∷ []))
         ∙ ap (map (field w)) (sym (tabulate-suc i f) ∙ ap (λ n. tabulate n f) (sym (add-one i)))
 
-pub run-done : (s : List ℕ) (at w : ℕ) (f : ℕ → ℕ) (i n : ℕ) {t : List ℕ} → i ≤ n → n ≤ i → PutFields s at (map (field w) (tabulate i f)) t → PutFields s at (map (field w) (tabulate n f)) t
-run-done s at w f i n {t} l m a = let e : i ≡ n = omega arith in subst (λ k. PutFields s at (map (field w) (tabulate k f)) t) e a
+pub run-done : {s : List ℕ} {at : ℕ} (w : ℕ) (f : ℕ → ℕ) {i n : ℕ} {t : List ℕ} → i ≡ n → PutFields s at (map (field w) (tabulate i f)) t
+    → PutFields s at (map (field w) (tabulate n f)) t
+run-done {s} {at} w f {t = t} e a = subst (λ k. PutFields s at (map (field w) (tabulate k f)) t) e a
 
 -- ---- the tides of a dataset
 
 module _ (σ : State) where
   -- a setting and a row
-  pub tide-put : (s : List ℕ) (p t v : ℕ) {u w : List ℕ} → v ≡ getD (σ .settings) t 0 → PutFields s p (field 3 (v - 1) ∷ []) u
+  pub tide-put : {s : List ℕ} {p : ℕ} (t : ℕ) {v : ℕ} {u w : List ℕ} → v ≡ getD (σ .settings) t 0 → PutFields s p (field 3 (v - 1) ∷ []) u
       → PutFields u (p + 3) (map (field 20) (tabulate t (cell (σ .distances) t))) w → PutFields s p (tideFields (tideOf σ t)) w
   unfolding tideFields tideOf
-  tide-put s p t v {u} {w} e a b =
+  tide-put {s} {p} t {v} {u} {w} e a b =
       subst (λ x. PutFields s p (field 3 (x - 1) ∷ map (field 20) (tabulate t (cell (σ .distances) t))) w) e
-      (puts-then s p (field 3 (v - 1) ∷ []) (p + 3) (map (field 20) (tabulate t (cell (σ .distances) t))) a refl b)
+      (puts-then (field 3 (v - 1) ∷ []) (map (field 20) (tabulate t (cell (σ .distances) t))) a refl b)
 
-  abbrev pub upTo : ℕ → List Tide
-  upTo t = tabulate t (tideOf σ)
+  -- the fields of the first t tides
+  abbrev upTo : ℕ → List Field
+  upTo t = flatMap tideFields (tabulate t (tideOf σ))
 
   tide-total : (t : ℕ) → total (tideFields (tideOf σ t)) ≡ 3 + 20 * t
   unfolding tideFields tideOf
   tide-total t = omega (arith, values-total 20 (tabulate t (cell (σ .distances) t)), length-tabulate t (cell (σ .distances) t))
 
-  tides-total : (k t : ℕ) → bitLength k t ≡ bitLength k 0 + total (flatMap tideFields (upTo t))
+  tides-total : (k t : ℕ) → bitLength k t ≡ bitLength k 0 + total (upTo t)
   tides-total k t =
-      ap (bitLength k) (sym (length-tabulate t (tideOf σ))) ∙ sym (runs-total tideFields noTide (bitLength k) (upTo t) (λ i l.
+      ap (bitLength k) (sym (length-tabulate t (tideOf σ))) ∙ sym (runs-total tideFields noTide (bitLength k) (tabulate t (tideOf σ)) (λ i l.
       let h : i < t = omega (arith, length-tabulate t (tideOf σ)) in
       bitLength-suc k i ∙ ap (λ x. bitLength k i + x) (sym (ap (λ y. total (tideFields y)) (getD-tabulate t (tideOf σ) i noTide h) ∙ tide-total i))))
 
-  pub tides-none : (s : List ℕ) (p : ℕ) → PutFields s p (flatMap tideFields (tabulate 0 (tideOf σ))) s
+  pub tides-none : {s : List ℕ} {p : ℕ} → PutFields s p (flatMap tideFields (tabulate 0 (tideOf σ))) s
   unfolding tabulate flatMap
-  tides-none s p = puts-none s p
+  tides-none = puts-none
 
-  pub tides-more : (s : List ℕ) (k t : ℕ) {p : ℕ} {u w : List ℕ} → PutFields s (bitLength k 0) (flatMap tideFields (tabulate t (tideOf σ))) u
-      → p ≡ bitLength k t → PutFields u p (tideFields (tideOf σ t)) w → PutFields s (bitLength k 0) (flatMap tideFields (tabulate (t + 1) (tideOf σ))) w
-  tides-more s k t {p} {u} {w} a e b =
-      subst (λ fs. PutFields s (bitLength k 0) fs w) more (puts-then s (bitLength k 0) (flatMap tideFields (upTo t)) p (tideFields (tideOf σ t)) a (e ∙ tides-total k t) b)
+  pub tides-more : {s : List ℕ} (k t : ℕ) {p : ℕ} {u w : List ℕ} → PutFields s (bitLength k 0) (flatMap tideFields (tabulate t (tideOf σ))) u
+      → p ≡ bitLength k t → PutFields u p (tideFields (tideOf σ t)) w
+      → PutFields s (bitLength k 0) (flatMap tideFields (tabulate (t + 1) (tideOf σ))) w
+  tides-more {s} k t {w = w} a e b =
+      subst (λ fs. PutFields s (bitLength k 0) fs w) more (puts-then (upTo t) (tideFields (tideOf σ t)) a (e ∙ tides-total k t) b)
     where
-      more : flatMap tideFields (upTo t) ++ tideFields (tideOf σ t) ≡ flatMap tideFields (upTo (t + 1))
+      more : upTo t ++ tideFields (tideOf σ t) ≡ upTo (t + 1)
       more =
-          ap (λ fs. flatMap tideFields (upTo t) ++ fs) (sym (flatMap-one tideFields (tideOf σ t)))
-          ∙ sym (flatMap-append tideFields (upTo t) (tideOf σ t ∷ []))
+          ap (λ fs. upTo t ++ fs) (sym (flatMap-one tideFields (tideOf σ t)))
+          ∙ sym (flatMap-append tideFields (tabulate t (tideOf σ)) (tideOf σ t ∷ []))
           ∙ ap (flatMap tideFields) (sym (tabulate-suc t (tideOf σ)) ∙ ap (λ n. tabulate n (tideOf σ)) (sym (add-one t)))
 
-  pub tides-done : (s : List ℕ) (p t n : ℕ) {u : List ℕ} → t ≤ n → n ≤ t → PutFields s p (flatMap tideFields (tabulate t (tideOf σ))) u → PutFields s p (flatMap tideFields (tabulate n (tideOf σ))) u
-  tides-done s p t n {u} l m a = let e : t ≡ n = omega arith in subst (λ k. PutFields s p (flatMap tideFields (upTo k)) u) e a
+  pub tides-done : {s : List ℕ} {p t n : ℕ} {u : List ℕ} → t ≡ n → PutFields s p (flatMap tideFields (tabulate t (tideOf σ))) u
+      → PutFields s p (flatMap tideFields (tabulate n (tideOf σ))) u
+  tides-done {s} {p} {u = u} e a = subst (λ k. PutFields s p (upTo k) u) e a
 
 -- ---- the whole file
 
-pub head-put : (r : Dataset) (s : List ℕ) {a b c d e : List ℕ} → PutFields s 0 (field 8 0x54 ∷ []) a → PutFields a 8 (field 7 (r .n) ∷ []) b
+pub head-put : (r : Dataset) {s a b c d e : List ℕ} → PutFields s 0 (field 8 0x54 ∷ []) a → PutFields a 8 (field 7 (r .n) ∷ []) b
     → PutFields b 15 (field 4 (r .k) ∷ []) c → PutFields c 19 (field 7 (r .minima .b0) ∷ []) d → PutFields d 26 (field 16 (r .withdrawn) ∷ []) e
     → PutFields s 0 (headFields r) e
 unfolding headFields
-head-put r s p q u v w =
-    puts-then s 0 (field 8 0x54 ∷ field 7 (r .n) ∷ field 4 (r .k) ∷ field 7 (r .minima .b0) ∷ []) 26 (field 16 (r .withdrawn) ∷ [])
-    (puts-then s 0 (field 8 0x54 ∷ field 7 (r .n) ∷ field 4 (r .k) ∷ []) 19 (field 7 (r .minima .b0) ∷ [])
-    (puts-then s 0 (field 8 0x54 ∷ field 7 (r .n) ∷ []) 15 (field 4 (r .k) ∷ [])
-    (puts-then s 0 (field 8 0x54 ∷ []) 8 (field 7 (r .n) ∷ []) p refl q) refl u) refl v) refl w
+head-put r p q u v w =
+    puts-then (field 8 0x54 ∷ field 7 (r .n) ∷ field 4 (r .k) ∷ field 7 (r .minima .b0) ∷ []) (field 16 (r .withdrawn) ∷ [])
+    (puts-then (field 8 0x54 ∷ field 7 (r .n) ∷ field 4 (r .k) ∷ []) (field 7 (r .minima .b0) ∷ [])
+    (puts-then (field 8 0x54 ∷ field 7 (r .n) ∷ []) (field 4 (r .k) ∷ [])
+    (puts-then (field 8 0x54 ∷ []) (field 7 (r .n) ∷ []) p refl q) refl u) refl v) refl w
 
 -- head, minima and tides, one after the other
-pub parts-put : (σ : State) (s : List ℕ) {t u w : List ℕ} → σ .dataset .k ≤ length (σ .dataset .minima .b) → PutFields s 0 (headFields (σ .dataset)) t
+pub parts-put : {σ : State} {s t u w : List ℕ} → Writable σ s → PutFields s 0 (headFields (σ .dataset)) t
     → PutFields t 42 (map (field 7) (tabulate (σ .dataset .k) (λ j. getD (σ .dataset .minima .b) j 0))) u
     → PutFields u (bitLength (σ .dataset .k) 0) (flatMap tideFields (tabulate (σ .dataset .n) (tideOf σ))) w → PutFields s 0 (fields (contentsOf σ)) w
 unfolding fields contentsOf studyOf headFields bitLength
-parts-put σ s {t} {u} {w} l a b c =
+parts-put {σ} {s} {t} {u} {w} W a b c =
     subst (λ fs. PutFields s 0 fs w) all
-    (puts-then s 0 (headFields r) 42 (small ++ tides) a refl
-    (puts-then t 42 small (bitLength (r .k) 0) tides b place c))
+    (puts-then (headFields r) (small ++ tides) a refl (puts-then small tides b place c))
   where
     r : Dataset
     r = σ .dataset
@@ -175,18 +183,20 @@ parts-put σ s {t} {u} {w} l a b c =
 
     held : tabulate (r .k) (λ j. getD (r .minima .b) j 0) ≡ take (r .k) (r .minima .b)
     held =
-        tabulate-is (r .k) (λ j. getD (r .minima .b) j 0) 0 (take (r .k) (r .minima .b)) (length-take-le (r .k) (r .minima .b) l)
+        let eight : r .k ≤ length (r .minima .b) = omega (arith, W .study .minima .eight, W .study .k-high) in
+        tabulate-is (r .k) (λ j. getD (r .minima .b) j 0) 0 (take (r .k) (r .minima .b)) (length-take-le (r .k) (r .minima .b) eight)
         (λ j m. sym (getD-take (r .k) (r .minima .b) j 0 m))
 
     all : headFields r ++ (small ++ tides) ≡ fields (contentsOf σ)
     all =
-        ap₂ (λ (n : ℕ) (bs : List ℕ). field 8 0x54 ∷ field 7 n ∷ field 4 (r .k) ∷ field 7 (r .minima .b0) ∷ field 16 (r .withdrawn) ∷ (map (field 7) bs ++ tides))
+        ap₂ (λ (n : ℕ) (bs : List ℕ).
+        field 8 0x54 ∷ field 7 n ∷ field 4 (r .k) ∷ field 7 (r .minima .b0) ∷ field 16 (r .withdrawn) ∷ (map (field 7) bs ++ tides))
         (sym (length-tabulate (r .n) (tideOf σ))) held
 
-over-none : (s : List ℕ) → s ≡ over s []
-unfolding over packed pack tabulate
+over-none : (s : List ℕ) → s ≡ over (packed []) s
+unfolding packed pack tabulate
 over-none s = refl
 
-pub file-written : (H : Contents) (s : List ℕ) {t : List ℕ} → PutFields s 0 (fields H) t → t ≡ fileOf H ++ drop (length (fileOf H)) s
-unfolding fileOf over
-file-written H s a = a .next s [] (record { is = over-none s; place = refl; bits = λ p. lit≤ tt; room = omega arith }) .is
+pub file-written : (H : Contents) {s t : List ℕ} → PutFields s 0 (fields H) t → t ≡ over (fileOf H) s
+unfolding fileOf
+file-written H {s} a = a .next s [] (record { is = over-none s; place = refl; bits = λ p. lit≤ tt; room = omega arith }) .is

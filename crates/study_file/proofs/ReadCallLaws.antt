@@ -2,10 +2,10 @@
 use Prim.Native.Nat.{ℕ, _≤_, _<_}
 use mathlib.Core.Path.{_≡_, refl, sym, ap, _∙_, subst}
 use mathlib.Core.Logic.{_⊎_, ⊎-elim}
-use mathlib.Core.Bool.{cond}
+use mathlib.Core.Bool.{cond, true, false}
 use mathlib.Core.List.{List}
 use lib.ListN.{length, getD, replicate, length-replicate, getD-replicate, List·getD-eq-default}
-use Rattle.lists.specs.Lists.{overwrite}
+use Rattle.lists.specs.Lists.{at, overwrite}
 use Rattle.lists.proofs.Tests.{split}
 use Rattle.study.specs.declared.Dataset.{Dataset}
 use Rattle.study.specs.declared.Refusal.{Refusal}
@@ -17,9 +17,8 @@ use Rattle.file_format.specs.File.{decoded, headReasons, readReasons}
 use Rattle.file_format.proofs.DecodedLaws.{decoded-size}
 use Rattle.file_format.specs.Head.{Head}
 use Rattle.file_format.proofs.ReadLaws.{head-T, refused-head}
-use Rattle.validity.specs.Memory.{State, stateOf, recordOf, stored}
+use Rattle.validity.specs.Memory.{State, stateOf, short, recordOf, stored}
 use Rattle.dataset.specs.Answers.{freshAnswer, freshLeaves}
-use Rattle.validity.proofs.LayoutLaws.{short-yes, short-no}
 use Rattle.study_file.specs.Answers.{readAnswer, readLeaves}
 use Rattle.study_file.specs.Loading.{Loaded, Reading}
 use Rattle.study_file.proofs.LoadingLaws.{loaded-none, loaded-accepted, copied-distances, copied-settings}
@@ -43,9 +42,9 @@ module _ (s : List ℕ) {a : Answer} (verdict : verdictOf a ≡ firstOf (headRea
   pub head-passed : Head s
   head-passed = head-T s .0 (sym verdict ∙ ap verdictOf q)
 
-  pub tides-begin : (o : Dataset) {r : Dataset} → r ≡ recordOf (decoded s) o → (matrix vector : List ℕ) → matrix ≡ replicate 14400 0 → vector ≡ replicate 120 0
+  pub tides-begin : (o : Dataset) {r : Dataset} → r ≡ recordOf (decoded s) o → {matrix vector : List ℕ} → matrix ≡ replicate 14400 0 → vector ≡ replicate 120 0
       → (r .k ≡ bitsAt s 15 4) × (r .n ≡ bitsAt s 8 7) × Loaded s 0 matrix vector
-  tides-begin o e matrix vector x y = (
+  tides-begin o e {matrix} {vector} x y = (
     k-is s o e,
     count-is s o e,
     loaded-none s matrix vector head-passed (sym verdict ∙ ap verdictOf q)
@@ -60,14 +59,14 @@ module _ (σ : State) (file : List ℕ) where
   unfolding readLeaves freshLeaves readAnswer
   by-verdict v e = (sym e, ap (λ v. settled v (stored (decoded file) σ) σ) (sym e))
 
-  pub read-short : (length (σ .distances) < 14400) ⊎ (length (σ .settings) < 120) → (refused (number 1) ≡ readAnswer σ file) × (σ ≡ readLeaves σ file)
+  pub read-short : short σ ≡ true → (refused (number 1) ≡ readAnswer σ file) × (σ ≡ readLeaves σ file)
   unfolding readAnswer freshAnswer freshReasons firstOf
-  read-short o = by-verdict (refused (number 1)) (ap (λ b. cond b (refused (number 1)) (firstOf (readReasons file))) (short-yes σ o))
+  read-short e = by-verdict (refused (number 1)) (ap (λ b. cond b (refused (number 1)) (firstOf (readReasons file))) e)
 
-  module _ (far : 14400 ≤ length (σ .distances)) (vector : 120 ≤ length (σ .settings)) where
+  module _ (long : short σ ≡ false) where
     own : readAnswer σ file ≡ firstOf (readReasons file)
     unfolding readAnswer freshAnswer freshReasons firstOf
-    own = ap (λ b. cond b (refused (number 1)) (firstOf (readReasons file))) (short-no σ far vector)
+    own = ap (λ b. cond b (refused (number 1)) (firstOf (readReasons file))) long
 
     refuses : {a : Answer} {why : Refusal} → a ≡ Refused why → firstOf (readReasons file) ≡ refused (numbered why)
         → (verdictOf a ≡ readAnswer σ file) × (σ ≡ readLeaves σ file)
@@ -79,15 +78,15 @@ module _ (σ : State) (file : List ℕ) where
     read-head {a} {why} e q = refuses q (refused-head file (sym e ∙ ap verdictOf q))
 
     -- while a tide is read
-    pub read-tide : {a : Answer} {why : Refusal} (n : ℕ) (x y : List ℕ) → Reading file n a x y → a ≡ Refused why
+    pub read-tide : {a : Answer} {why : Refusal} {n : ℕ} {x y : List ℕ} → Reading file n a x y → a ≡ Refused why
         → (verdictOf a ≡ readAnswer σ file) × (σ ≡ readLeaves σ file)
-    read-tide {a} {why} n x y r q = refuses q (r .stops why q)
+    read-tide {why = why} r q = refuses q (r .stops why q)
 
-    pub read-done : {a : Answer} {r : Dataset} (x y : List ℕ) {d g : List ℕ} → Reading file (r .n) a x y → a ≡ Done → r ≡ recordOf (decoded file) (σ .dataset)
-        → d ≡ overwrite 14400 (λ (p : ℕ). getD x p 0) (σ .distances) → g ≡ overwrite 120 (λ (i : ℕ). getD y i 0) (σ .settings)
+    pub read-done : {a : Answer} {r : Dataset} {x y d g : List ℕ} → Reading file (r .n) a x y → a ≡ Done → r ≡ recordOf (decoded file) (σ .dataset)
+        → d ≡ overwrite 14400 (at x) (σ .distances) → g ≡ overwrite 120 (at y) (σ .settings)
         → (verdictOf a ≡ readAnswer σ file) × (stateOf r d g ≡ readLeaves σ file)
     unfolding stored
-    read-done {a} {r} x y {d} {g} t q e f h =
+    read-done {r = r} {x} {y} t q e f h =
         let count : r .n ≡ bitsAt file 8 7 = count-is file (σ .dataset) e in
         let L : Loaded file (bitsAt file 8 7) x y = subst (λ n. Loaded file n x y) count (t .goes q) in
         let w = by-verdict accepted (own ∙ loaded-accepted file x y L) in (

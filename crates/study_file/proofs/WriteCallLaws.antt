@@ -7,6 +7,7 @@ use mathlib.Core.List.{List, [], _++_}
 use lib.Dec.{ltb, lt→ltb}
 use lib.Arith.{le→nltb}
 use lib.ListN.{length, drop}
+use Rattle.lists.specs.Lists.{over}
 use Rattle.lists.proofs.Tests.{T-true, T-false}
 use Rattle.study.specs.declared.Refusal.{Refusal}
 use Rattle.study.specs.declared.Answer.{Answer}
@@ -25,17 +26,14 @@ use Rattle.study_file.specs.Putting.{PutFields, Writable}
 use Rattle.study_file.proofs.PuttingLaws.{file-written}
 
 module _ (σ : State) (file : List ℕ) where
-  abbrev H : Contents
-  H = contentsOf σ
-
   -- what an answer makes of reply and file
   by-verdict : (v : Verdict) → writeAnswer σ (length file) ≡ v
       → (replied v (length (fileOf (contentsOf σ))) ≡ writeReply σ (length file))
-      × (settled v (fileOf (contentsOf σ) ++ drop (length (fileOf (contentsOf σ))) file) file ≡ writeLeaves σ file)
+      × (settled v (over (fileOf (contentsOf σ)) file) file ≡ writeLeaves σ file)
   unfolding writeReply writeLeaves
   by-verdict v e = (
-    ap (λ v. replied v (length (fileOf H))) (sym e),
-    ap (λ v. settled v (fileOf H ++ drop (length (fileOf H)) file) file) (sym e),
+    ap (λ v. replied v (length (fileOf (contentsOf σ)))) (sym e),
+    ap (λ v. settled v (over (fileOf (contentsOf σ)) file) file) (sym e),
   )
 
   -- short memory, or no dataset
@@ -45,31 +43,33 @@ module _ (σ : State) (file : List ℕ) where
   write-refused {a} {why} e f =
       by-verdict (refused (numbered why)) (sym (held-refused σ (λ H. writeReasons H (length file)) e f) ∙ ap verdictOf e)
 
-  module _ (P : Passed σ) where
-    size-is : length (fileOf H) ≡ byteLength (σ .dataset .k) (σ .dataset .n)
-    unfolding contentsOf studyOf
-    size-is = file-length H (passed-valid σ P) ∙ ap (byteLength (σ .dataset .k)) (study-size σ)
+module _ {σ : State} (P : Passed σ) where
+  abbrev H : Contents
+  H = contentsOf σ
 
-    own : (b : Bool) → ltb (length file) (length (fileOf H)) ≡ b → writeAnswer σ (length file) ≡ cond b (refused (number 1)) accepted
-    unfolding writeAnswer writeReasons firstOf
-    own b e =
-        sym (held-own σ (λ H. writeReasons H (length file)) (P .not-short) (P .tested))
-        ∙ ap (λ b. cond b (refused (number 1)) accepted) e
+  size-is : length (fileOf (contentsOf σ)) ≡ byteLength (σ .dataset .k) (σ .dataset .n)
+  unfolding contentsOf studyOf
+  size-is = file-length H (passed-valid σ P) ∙ ap (byteLength (σ .dataset .k)) (study-size σ)
 
-    pub write-short : (size : ℕ) → size ≡ byteLength (σ .dataset .k) (σ .dataset .n) → length file < size
-        → (refusal (number 1) ≡ writeReply σ (length file)) × (file ≡ writeLeaves σ file)
-    write-short size e l = by-verdict (refused (number 1)) (own true (T-true _ (lt→ltb _ _ (subst (λ n. length file < n) (e ∙ sym size-is) l))))
+  own : (room : ℕ) (b : Bool) → ltb room (length (fileOf (contentsOf σ))) ≡ b → writeAnswer σ room ≡ cond b (refused (number 1)) accepted
+  unfolding writeAnswer writeReasons firstOf
+  own room b q =
+      sym (held-own σ (λ H. writeReasons H room) (P .not-short) (P .tested)) ∙ ap (λ b. cond b (refused (number 1)) accepted) q
+
+  module _ {file : List ℕ} {size : ℕ} (e : size ≡ byteLength (σ .dataset .k) (σ .dataset .n)) where
+    pub write-short : length file < size → (refusal (number 1) ≡ writeReply σ (length file)) × (file ≡ writeLeaves σ file)
+    write-short l =
+        by-verdict σ file (refused (number 1)) (own (length file) true (T-true _ (lt→ltb _ _ (subst (λ n. length file < n) (e ∙ sym size-is) l))))
 
     -- there is room
-    module _ (size : ℕ) (e : size ≡ byteLength (σ .dataset .k) (σ .dataset .n)) (room : size ≤ length file) where
+    module _ (room : size ≤ length file) where
       pub writable : Writable σ file
       unfolding byteLength
       writable = record { study = P .study; long = P .long; room = omega (arith, e, room) }
 
       pub write-done : {new : List ℕ} → PutFields file 0 (fields (contentsOf σ)) new
           → (value size ≡ writeReply σ (length file)) × (new ≡ writeLeaves σ file)
-      write-done {new} a =
-          let w = by-verdict accepted (own false (T-false _ (le→nltb _ _ (subst (λ n. n ≤ length file) (e ∙ sym size-is) room)))) in (
-            ap value (e ∙ sym size-is) ∙ w .0,
-            file-written H file a ∙ w .1,
-          )
+      write-done a =
+          let fits = subst (λ n. n ≤ length file) (e ∙ sym size-is) room in
+          let w = by-verdict σ file accepted (own (length file) false (T-false _ (le→nltb _ _ fits))) in
+          (ap value (e ∙ sym size-is) ∙ w .0, file-written H a ∙ w .1)

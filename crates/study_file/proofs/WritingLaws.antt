@@ -11,11 +11,13 @@ use lib.Dec.{T, eqb, eqb→eq}
 use lib.ListN.{length, getD, set, drop, length-append, length-drop, length-set, List·getD-append, List·getD-eq-default}
 use lib.Pow.{pow-pos, pow-mono, shl-lt, shl-exact, shr-shr, field, mod-mod-pow}
 use lib.Seq.{getD-append-add, getD-drop, getD-set-same, getD-set-other, ext-getD}
+use Rattle.lists.specs.Lists.{over}
 use Rattle.lists.proofs.Tests.{test, split, cond-yes, cond-no}
 use Rattle.file_format.specs.Bits.{binary, bitsOf, packed, Bits}
 use Rattle.bit_reader.proofs.FieldLaws.{one-moved}
-use Rattle.file_format.proofs.BitLaws.{append-bit, binary-ext, binary-small, binary-zero, binary-split, length-bitsOf, bitsOf-bit, bits-binary, length-pack, pack-at}
-use Rattle.study_file.specs.Writing.{over, Stands, Adds}
+use Rattle.file_format.proofs.BitLaws.{append-bit, binary-ext, binary-small, binary-zero, binary-split}
+use Rattle.file_format.proofs.BitLaws.{length-bitsOf, bitsOf-bit, bits-binary, length-pack, pack-at}
+use Rattle.study_file.specs.Writing.{InByte, Stands, Adds}
 
 -- the number v in the c bits at p, inside one byte; the first bits of a byte clear it
 unfoldable pub withPart : List ℕ → ℕ → ℕ → ℕ → List ℕ
@@ -23,8 +25,8 @@ withPart s p c v = set s (p / 8) ((cond (eqb (p % 8) 0) 0 (getD s (p / 8) 0) + v
 
 -- ---- one after the other
 
-pub adds-none : (s : List ℕ) (at : ℕ) → Adds s at [] s
-adds-none s at =
+pub adds-none : {s : List ℕ} {at : ℕ} → Adds s at [] s
+adds-none {s} {at} =
     record {
       next = λ old cs st.
           let e : at ≡ at + 0 = omega arith in
@@ -32,8 +34,9 @@ adds-none s at =
       same = refl;
     }
 
-pub adds-then : (s : List ℕ) (at : ℕ) (bs t : List ℕ) (p : ℕ) (ds u : List ℕ) → Adds s at bs t → p ≡ at + length bs → Adds t p ds u → Adds s at (bs ++ ds) u
-adds-then s at bs t p ds u a e b =
+pub adds-then : {s : List ℕ} {at : ℕ} {bs t : List ℕ} {p : ℕ} {ds u : List ℕ} → Adds s at bs t → p ≡ at + length bs → Adds t p ds u
+    → Adds s at (bs ++ ds) u
+adds-then {s} {at} {bs} {t} {p} {ds} {u} a e b =
     record {
       next = λ old cs st.
           let n : at + length bs + length ds ≡ at + length (bs ++ ds) = omega (arith, length-append bs ds) in
@@ -51,18 +54,16 @@ module _ (old bs : List ℕ) (room : (length bs + 7) / 8 ≤ length old) where
   unfolding packed
   packed-length = length-pack ((length bs + 7) / 8) (λ p. getD bs p 0)
 
-  over-length : length (over old bs) ≡ length old
-  unfolding over
+  over-length : length (over (packed bs) old) ≡ length old
   over-length = omega (arith, length-append (packed bs) (drop (length (packed bs)) old), length-drop (length (packed bs)) old, packed-length)
 
-  over-new : (i : ℕ) → i < (length bs + 7) / 8 → getD (over old bs) i 0 ≡ binary (λ p. getD bs p 0) (8 * i) 8
-  unfolding over packed
+  over-new : (i : ℕ) → i < (length bs + 7) / 8 → getD (over (packed bs) old) i 0 ≡ binary (λ p. getD bs p 0) (8 * i) 8
+  unfolding packed
   over-new i l =
       List·getD-append (packed bs) (drop (length (packed bs)) old) 0 i (omega (arith, packed-length))
       ∙ pack-at ((length bs + 7) / 8) (λ p. getD bs p 0) i l
 
-  over-old : (i : ℕ) → (length bs + 7) / 8 ≤ i → getD (over old bs) i 0 ≡ getD old i 0
-  unfolding over
+  over-old : (i : ℕ) → (length bs + 7) / 8 ≤ i → getD (over (packed bs) old) i 0 ≡ getD old i 0
   over-old i l =
       let w = packed-length in
       let e : length (packed bs) + (i - length (packed bs)) ≡ i = omega arith in
@@ -72,13 +73,13 @@ module _ (old bs : List ℕ) (room : (length bs + 7) / 8 ≤ length old) where
       ∙ ap (λ x. getD old x 0) e
 
   -- the byte that the next bit goes to, as the next bit finds it
-  byte-found : cond (eqb (length bs % 8) 0) 0 (getD (over old bs) (length bs / 8) 0) ≡ binary (λ p. getD bs p 0) (8 * (length bs / 8)) 8
+  byte-found : cond (eqb (length bs % 8) 0) 0 (getD (over (packed bs) old) (length bs / 8) 0) ≡ binary (λ p. getD bs p 0) (8 * (length bs / 8)) 8
   byte-found =
       ⊎-elim
       (λ t. let e = eqb→eq (length bs % 8) 0 t in
-      cond-yes (eqb (length bs % 8) 0) 0 (getD (over old bs) (length bs / 8) 0) t
+      cond-yes (eqb (length bs % 8) 0) 0 (getD (over (packed bs) old) (length bs / 8) 0) t
       ∙ sym (binary-zero (λ p. getD bs p 0) (8 * (length bs / 8)) 8 (λ j l. List·getD-eq-default bs 0 (omega arith))))
-      (λ t. cond-no (eqb (length bs % 8) 0) 0 (getD (over old bs) (length bs / 8) 0) t
+      (λ t. cond-no (eqb (length bs % 8) 0) 0 (getD (over (packed bs) old) (length bs / 8) 0) t
       ∙ over-new (length bs / 8) (⊎-elim (λ l. absurd (begun (length bs % 8) t (omega arith))) (λ l. omega arith) (split (length bs % 8) 1)))
       (test (eqb (length bs % 8) 0))
     where
@@ -158,74 +159,84 @@ module _ (old bs : List ℕ) (bit : Bits (λ p. getD bs p 0)) (c v : ℕ) (insid
       let o : binary f (8 * q) j * 2 ^ (c + r) ≡ binary g (8 * q) j * 2 ^ (c + r) = ap (λ k. k * 2 ^ (c + r)) front in
       omega arith
 
+  -- the bytes before and after the step
+  abbrev was : List ℕ
+  was = over (packed bs) old
+
+  abbrev becomes : List ℕ
+  becomes = over (packed (bs ++ bitsOf c v)) old
+
   abbrev stored : ℕ
-  stored = (cond (eqb (length bs % 8) 0) 0 (getD (over old bs) (length bs / 8) 0) + v * 2 ^ (8 - length bs % 8 - c)) % 256
+  stored = (cond (eqb (length bs % 8) 0) 0 (getD (over (packed bs) old) (length bs / 8) 0) + v * 2 ^ (8 - length bs % 8 - c)) % 256
 
   stored-is : stored ≡ binary g (8 * q) 8
   stored-is =
       ap (λ y. (y + v * 2 ^ r) % 256) (byte-found old bs room) ∙ ap (λ y. y % 256) byte ∙ mod-eq-of-lt (binary-small g bit′ (8 * q) 8)
 
-  pub put-part : 1 ≤ c → withPart (over old bs) (length bs) c v ≡ over old (bs ++ bitsOf c v)
+  pub put-part : 1 ≤ c → withPart (over (packed bs) old) (length bs) c v ≡ over (packed (bs ++ bitsOf c v)) old
   unfolding withPart
   put-part one =
-      ext-getD 0 (set (over old bs) q stored) (over old cs) (length-set (over old bs) q stored ∙ over-length old bs room ∙ sym (over-length old cs room′))
+      ext-getD 0 (set was q stored) becomes (length-set was q stored ∙ over-length old bs room ∙ sym (over-length old cs room′))
       (λ i k. ⊎-elim (λ l. lower i l)
-      (λ l. ⊎-elim (λ m. higher i m) (λ m. let e : q ≡ i = omega arith in subst (λ y. getD (set (over old bs) q stored) y 0 ≡ getD (over old cs) y 0) e here) (split q i))
+      (λ l. ⊎-elim (λ m. higher i m)
+      (λ m. let e : q ≡ i = omega arith in subst (λ y. getD (set was q stored) y 0 ≡ getD becomes y 0) e here) (split q i))
       (split i q))
     where
-      lower : (i : ℕ) → i < q → getD (set (over old bs) q stored) i 0 ≡ getD (over old cs) i 0
+      lower : (i : ℕ) → i < q → getD (set was q stored) i 0 ≡ getD becomes i 0
       lower i k =
-          getD-set-other (over old bs) q i stored 0 (λ e. omega arith)
+          getD-set-other was q i stored 0 (λ e. omega arith)
           ∙ over-new old bs room i (omega arith)
           ∙ binary-ext f g (8 * i) (8 * i) 8 (λ z o. before (8 * i + z) (omega arith))
           ∙ sym (over-new old cs room′ i (omega (arith, longer)))
 
-      higher : (i : ℕ) → q < i → getD (set (over old bs) q stored) i 0 ≡ getD (over old cs) i 0
+      higher : (i : ℕ) → q < i → getD (set was q stored) i 0 ≡ getD becomes i 0
       higher i k =
-          getD-set-other (over old bs) q i stored 0 (λ e. omega arith)
+          getD-set-other was q i stored 0 (λ e. omega arith)
           ∙ over-old old bs room i (omega arith)
           ∙ sym (over-old old cs room′ i (omega (arith, longer)))
 
-      here : getD (set (over old bs) q stored) q 0 ≡ getD (over old cs) q 0
+      here : getD (set was q stored) q 0 ≡ getD becomes q 0
       here =
-          getD-set-same (over old bs) q stored 0 (omega (arith, over-length old bs room))
+          getD-set-same was q stored 0 (omega (arith, over-length old bs room))
           ∙ stored-is
           ∙ sym (over-new old cs room′ q (omega (arith, longer)))
 
 -- what the code's step adds
-pub adds-part : (s : List ℕ) (at c v : ℕ) → 1 ≤ c → at % 8 + c ≤ 8 → v < 2 ^ c → at + c ≤ 8 * length s → Adds s at (bitsOf c v) (withPart s at c v)
+adds-part : {s : List ℕ} {at c v : ℕ} → InByte s at c v → Adds s at (bitsOf c v) (withPart s at c v)
 unfolding withPart
-adds-part s at c v one inside small fits =
+adds-part {s} {at} {c} {v} B =
     record { next = λ old bs st. step old bs (st .is) (st .place) st; same = length-set s (at / 8) _ }
   where
-    step : (old bs : List ℕ) → s ≡ over old bs → at ≡ length bs → Stands old bs s at → Stands old (bs ++ bitsOf c v) (withPart s at c v) (at + length (bitsOf c v))
+    step : (old bs : List ℕ) → s ≡ over (packed bs) old → at ≡ length bs → Stands old bs s at
+        → Stands old (bs ++ bitsOf c v) (withPart s at c v) (at + length (bitsOf c v))
     step old bs e p st =
         let n : length s ≡ length old = ap length e ∙ over-length old bs (st .room) in
         let l : length (bs ++ bitsOf c v) ≡ length bs + length (bitsOf c v) = length-append bs (bitsOf c v) in
         let w = length-bitsOf c v in
         record {
           is = ap₂ (λ x y. withPart x y c v) e p
-              ∙ put-part old bs (st .bits) c v (subst (λ z. z % 8 + c ≤ 8) p inside) small (omega arith) one;
+              ∙ put-part old bs (st .bits) c v (subst (λ z. z % 8 + c ≤ 8) p (B .inside)) (B .small) (omega (arith, B .room)) (B .some);
           place = omega arith;
           bits = append-bit bs (bitsOf c v) (st .bits) (bitsOf-bit c v);
-          room = omega arith;
+          room = omega (arith, B .room);
         }
 
 -- the same as the code computes it
-module _ (s : List ℕ) (at c v : ℕ) (inside : at % 8 + c ≤ 8) (small : v < 2 ^ c) where
-  pub part-moved : v * 2 ^ (8 - at % 8 - c) % 4294967296 ≡ v * 2 ^ (8 - at % 8 - c)
-  part-moved = shl-exact {a = v} c (8 - at % 8 - c) 32 small (omega arith)
+module _ {s : List ℕ} {at c v : ℕ} (B : InByte s at c v) where
+  part-moved : v * 2 ^ (8 - at % 8 - c) % 4294967296 ≡ v * 2 ^ (8 - at % 8 - c)
+  part-moved = shl-exact {a = v} c (8 - at % 8 - c) 32 (B .small) (omega (arith, B .inside))
 
-  pub part-small : v * 2 ^ (8 - at % 8 - c) < 256
-  part-small = let e : c + (8 - at % 8 - c) ≤ 8 = omega arith in lt-of-lt-of-le (shl-lt {a = v} c (8 - at % 8 - c) small) (pow-mono {j = 8} e)
+  -- the bits moved to their place fit a byte
+  pub part-small : v * 2 ^ (8 - at % 8 - c) % 4294967296 < 256
+  part-small =
+      let e : c + (8 - at % 8 - c) ≤ 8 = omega (arith, B .inside) in
+      rw part-moved (lt-of-lt-of-le (shl-lt {a = v} c (8 - at % 8 - c) (B .small)) (pow-mono {j = 8} e))
 
-  pub part-put : (old : ℕ) → old ≡ cond (eqb (at % 8) 0) 0 (getD s (at / 8) 0) → 1 ≤ c → at + c ≤ 8 * length s
+  pub part-put : {old : ℕ} → old ≡ cond (eqb (at % 8) 0) 0 (getD s (at / 8) 0)
       → Adds s at (bitsOf c v) (set s (at / 8) ((old + v * 2 ^ (8 - at % 8 - c) % 4294967296) % 256))
   unfolding withPart
-  part-put old e one fits =
-      subst (Adds s at (bitsOf c v))
-      (sym (ap₂ (λ x y. set s (at / 8) ((x + y) % 256)) e part-moved))
-      (adds-part s at c v one inside small fits)
+  part-put e =
+      subst (Adds s at (bitsOf c v)) (sym (ap₂ (λ x y. set s (at / 8) ((x + y) % 256)) e part-moved)) (adds-part B)
 
 -- ---- the bits of a number, front and rest
 
@@ -251,11 +262,11 @@ pub bits-small : (x c : ℕ) → c ≤ 20 → x % (1 * 2 ^ c % 4294967296) < 2 ^
 bits-small x c few = rw (one-moved c few) (mod-lt x (pow-pos c))
 
 -- the next c bits of v, of w bits
-pub field-more : (s : List ℕ) (at w v done c : ℕ) {t u : List ℕ} → done + c ≤ w → c ≤ 20 → Adds s at (bitsOf done (v / 2 ^ (w - done))) t
+pub field-more : {s : List ℕ} {at : ℕ} (w v done c : ℕ) {t u : List ℕ} → done + c ≤ w → c ≤ 20 → Adds s at (bitsOf done (v / 2 ^ (w - done))) t
     → Adds t (at + done) (bitsOf c (v / 2 ^ (w - done - c) % (1 * 2 ^ c % 4294967296))) u → Adds s at (bitsOf (done + c) (v / 2 ^ (w - (done + c)))) u
-field-more s at w v done c {t} {u} l few a b =
+field-more {s} {at} w v done c {t} {u} l few a b =
     subst (λ bs. Adds s at bs u) (ap (λ k. front ++ bitsOf c (x % k)) (one-moved c few) ∙ bits)
-    (adds-then s at front t (at + done) (bitsOf c (x % (1 * 2 ^ c % 4294967296))) u a (ap (λ k. at + k) (sym (length-bitsOf done (v / 2 ^ (w - done))))) b)
+    (adds-then a (ap (λ k. at + k) (sym (length-bitsOf done (v / 2 ^ (w - done))))) b)
   where
     x : ℕ
     x = v / 2 ^ (w - done - c)
@@ -271,8 +282,8 @@ field-more s at w v done c {t} {u} l few a b =
         let e : w - done - c ≡ w - (done + c) = omega arith in
         ap₂ (λ y ys. bitsOf done y ++ ys) high (bits-mod c x) ∙ sym (bits-split done c x) ∙ ap (λ k. bitsOf (done + c) (v / 2 ^ k)) e
 
-pub field-end : (s : List ℕ) (at w v done : ℕ) {t : List ℕ} → done ≤ w → w ≤ done → Adds s at (bitsOf done (v / 2 ^ (w - done))) t → Adds s at (bitsOf w v) t
-field-end s at w v done {t} l m a =
-    let e : done ≡ w = omega arith in
+pub field-end : {s : List ℕ} {at : ℕ} (w v done : ℕ) {t : List ℕ} → done ≡ w → Adds s at (bitsOf done (v / 2 ^ (w - done))) t
+    → Adds s at (bitsOf w v) t
+field-end {s} {at} w v done {t} e a =
     let z : w - done ≡ 0 = omega arith in
     subst (λ bs. Adds s at bs t) (ap₂ bitsOf e (ap (λ k. v / 2 ^ k) z ∙ div-one v)) a

@@ -16,7 +16,7 @@ use Rattle.study.specs.declared.Answer.{Answer}
 use Rattle.study.specs.declared.Answer.the-variants.{Done, Refused}
 use Rattle.study.specs.Calls.{Pair, firstViolation}
 
--- mark, number of tides and k have passed
+-- the reasons of the mark, the number of tides and k do not hold
 pub record Begun (s : List ℕ) (k n : ℕ) : Type 0 where
   pub six : 6 ≤ length s
   pub mark : bitsAt s 0 8 ≡ 84
@@ -32,7 +32,7 @@ part s t =
     let k = bitsAt s 15 4 in
     record { study = record { k = k; minima = minimaAt s k; tides = tabulate t (tideAt s k) }; withdrawals = bitsAt s 26 16 }
 
--- memory that holds them, where no reason for a refusal was met
+-- memory that holds the first t tides, where no reason for a refusal was met
 pub record Loaded (s : List ℕ) (t : ℕ) (matrix vector : List ℕ) : Type 0 where
   pub head : Head s
   pub clear : Clear s t
@@ -46,7 +46,7 @@ pub record Reading (s : List ℕ) (t : ℕ) (a : Answer) (matrix vector : List �
   pub goes : a ≡ Done → Loaded s t matrix vector
   pub stops : (why : Refusal) → a ≡ Refused why → firstOf (readReasons s) ≡ refused (numbered why)
 
--- the answer of a row, by the pairs with which it breaks the triangle rule
+-- the answer of a row, by the pairs that violate the triangle inequality with it
 abbrev pub violationVerdict : List Pair → Verdict
 violationVerdict [] = accepted
 violationVerdict (p ∷ ps) = refused (firstViolation (p ∷ ps))

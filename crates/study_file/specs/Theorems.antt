@@ -11,6 +11,7 @@ use Rattle.file_format.specs.Theorems.{Bytes}
 use Rattle.validity.specs.Memory.{State, short, isDataset, contentsOf, stored}
 use Rattle.study_file.specs.Answers.{readAnswer, readLeaves}
 
+-- files and datasets correspond one to one
 pub record ForFiles : Type 0 where
   -- Read accepts the file of a dataset, whatever it is read over, and gives that dataset
   pub accepts : (s over : State) → T (isDataset s) → short over ≡ false → readAnswer over (fileOf (contentsOf s)) ≡ accepted

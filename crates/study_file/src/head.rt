@@ -1,16 +1,16 @@
 // What stands in a file before its tides, and what Read looks at before any tide.
 use crate::length::bit_length;
 use crate::length::byte_length;
-use bit_reader::Field;
+use bit_reader::FieldValue;
 use bit_reader::Start;
 use bit_reader::read_field;
 use bit_reader::read_start;
 use study::Answer;
 use study::Dataset;
+use study::MAX_TIDES;
 use study::Minima;
 use study::Refusal;
 use validity::valid_minima;
-use study::MAX_TIDES;
 ghost use mathlib.Core.Path.{_≡_};
 ghost use Prim.Native.Nat.{_+_, _-_, _*_, _^_, _≤_, _<_};
 ghost use lib.Dec.{eqb};
@@ -29,7 +29,7 @@ fn number(file: &[u8], at: usize, width: usize) -> u32
     requires { ⌜ at + width ≤ 8 * length (now file) ⌝ }
     ensures { λ r. ⌜ (r ≡ bitsAt (now (file .entry)) at width) × (r < 2 ^ width) ⌝ }
 {
-    let Field::Value(v) = read_field(file, at, width) else {
+    let FieldValue::Value(v) = read_field(file, at, width) else {
         return 0;
     };
     v

@@ -4,7 +4,7 @@ ghost use Prim.Native.Nat.{_≤_};
 ghost use Rattle.study.specs.Limits.{maxTides};
 ghost use Rattle.file_format.specs.File.{bitLength, byteLength};
 
-// The bits without the fill bits; those of t tides end where tide t begins.
+// The bits of a file of n tides without the fill bits; tide n would begin there.
 pub fn bit_length(k: usize, n: usize) -> usize
     requires { ⌜ (k ≤ 8) × (n ≤ maxTides) ⌝ }
     ensures { λ r. ⌜ (r ≡ bitLength k n) × (r ≤ 143258) ⌝ }
@@ -12,6 +12,7 @@ pub fn bit_length(k: usize, n: usize) -> usize
     42 + 7 * k + 10 * (n * n) - 7 * n
 }
 
+// The bytes, the last one filled with zero bits.
 pub fn byte_length(k: usize, n: usize) -> usize
     requires { ⌜ (k ≤ 8) × (n ≤ maxTides) ⌝ }
     ensures { λ r. ⌜ (r ≡ byteLength k n) × (r ≤ 17908) ⌝ }

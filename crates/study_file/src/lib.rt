@@ -8,10 +8,11 @@ use crate::tides::read_tides;
 use crate::writing::put_fields;
 use dataset::check;
 use study::Answer;
+use validity::is_short;
 use study::Dataset;
+use study::MAX_TIDES;
 use study::Outcome;
 use study::Refusal;
-use study::MAX_TIDES;
 use study::TABLE_SIZE;
 
 mod head;
@@ -22,7 +23,7 @@ mod writing;
 
 ghost use mathlib.Core.Path.{_≡_};
 ghost use lib.ListN.{length};
-ghost use Rattle.validity.specs.Memory.{stateOf};
+ghost use Rattle.validity.specs.Memory.{stateOf, entryState, exitState};
 ghost use Rattle.dataset.specs.Accepted.{Passed};
 ghost use Rattle.study.specs.Refusals.{verdictOf};
 ghost use Rattle.study_file.specs.Answers.{readAnswer, readLeaves, writtenOf, writeReply, writeLeaves};
@@ -35,16 +36,10 @@ pub enum Written {
 
 // The dataset that a file holds. It is read into memory of its own, and copied into the lent memory once nothing can refuse it any more.
 pub fn read(dataset: Dataset, distances: &mut [u32], settings: &mut [u8], file: &[u8]) -> Outcome
-    ensures answer { λ r. ⌜ verdictOf (r .answer) ≡ readAnswer (stateOf dataset (now (distances .entry)) (now (settings .entry))) (now (file .entry)) ⌝ }
-    ensures leaves { λ r. ⌜ stateOf (r .dataset) (now (distances .exit)) (now (settings .exit)) ≡ readLeaves (stateOf dataset (now (distances .entry)) (now (settings .entry))) (now (file .entry)) ⌝ }
+    ensures answer { λ r. ⌜ verdictOf (r .answer) ≡ readAnswer (entryState dataset distances settings) (now (file .entry)) ⌝ }
+    ensures leaves { λ r. ⌜ exitState (r .dataset) distances settings ≡ readLeaves (entryState dataset distances settings) (now (file .entry)) ⌝ }
 {
-    if distances.len() < TABLE_SIZE {
-        return Outcome {
-            answer: Answer::Refused(Refusal::ShortMemory),
-            dataset,
-        };
-    }
-    if settings.len() < MAX_TIDES {
+    if is_short(distances, settings) {
         return Outcome {
             answer: Answer::Refused(Refusal::ShortMemory),
             dataset,
@@ -75,8 +70,8 @@ pub fn read(dataset: Dataset, distances: &mut [u32], settings: &mut [u8], file: 
 // The file of a dataset, where there is room for it.
 fn write_file(dataset: Dataset, distances: &[u32], settings: &[u8], file: &mut [u8]) -> Written
     requires { ⌜ Passed (stateOf dataset (now distances) (now settings)) ⌝ }
-    ensures reply { λ r. ⌜ writtenOf r ≡ writeReply (stateOf dataset (now (distances .entry)) (now (settings .entry))) (length (now (file .entry))) ⌝ }
-    ensures leaves { λ r. ⌜ now (file .exit) ≡ writeLeaves (stateOf dataset (now (distances .entry)) (now (settings .entry))) (now (file .entry)) ⌝ }
+    ensures reply { λ r. ⌜ writtenOf r ≡ writeReply (entryState dataset distances settings) (length (now (file .entry))) ⌝ }
+    ensures leaves { λ r. ⌜ now (file .exit) ≡ writeLeaves (entryState dataset distances settings) (now (file .entry)) ⌝ }
 {
     let size = byte_length(dataset.k as usize, dataset.n);
     if file.len() < size {
@@ -88,8 +83,8 @@ fn write_file(dataset: Dataset, distances: &[u32], settings: &[u8], file: &mut [
 
 // The file over the front of the lent bytes; those past it stay.
 pub fn write(dataset: Dataset, distances: &[u32], settings: &[u8], file: &mut [u8]) -> Written
-    ensures reply { λ r. ⌜ writtenOf r ≡ writeReply (stateOf dataset (now (distances .entry)) (now (settings .entry))) (length (now (file .entry))) ⌝ }
-    ensures leaves { λ r. ⌜ now (file .exit) ≡ writeLeaves (stateOf dataset (now (distances .entry)) (now (settings .entry))) (now (file .entry)) ⌝ }
+    ensures reply { λ r. ⌜ writtenOf r ≡ writeReply (entryState dataset distances settings) (length (now (file .entry))) ⌝ }
+    ensures leaves { λ r. ⌜ now (file .exit) ≡ writeLeaves (entryState dataset distances settings) (now (file .entry)) ⌝ }
 {
     let answer = check(dataset, distances, settings);
     match answer {

@@ -1,34 +1,32 @@
 // The tides of a file, one by one, into memory of Read's own: for each its setting (5) and its row (7). A refusal met there ends the reading.
 use crate::length::bit_length;
-use bit_reader::Field;
+use bit_reader::FieldValue;
 use bit_reader::read_field;
 use study::Answer;
+use study::MAX_TIDES;
 use study::Refusal;
 use triangle::Violation;
 use triangle::first_violation;
-use study::MAX_TIDES;
 ghost use mathlib.Core.Path.{_≡_};
-ghost use Prim.Native.Nat.{_+_, _*_, _^_, _≤_, _<_};
+ghost use Prim.Native.Nat.{_+_, _≤_, _<_};
 ghost use lib.ListN.{length};
-ghost use Rattle.study.specs.Limits.{maxTides, tableSize};
-ghost use Rattle.study.specs.Limits.{cell};
+ghost use Rattle.study.specs.Limits.{maxTides, tableSize, cell};
 ghost use Rattle.study.specs.declared.Answer.the-variants.{Done};
 ghost use Rattle.study.specs.Refusals.{verdictOf};
 ghost use Rattle.study.specs.Calls.{violations};
 ghost use Rattle.file_format.specs.Bits.{bitsAt};
 ghost use Rattle.storage.specs.Places.{withRow};
 ghost use Rattle.study_file.specs.Loading.{Loaded, Reading, violationVerdict};
-ghost use Rattle.study_file.specs.Rows.{rowAt, RowRead};
+ghost use Rattle.study_file.specs.Rows.{rowAt, RowInside, RowRead};
 
 // The distances of tide t to the earlier tides, from a position on: into its row and its column.
 fn take_row(file: &[u8], start: usize, matrix: &mut [u32], t: usize) -> Answer
-    requires { ⌜ (t < maxTides) × (tableSize ≤ length (now matrix)) ⌝ }
-    requires { ⌜ (start + 20 * t ≤ 8 * length (now file)) × (start < 2 ^ 62) ⌝ }
+    requires { ⌜ RowInside (now file) (now matrix) start t ⌝ }
     ensures { λ r. ⌜ (r ≡ Done) × (now (matrix .exit) ≡ withRow (rowAt (now (file .entry)) start t) t (now (matrix .entry))) ⌝ }
 {
     let mut i: usize = 0;
     while i < t {
-        let Field::Value(x) = read_field(file, start + 20 * i, 20) else {
+        let FieldValue::Value(x) = read_field(file, start + 20 * i, 20) else {
             return Answer::Refused(Refusal::FileLength);
         };
         matrix[t * MAX_TIDES + i] = x;
@@ -38,7 +36,7 @@ fn take_row(file: &[u8], start: usize, matrix: &mut [u32], t: usize) -> Answer
     Answer::Done
 }
 
-// Whether tide t obeys the triangle rule with every pair before it.
+// Whether tide t obeys the triangle inequality with every pair before it, or the first pair that violates it.
 fn row_answer(matrix: &[u32], t: usize) -> Answer
     requires { ⌜ (t < maxTides) × (tableSize ≤ length (now matrix)) ⌝ }
     ensures { λ r. ⌜ verdictOf r ≡ violationVerdict (violations (cell (now (matrix .entry))) t (cell (now (matrix .entry)) t)) ⌝ }
@@ -51,10 +49,9 @@ fn row_answer(matrix: &[u32], t: usize) -> Answer
     }
 }
 
-// Tide t's row: its distances into memory, and the triangle rule.
+// Tide t's row: its distances into memory, and the triangle inequality.
 fn read_row(file: &[u8], start: usize, matrix: &mut [u32], t: usize) -> Answer
-    requires { ⌜ (t < maxTides) × (tableSize ≤ length (now matrix)) ⌝ }
-    requires { ⌜ (start + 20 * t ≤ 8 * length (now file)) × (start < 2 ^ 62) ⌝ }
+    requires { ⌜ RowInside (now file) (now matrix) start t ⌝ }
     ensures { λ r. ⌜ RowRead (now (file .entry)) start t (now (matrix .entry)) (now (matrix .exit)) r ⌝ }
 {
     let taken = take_row(file, start, matrix, t);
@@ -64,12 +61,13 @@ fn read_row(file: &[u8], start: usize, matrix: &mut [u32], t: usize) -> Answer
     row_answer(matrix, t)
 }
 
+// Tide t: its setting (5) and its row (7) into memory.
 fn read_tide(file: &[u8], k: usize, matrix: &mut [u32], vector: &mut [u8], t: usize) -> Answer
     requires { ⌜ (k ≡ bitsAt (now file) 15 4) × (t < bitsAt (now file) 8 7) × Loaded (now file) t (now matrix) (now vector) ⌝ }
     ensures { λ r. ⌜ Reading (now (file .entry)) (t + 1) r (now (matrix .exit)) (now (vector .exit)) ⌝ }
 {
     let start = bit_length(k, t);
-    let Field::Value(less) = read_field(file, start, 3) else {
+    let FieldValue::Value(less) = read_field(file, start, 3) else {
         return Answer::Refused(Refusal::FileLength);
     };
     if k <= less as usize {
@@ -83,7 +81,7 @@ fn read_tide(file: &[u8], k: usize, matrix: &mut [u32], vector: &mut [u8], t: us
     Answer::Done
 }
 
-// All n tides.
+// All n tides, into memory that is blank.
 pub fn read_tides(file: &[u8], k: usize, n: usize, matrix: &mut [u32], vector: &mut [u8]) -> Answer
     requires { ⌜ (k ≡ bitsAt (now file) 15 4) × (n ≡ bitsAt (now file) 8 7) × Loaded (now file) 0 (now matrix) (now vector) ⌝ }
     ensures { λ r. ⌜ Reading (now (file .entry)) n r (now (matrix .exit)) (now (vector .exit)) ⌝ }

@@ -9,14 +9,15 @@ ghost use Prim.Native.Nat.{ℕ, _+_, _*_, _%_, _^_, _≤_, _<_};
 ghost use lib.Dec.{eqb};
 ghost use lib.ListN.{length, getD};
 ghost use Rattle.lists.specs.Lists.{tabulate};
-ghost use Rattle.study.specs.Limits.{maxTides, tableSize};
-ghost use Rattle.study.specs.Limits.{cell};
+ghost use Rattle.study.specs.Limits.{maxTides, cell};
 ghost use Rattle.file_format.specs.Bits.{field, bitsOf};
 ghost use Rattle.file_format.specs.File.{tideFields, fields, bitLength};
-ghost use Rattle.validity.specs.Memory.{stateOf, tideOf, contentsOf};
-ghost use Rattle.study_file.specs.Writing.{Adds};
-ghost use Rattle.study_file.specs.Putting.{PutFields, Writable, headFields};
+ghost use Rattle.validity.specs.Memory.{stateOf, entryState, tideOf, contentsOf};
+ghost use Rattle.study_file.specs.Writing.{InByte, Adds};
+ghost use Rattle.study_file.specs.Rows.{RowInside};
+ghost use Rattle.study_file.specs.Putting.{PutFields, Writable, TideInside, headFields};
 
+// A byte as a wider number.
 fn wide(x: u8) -> u32
     ensures { λ r. ⌜ (r ≡ x) × (r < 256) ⌝ }
 {
@@ -33,10 +34,9 @@ fn kept(x: u8, j: usize) -> u32
     wide(x)
 }
 
-// The bits of v, `count` of them, inside one byte.
+// The last `count` bits of v, inside one byte.
 fn put_part(file: &mut [u8], at: usize, count: usize, v: u32)
-    requires { ⌜ (1 ≤ count) × (at % 8 + count ≤ 8) ⌝ }
-    requires { ⌜ (v < 2 ^ count) × (at + count ≤ 8 * length (now file)) ⌝ }
+    requires { ⌜ InByte (now file) at count v ⌝ }
     ensures { λ _. ⌜ Adds (now (file .entry)) at (bitsOf count v) (now (file .exit)) ⌝ }
 {
     let i = at / 8;
@@ -61,8 +61,7 @@ fn taken(at: usize, left: usize) -> usize
 
 // A field, most significant bit first, byte by byte.
 fn put_field(file: &mut [u8], at: usize, width: usize, value: u32)
-    requires { ⌜ (width ≤ 20) × (at + width ≤ 8 * length (now file)) ⌝ }
-    requires { ⌜ at < 2 ^ 63 ⌝ }
+    requires { ⌜ (width ≤ 20) × (at + width ≤ 8 * length (now file)) × (at < 2 ^ 63) ⌝ }
     ensures { λ _. ⌜ PutFields (now (file .entry)) at (field width value ∷ []) (now (file .exit)) ⌝ }
 {
     let mut done: usize = 0;
@@ -75,6 +74,7 @@ fn put_field(file: &mut [u8], at: usize, width: usize, value: u32)
     }
 }
 
+// The fields before the minima.
 fn put_head(file: &mut [u8], dataset: Dataset)
     requires { ⌜ (6 ≤ length (now file)) × (dataset .n ≤ maxTides) ⌝ }
     ensures { λ _. ⌜ PutFields (now (file .entry)) 0 (headFields dataset) (now (file .exit)) ⌝ }
@@ -101,8 +101,7 @@ fn put_minima(file: &mut [u8], k: usize, b: [u8; 8])
 
 // The distances of tide t to the tides before it.
 fn put_row(file: &mut [u8], start: usize, distances: &[u32], t: usize)
-    requires { ⌜ (t < maxTides) × (tableSize ≤ length (now distances)) ⌝ }
-    requires { ⌜ (start + 20 * t ≤ 8 * length (now file)) × (start < 2 ^ 62) ⌝ }
+    requires { ⌜ RowInside (now file) (now distances) start t ⌝ }
     ensures { λ _. ⌜ PutFields (now (file .entry)) start (map (field 20) (tabulate t (cell (now (distances .entry)) t))) (now (file .exit)) ⌝ }
 {
     let mut i: usize = 0;
@@ -112,6 +111,7 @@ fn put_row(file: &mut [u8], start: usize, distances: &[u32], t: usize)
     }
 }
 
+// Tide t: its setting less one, and its row.
 fn put_tide(
     file: &mut [u8],
     start: usize,
@@ -120,17 +120,18 @@ fn put_tide(
     settings: &[u8],
     t: usize,
 )
-    requires { ⌜ (t < maxTides) × (tableSize ≤ length (now distances)) × (t < length (now settings)) × (1 ≤ getD (now settings) t 0) ⌝ }
-    requires { ⌜ (start + (3 + 20 * t) ≤ 8 * length (now file)) × (start < 2 ^ 61) ⌝ }
-    ensures { λ _. ⌜ PutFields (now (file .entry)) start (tideFields (tideOf (stateOf dataset (now (distances .entry)) (now (settings .entry))) t)) (now (file .exit)) ⌝ }
+    requires { ⌜ TideInside (now file) (now distances) (now settings) start t ⌝ }
+    ensures { λ _. ⌜ PutFields (now (file .entry)) start (tideFields (tideOf (entryState dataset distances settings) t)) (now (file .exit)) ⌝ }
 {
     put_field(file, start, 3, wide(settings[t]) - 1);
     put_row(file, start + 3, distances, t);
 }
 
+// All tides.
 fn put_tides(file: &mut [u8], dataset: Dataset, distances: &[u32], settings: &[u8])
     requires { ⌜ Writable (stateOf dataset (now distances) (now settings)) (now file) ⌝ }
-    ensures { λ _. ⌜ PutFields (now (file .entry)) (bitLength (dataset .k) 0) (flatMap tideFields (tabulate (dataset .n) (tideOf (stateOf dataset (now (distances .entry)) (now (settings .entry)))))) (now (file .exit)) ⌝ }
+    ensures { λ _. ⌜ PutFields (now (file .entry)) (bitLength (dataset .k) 0)
+        (flatMap tideFields (tabulate (dataset .n) (tideOf (entryState dataset distances settings)))) (now (file .exit)) ⌝ }
 {
     let k = dataset.k as usize;
     let n = dataset.n;
@@ -145,7 +146,7 @@ fn put_tides(file: &mut [u8], dataset: Dataset, distances: &[u32], settings: &[u
 // All fields of the file.
 pub fn put_fields(file: &mut [u8], dataset: Dataset, distances: &[u32], settings: &[u8])
     requires { ⌜ Writable (stateOf dataset (now distances) (now settings)) (now file) ⌝ }
-    ensures { λ _. ⌜ PutFields (now (file .entry)) 0 (fields (contentsOf (stateOf dataset (now (distances .entry)) (now (settings .entry))))) (now (file .exit)) ⌝ }
+    ensures { λ _. ⌜ PutFields (now (file .entry)) 0 (fields (contentsOf (entryState dataset distances settings))) (now (file .exit)) ⌝ }
 {
     let k = dataset.k as usize;
     let minima = dataset.minima;

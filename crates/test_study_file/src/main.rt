@@ -10,16 +10,16 @@ use crate::samples::flip;
 use crate::samples::four_tides;
 use crate::samples::small_file;
 use crate::samples::spoiled;
-use study::refusals::number_of;
 use study::Dataset;
+use study::MAX_TIDES;
 use study::Outcome;
+use study::TABLE_SIZE;
+use study::refusals::number_of;
 use study_file::Written;
 use test_tools::samples::nonsense;
 use test_tools::slices::front;
 use test_tools::tally;
 use test_tools::tally::Tally;
-use study::MAX_TIDES;
-use study::TABLE_SIZE;
 
 mod reading;
 mod samples;
@@ -32,6 +32,7 @@ fn written_number(written: Written) -> u32 {
     }
 }
 
+// The length that a Write gives; 0 where it is refused.
 fn written_length(written: Written) -> usize {
     match written {
         Written::Done(n) => n,
@@ -55,6 +56,7 @@ fn spoiled_number(a: usize, b: usize, c: usize, d: usize, e: usize, n: usize) ->
     number(front(&spoiled(a, b, c, d, e), n))
 }
 
+// What Read makes of the whole file with two other bits.
 fn read_spoiled(a: usize, b: usize) -> Outcome {
     read(front(&spoiled(a, b, 999, 999, 999), 24))
 }
@@ -76,14 +78,15 @@ fn head_refusals(so_far: Tally) -> Tally {
     t.see(spoiled_number(191, 57, 999, 999, 999, 24) == 11)
 }
 
+// The bits of the tides, by the list above.
 fn tide_refusals(so_far: Tally) -> Tally {
     let mut t = so_far;
-    // tide 3: a setting above k and a row that breaks the rule; tide 2's setting and tide 3's row; tide 3's row and tide 4's setting
+    // tide 3: a setting above k and a row that violates the triangle inequality; tide 2's setting and tide 3's row; tide 3's row and tide 4's setting
     t = t.see(spoiled_number(83, 85, 999, 999, 999, 24) == 5);
     t = t.see(spoiled_number(60, 85, 999, 999, 999, 24) == 5);
     t = t.see(spoiled_number(85, 126, 999, 999, 999, 24) == 7);
     t = t.pair(read_spoiled(85, 126), 1, 2);
-    // tide 4 breaks the rule with 1 and 2, 1 and 3; with 1 and 3, 2 and 3
+    // tide 4's violations are 1 and 2, 1 and 3; then 1 and 3, 2 and 3
     t = t.pair(read_spoiled(128, 999), 1, 2);
     t.pair(read_spoiled(168, 999), 1, 3)
 }
@@ -101,6 +104,7 @@ fn truncated(so_far: Tally) -> Tally {
     t
 }
 
+// The file with bit p flipped.
 fn with_flip(p: usize) -> [u8; 64] {
     let mut file = small_file();
     flip(&mut file, p);
@@ -190,6 +194,7 @@ fn write_nonsense(so_far: Tally, distances: &[u32], settings: &[u8], file: &mut 
         .see(written_number(write_within(nonsense(), distances, settings, file, 5)) == 21)
 }
 
+// Refusals of Write, the last for want of a byte; none writes anything.
 fn write_refused(so_far: Tally) -> Tally {
     let mut distances = [7u32; TABLE_SIZE];
     let mut settings = [9u8; MAX_TIDES];
@@ -220,6 +225,7 @@ fn write_done(so_far: Tally) -> Tally {
         .see(check::same(past(&file, 24), &[170u8; 40]))
 }
 
+// Whether two records are the same.
 fn same_record(a: Dataset, b: Dataset) -> bool {
     let x = a.minima;
     let y = b.minima;

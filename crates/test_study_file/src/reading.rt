@@ -1,8 +1,8 @@
 // Reading bytes, and writing what was read.
-use study::refusals::number_of;
 use study::Answer;
 use study::Dataset;
 use study::Outcome;
+use study::refusals::number_of;
 use study_file::Written;
 use test_tools::samples::nonsense;
 use test_tools::slices::front;
@@ -27,12 +27,14 @@ pub fn read_into(distances: &mut [u32], settings: &mut [u8], bytes: &[u8]) -> Ou
     study_file::read(nonsense(), distances, settings, bytes)
 }
 
+// Read into memory of its own.
 pub fn read(bytes: &[u8]) -> Outcome {
     let mut distances = [7u32; 14403];
     let mut settings = [9u8; 123];
     read_into(&mut distances, &mut settings, bytes)
 }
 
+// Write, of any record and memory.
 pub fn write(record: Dataset, distances: &[u32], settings: &[u8], file: &mut [u8]) -> Written {
     study_file::write(record, distances, settings, file)
 }

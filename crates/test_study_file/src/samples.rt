@@ -1,12 +1,12 @@
 // Records, datasets and files to try the calls on.
 use crate::reading::write;
 use study::Dataset;
+use study::MAX_TIDES;
+use study::MAX_WITHDRAWALS;
 use study::Minima;
+use study::TABLE_SIZE;
 use test_tools::samples::entered;
 use test_tools::samples::two_tides;
-use study::MAX_TIDES;
-use study::TABLE_SIZE;
-use study::MAX_WITHDRAWALS;
 
 // Four tides on a line at 0, 3, 7 and 12, with minima that they meet.
 pub fn four_tides(distances: &mut [u32], settings: &mut [u8]) -> Dataset {
@@ -28,7 +28,7 @@ pub fn four_tides(distances: &mut [u32], settings: &mut [u8]) -> Dataset {
 // 120 tides, the greatest k and the greatest count.
 pub fn full_record() -> Dataset {
     let minima = Minima {
-        b0: MAX_TIDES,
+        b0: MAX_TIDES as u8,
         b: [15; 8],
     };
     Dataset {
@@ -45,6 +45,7 @@ fn position(i: usize) -> u32 {
     at as u32
 }
 
+// The distance of two positions.
 fn gap(a: u32, b: u32) -> u32 {
     if a < b {
         return b - a;

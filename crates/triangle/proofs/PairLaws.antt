@@ -1,5 +1,5 @@
--- The search for the first pair of tides with which a new tide breaks the triangle rule: at each turn, the pairs that are still to
--- come begin with the answer. Assumes nothing.
+-- The search for the first pair of tides that violates the triangle inequality with a new tide: at each turn, the violations that are
+-- still to come begin with the answer. Assumes nothing.
 use Prim.Native.Nat.{ℕ, suc, _+_, _-_, _*_, _≤_, _<_}
 use native.Mathlib.Omega.{arith}
 use native.Mathlib.Numerals.{add-one}
@@ -36,16 +36,20 @@ module _ (d row : List ℕ) where
   abbrev n : ℕ
   n = length row
 
-  abbrev broken? : ℕ → ℕ → Bool
-  broken? i j = not (triangle (cell d i j) (getD row i 0) (getD row j 0))
+  abbrev violates? : ℕ → ℕ → Bool
+  violates? i j = not (triangle (cell d i j) (getD row i 0) (getD row j 0))
+
+  -- each of these tides with tide i
+  abbrev pairs : ℕ → List ℕ → List Pair
+  pairs i js = map (λ j. record { lower = i; upper = j }) js
 
   abbrev with : ℕ → List ℕ → List Pair
-  with i js = map (λ j. record { lower = i; upper = j }) (filter (broken? i) js)
+  with i js = pairs i (filter (violates? i) js)
 
   abbrev after : ℕ → ℕ → List Pair
   after i k = flatMap (λ i. with i (iota (suc i) (n - suc i))) (iota i k)
 
-  -- the violations pairs whose lower tide is i or later
+  -- the violations whose lower tide is i or later
   unfoldable pub pairsFrom : ℕ → List Pair
   pairsFrom i = after i (n - i)
 
@@ -62,19 +66,19 @@ module _ (d row : List ℕ) where
   violation-enters i l = let e : n - i ≡ suc (n - suc i) = omega arith in rw (add-one i) (ap (after i) e)
 
   -- tide j comes first among those that are left
-  at-j : (i j : ℕ) → j < n → (b : Bool) → broken? i j ≡ b
-      → pairsAt i j ≡ map (λ j. record { lower = i; upper = j }) (let r = filter (broken? i) (iota (suc j) (n - suc j)) in cond b (j ∷ r) r) ++ pairsFrom (suc i)
+  at-j : (i j : ℕ) → j < n → (b : Bool) → violates? i j ≡ b
+      → pairsAt i j ≡ pairs i (let r = filter (violates? i) (iota (suc j) (n - suc j)) in cond b (j ∷ r) r) ++ pairsFrom (suc i)
   unfolding pairsAt
   at-j i j l b q =
       let e : n - j ≡ suc (n - suc j) = omega arith in
       ap (λ (k : ℕ). with i (iota j k) ++ pairsFrom (suc i)) e
-      ∙ ap (λ b. map (λ j. record { lower = i; upper = j }) (let r = filter (broken? i) (iota (suc j) (n - suc j)) in cond b (j ∷ r) r) ++ pairsFrom (suc i)) q
+      ∙ ap (λ b. pairs i (let r = filter (violates? i) (iota (suc j) (n - suc j)) in cond b (j ∷ r) r) ++ pairsFrom (suc i)) q
 
-  pub violation-passes : (i j : ℕ) → j < n → broken? i j ≡ false → pairsAt i j ≡ pairsAt i (j + 1)
+  pub violation-passes : (i j : ℕ) → j < n → violates? i j ≡ false → pairsAt i j ≡ pairsAt i (j + 1)
   unfolding pairsAt
   violation-passes i j l q = rw (add-one j) (at-j i j l false q)
 
-  pub violation-finds : (i j : ℕ) → j < n → broken? i j ≡ true → Violations.Pair (i + 1) (j + 1) ≡ violationOf (pairsAt i j)
+  pub violation-finds : (i j : ℕ) → j < n → violates? i j ≡ true → Violations.Pair (i + 1) (j + 1) ≡ violationOf (pairsAt i j)
   violation-finds i j l q = rw (add-one i, add-one j) (sym (ap violationOf (at-j i j l true q)))
 
   pub violation-leaves : (i j : ℕ) → n ≤ j → pairsAt i j ≡ pairsFrom (i + 1)
@@ -87,7 +91,7 @@ module _ (d row : List ℕ) where
   unfolding pairsFrom flatMap
   violation-ends i l = let e : n - i ≡ 0 = omega arith in sym (ap (λ (k : ℕ). violationOf (after i k)) e)
 
--- ---- the same distances break at the same pairs
+-- ---- the same distances have the same violations
 
 filter-same : {A : Type 0} (p q : A → Bool) (xs : List A) → ((x : A) → x among xs → p x ≡ q x) → filter p xs ≡ filter q xs
 filter-same p q [] f = refl
@@ -131,5 +135,7 @@ module _ (d : List ℕ) (t : ℕ) (fits : 14400 ≤ length d) (held : t < 120) w
       ap (λ (k : ℕ). violations (cell d) k (λ i. getD (rowIn d t) i 0)) part-length
       ∙ violations-same (cell d) (cell d) t (λ i. getD (rowIn d t) i 0) (cell d t) (λ i j a b. refl) part-at
 
-  pub part-found : {r : Violation} → r ≡ violationOf (violations (cell d) (length (rowIn d t)) (λ i. getD (rowIn d t) i 0)) → r ≡ violationOf (violations (cell d) t (cell d t))
+  -- what the search finds for that part, it finds for tide t
+  pub part-found : {r : Violation} → r ≡ violationOf (violations (cell d) (length (rowIn d t)) (λ i. getD (rowIn d t) i 0))
+      → r ≡ violationOf (violations (cell d) t (cell d t))
   part-found e = e ∙ ap violationOf part-violations

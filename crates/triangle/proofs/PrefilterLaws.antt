@@ -1,5 +1,5 @@
--- The quick test of the triangle rule at one more tide: where it adds up to 0, no pair breaks the rule; where no pair breaks it, the
--- test of distances of 20 bits adds up to 0. Assumes nothing.
+-- The prefilter: where it raises no flag, no pair violates the triangle inequality; where no pair violates it, distances of 20 bits
+-- raise no flag. Assumes nothing.
 use Prim.Native.Nat.{ℕ, _+_, _-_, _*_, _/_, _%_, _≤_, _<_}
 use native.Mathlib.Omega.{arith}
 use mathlib.Core.Path.{_≡_, ap, _∙_, subst}
@@ -57,10 +57,10 @@ module _ (x y z apart : ℕ) (hx : x < 4294967296) (hy : y < 4294967296) (hz : z
   within-c c h e f =
       record { rest = c; turns = (c + apart) / 4294967296 + 1 - (apart + z) / 4294967296; small = h; is = omega arith }
 
-  -- where none has its top bit, the rule holds
-  no-doubt : (both : ℕ) {a b c : ℕ} → (apart + z) % 4294967296 ≡ x → both ≡ (x + z) % 4294967296 → (a + y) % 4294967296 ≡ both
+  -- where none has its top bit, there is no flag, and the inequality holds
+  no-flag : (both : ℕ) {a b c : ℕ} → (apart + z) % 4294967296 ≡ x → both ≡ (x + z) % 4294967296 → (a + y) % 4294967296 ≡ both
       → b ≡ (y + apart) % 4294967296 → (c + apart) % 4294967296 ≡ y → a < 2147483648 → b < 2147483648 → c < 2147483648 → Triangle x y z
-  no-doubt both {a} {b} {c} e f p q r ha hb hc =
+  no-flag both {a} {b} {c} e f p q r ha hb hc =
       let A = within-a both a ha f p in
       let B = within-b b hb e q in
       let C = within-c c hc e r in
@@ -81,13 +81,13 @@ module _ (x y z apart : ℕ) (hx : x < 4294967296) (hy : y < 4294967296) (hz : z
     clear-c : (c : ℕ) → c < 4294967296 → (apart + z) % 4294967296 ≡ x → (c + apart) % 4294967296 ≡ y → c < 2147483648
     clear-c c h e f = omega (arith, S .first, S .second, S .third, R .first)
 
-  -- so their top bits are the doubts
+  -- so their top bits are the flags
   pub triple-is : (both : ℕ) {a b c p q r : ℕ} → a < 4294967296 → c < 4294967296 → (apart + z) % 4294967296 ≡ x → both ≡ (x + z) % 4294967296
       → (a + y) % 4294967296 ≡ both → b ≡ (y + apart) % 4294967296 → (c + apart) % 4294967296 ≡ y → Top a p → Top b q → Top c r → TripleFlags x y z (p + q + r)
   triple-is both {a} {b} {c} ha hc e f ea eb ec A B C =
       record {
         few = omega (arith, A .0, B .0, C .0);
-        rule = λ n. no-doubt both e f ea eb ec (A .1 (omega arith)) (B .1 (omega arith)) (C .1 (omega arith));
+        rule = λ n. no-flag both e f ea eb ec (A .1 (omega arith)) (B .1 (omega arith)) (C .1 (omega arith));
         clear = λ S R. omega (arith, A .2 (clear-a S R both a ha f ea), B .2 (clear-b S R b e eb), C .2 (clear-c S R c hc e ec));
       }
 
@@ -159,7 +159,7 @@ module _ (d row : List ℕ) where
   pub obeys-all : {i : ℕ} → n ≤ i → Obeys d row i → Obeys d row n
   obeys-all {i} l U = record { rule = λ u v a b c. U .rule u v (omega arith) b c }
 
-  -- where every distance has 20 bits and the rule holds, no part is doubted
+  -- where every distance has 20 bits and the inequality holds, no part raises a flag
   pub obeys-clear : {i total : ℕ} → SmallRow d row → Obeys d row n → i < n → RowFlags (line i) (getD row i 0) (rest i) (length (rest i)) total
       → total ≡ 0
   obeys-clear {i} {total} S U l D =

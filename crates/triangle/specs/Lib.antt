@@ -1,3 +1,3 @@
--- Inner promises: Pairs, of the search for a pair that breaks the triangle rule; RowFlags, of the quick test before it.
+-- Inner promises: Pairs, of the search for a pair that violates the triangle inequality; Prefilter, of the quick test before it.
 pub mod Pairs
 pub mod Prefilter

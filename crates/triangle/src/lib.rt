@@ -1,4 +1,4 @@
-// The triangle rule at one more tide: the first pair of earlier tides with which it breaks.
+// The triangle inequality at one more tide: the first pair of earlier tides with which it violates it.
 use std::num::wrapping_add_u32;
 use std::num::wrapping_sub_u32;
 use study::MAX_TIDES;
@@ -6,19 +6,18 @@ ghost use mathlib.Core.Path.{_≡_};
 ghost use mathlib.Core.Bool.{true, not};
 ghost use Prim.Native.Nat.{_≤_, _<_};
 ghost use lib.ListN.{length, getD};
-ghost use Rattle.study.specs.Limits.{maxTides, tableSize};
-ghost use Rattle.study.specs.Limits.{cell};
+ghost use Rattle.study.specs.Limits.{maxTides, tableSize, cell};
 ghost use Rattle.study.specs.Calls.{triangle, violations};
 ghost use Rattle.triangle.specs.Pairs.{violationOf};
 ghost use Rattle.triangle.specs.Prefilter.{TripleFlags, RowFlags, Obeys, SmallRow};
 
-// A pair of tides numbered from 1, the lower number first.
+// A pair of tides that violates the triangle inequality with a new tide, numbered from 1, the lower number first; or that there is none.
 pub enum Violation {
     Pair(usize, usize),
     Nothing,
 }
 
-// Whether of three distances one exceeds the sum of the other two.
+// Whether three distances violate the triangle inequality: one exceeds the sum of the other two.
 fn violates(x: u32, y: u32, z: u32) -> bool
     ensures { λ r. ⌜ r ≡ not (triangle x y z) ⌝ }
 {
@@ -37,14 +36,14 @@ fn violates(x: u32, y: u32, z: u32) -> bool
     false
 }
 
-// The top bit.
+// The top bit: 0 for a number below 2 ^ 31, else 1.
 fn top(x: u32) -> u32
     ensures { λ r. ⌜ (r ≤ 1) × (r ≡ 0 → x < 2147483648) × (x < 2147483648 → r ≡ 0) ⌝ }
 {
     x / 2147483648
 }
 
-// 0 only where none of three distances exceeds the sum of the other two; of distances of 20 bits, wherever that is so.
+// How many flags three distances raise: none only where they obey the triangle inequality; of distances of 20 bits, wherever they do.
 // What a sum exceeds a distance by, a, b or c, wraps where it is less, and then one of the three has its top bit set. There is no
 // branch, so that the machine tests several triples at once.
 fn triple_flags(x: u32, y: u32, z: u32) -> u32
@@ -57,8 +56,8 @@ fn triple_flags(x: u32, y: u32, z: u32) -> u32
     top(a) + top(b) + top(c)
 }
 
-// The doubts about a tide at distance y from one tide and at the row's from others, which are at the line's from that one: 0 only
-// where it keeps the rule with each of them; where every distance has 20 bits, wherever it does.
+// How many flags a tide raises that is at distance y from one tide and at the row's from others, which are at the line's from that
+// one: none only where it obeys the triangle inequality with each of them; where every distance has 20 bits, wherever it does.
 fn row_flags(line: &[u32], y: u32, row: &[u32]) -> u32
     requires { ⌜ length (now row) ≤ length (now line) ⌝ }
     requires { ⌜ length (now row) ≤ maxTides ⌝ }
@@ -74,8 +73,8 @@ fn row_flags(line: &[u32], y: u32, row: &[u32]) -> u32
     total
 }
 
-// True only where a tide at the row's distances keeps the rule with every pair; where every distance has 20 bits, wherever it does:
-// such a row is spared the search.
+// Whether a tide at the row's distances raises no flag. True only where it obeys the triangle inequality with every pair; where every
+// distance has 20 bits, wherever it does. A row without flags is spared the search.
 fn prefilter(distances: &[u32], row: &[u32]) -> bool
     requires { ⌜ tableSize ≤ length (now distances) ⌝ }
     requires { ⌜ length (now row) ≤ maxTides ⌝ }
@@ -95,7 +94,7 @@ fn prefilter(distances: &[u32], row: &[u32]) -> bool
     true
 }
 
-// The first pair with which a tide at the row's distances breaks the rule, by a test of pair after pair.
+// The first pair that violates the triangle inequality with a tide at the row's distances, by a test of pair after pair.
 fn find_violation(distances: &[u32], row: &[u32]) -> Violation
     requires { ⌜ tableSize ≤ length (now distances) ⌝ }
     requires { ⌜ length (now row) ≤ maxTides ⌝ }
@@ -120,7 +119,8 @@ fn find_violation(distances: &[u32], row: &[u32]) -> Violation
     found
 }
 
-// The first pair, in order of the lower number and then the higher, with which a tide at the row's distances breaks the rule.
+// The first pair, in order of the lower number and then the higher, that violates the triangle inequality with a tide at the row's
+// distances.
 pub fn first_violation(distances: &[u32], row: &[u32]) -> Violation
     requires { ⌜ tableSize ≤ length (now distances) ⌝ }
     requires { ⌜ length (now row) ≤ maxTides ⌝ }

@@ -5,6 +5,8 @@ use mathlib.Core.Bool.{Bool, true, cond, _&&_, _||_}
 use mathlib.Core.List.{List, [], _∷_}
 use lib.Dec.{leb, ltb, eqb}
 use lib.ListN.{length, getD}
+use denote.Ref.{RefT, now}
+use denote.Triple.Both.{Both}
 use Rattle.lists.specs.Lists.{between, each, every, tabulate, overwrite, isEmpty}
 use Rattle.study.specs.Limits.{cell, maxTides, tableSize, maxDistance, maxWithdrawals, maxSettings}
 use Rattle.study.specs.declared.Minima.{Minima}
@@ -21,6 +23,18 @@ pub record State : Type 0 where
 -- these three
 abbrev pub stateOf : Dataset → List ℕ → List ℕ → State
 stateOf r d s = record { dataset = r; distances = d; settings = s }
+
+-- a lent list of numbers as an `ensures` has it: where the function begins, and where it returns
+abbrev pub Lent : Type 0
+Lent = Both (RefT (List ℕ)) (RefT (List ℕ))
+
+-- a record with the lent memory as it is where the function begins
+abbrev pub entryState : Dataset → Lent → Lent → State
+entryState r d s = stateOf r (now (d .entry)) (now (s .entry))
+
+-- a record with the lent memory as it is where the function returns
+abbrev pub exitState : Dataset → Lent → Lent → State
+exitState r d s = stateOf r (now (d .exit)) (now (s .exit))
 
 -- reason 1 of memory that has room for no dataset: fewer than 14,400 distances, in rows of 120, or than 120 setting bytes
 abbrev pub tooShort : List ℕ → List ℕ → Bool

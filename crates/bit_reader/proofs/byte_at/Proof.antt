@@ -1,4 +1,4 @@
--- `bit_reader::byte_at` meets its contract. Assumes nothing.
+-- `bit_reader::byte_at` meets its contract: past the end a list gives its default, 0. Assumes nothing.
 use mathlib.Core.Path.{sym}
 use native.Mathlib.Omega.{arith}
 use lib.ListN.{List·getD-eq-default}

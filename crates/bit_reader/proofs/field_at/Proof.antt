@@ -6,16 +6,24 @@ use Rattle.bit_reader.proofs.field_at.Statement.{statement}
 use Rattle.bit_reader.proofs.field_at.Tie as tie
 
 returns : tie.Need-returns
-returns c = field-end (c .before .before .args .bytes .now) (c .before .before .args .at) (c .before .before .args .width) (c .before .before .pre) (c .if1 .taken)
+returns c =
+    let entry = c .before .before in
+    field-end (entry .args .bytes .now) (entry .args .at) (entry .args .width) (entry .pre) (c .if1 .taken)
 
 rem-t14 : tie.Need-rem-t14
-rem-t14 c = rw (one-moved (c .before .before .before .before .before .before .before .args .width) (c .before .before .before .before .before .before .before .pre .narrow)) (pow-pos (c .before .before .before .before .before .before .before .args .width))
+rem-t14 c =
+    let entry = c .before .before .before .before .before .before .before in
+    rw (one-moved (entry .args .width) (entry .pre .narrow)) (pow-pos (entry .args .width))
 
 returns-2 : tie.Need-returns-2
 returns-2 c =
-    field-value (c .before .before .before .before .before .before .before .args .bytes .now) (c .before .before .before .before .before .before .before .args .at) (c .before .before .before .before .before .before .before .args .width) (c .before .before .before .before .before .before .before .pre) (c .before .before .before .before .before .if1 .left) (λ i. c .before .before .before .before .before .before .shared-slice-known .given i .fits)
-    (c .before .before .before .wide .result) (c .before .before .byte-at .result) (c .before .byte-at2 .result) (c .byte-at3 .result)
-    (c .before .before .before .wide .ensures .0) (c .before .before .byte-at .ensures .0) (c .before .byte-at2 .ensures .0) (c .byte-at3 .ensures .0)
+    let at-first = c .before .before .before in
+    let at-test = at-first .before .before in
+    let entry = at-test .before .before in
+    field-value (entry .args .bytes .now) (entry .args .at) (entry .args .width) (entry .pre) (at-test .if1 .left)
+    (λ i. at-test .before .shared-slice-known .given i .fits)
+    (at-first .wide .result) (c .before .before .byte-at .result) (c .before .byte-at2 .result) (c .byte-at3 .result)
+    (at-first .wide .ensures .0) (c .before .before .byte-at .ensures .0) (c .before .byte-at2 .ensures .0) (c .byte-at3 .ensures .0)
 
 pub field-at-spec : {M : Type 1} → statement M
 field-at-spec =

@@ -40,11 +40,11 @@ use denote.Exit.{yes}
 use denote.Triple.Clauses.{ensured, lasts}
 use Rattle.bit_reader.specs.Fields.{fieldAt, Askable}
 use Rattle.bit_reader.specs.declared.BitReader.{BitReader}
-use Rattle.bit_reader.specs.declared.Field.{Field}
+use Rattle.bit_reader.specs.declared.FieldValue.{FieldValue}
 use Rattle.bit_reader.proofs.BitReader as T
 use Rattle.bit_reader.proofs.BitReader.Laws as T′
-use Rattle.bit_reader.proofs.Field as S
-use Rattle.bit_reader.proofs.Field.Laws as S′
+use Rattle.bit_reader.proofs.FieldValue as S
+use Rattle.bit_reader.proofs.FieldValue.Laws as S′
 use Rattle.bit_reader.proofs.BitReader.new as new
 use Rattle.bit_reader.proofs.BitReader.new.Symbol as new-def
 use Rattle.bit_reader.proofs.BitReader.new.Symbol.{name as #new}
@@ -78,7 +78,7 @@ module _ {M : Type 1} (𝓤 : URA M) (H : Heap 𝓤) (A : Atoms 𝓤) (W : Given
   abbrev v : Val
   v = sliceVal (s .ptr) (length (s .now))
 
-  abbrev found : Field
+  abbrev found : FieldValue
   found = fieldAt (now s) n w
 
   -- the struct's type as a local of a body has it
@@ -115,10 +115,10 @@ module _ {M : Type 1} (𝓤 : URA M) (H : Heap 𝓤) (A : Atoms 𝓤) (W : Given
       qed W (‵ (B (κ, tt) .own r (u ∷ [])) ∷ (‵ (flft κ q) ⊛ ‵ ftrue) ∷ []) ∵ says ! ask-r $
       nothing ! $ owned ! usize (Is usize) (uint-makes 𝓤 H A W w64) w _ (refl, w-fits) $ fjoin ! $ move ! (1 ∷ 0 ∷ []) $ fjoin ! $ move ! (1 ∷ 0 ∷ []) $ frame ! $ done !
 
-  take-said : (r : BitReader) (t : Field) → ent 𝓤 (ensured 𝓤 H A take.ended (take.clauses 𝓤 H A mem run) (κ, tt) (r, (w, tt)) tt t) (fact 𝓤 (t ≡ fieldAt (now (r .bytes)) (r .bit) w))
+  take-said : (r : BitReader) (t : FieldValue) → ent 𝓤 (ensured 𝓤 H A take.ended (take.clauses 𝓤 H A mem run) (κ, tt) (r, (w, tt)) tt t) (fact 𝓤 (t ≡ fieldAt (now (r .bytes)) (r .bit) w))
   take-said r t = exE 𝓤 _ (λ ws. snd∗ 𝓤 (sem 𝓤 H A (lasts take.ended (κ, tt) (r, (w, tt)) ws)) (fact 𝓤 (t ≡ fieldAt (now (r .bytes)) (r .bit) w)))
 
-  exits : (t : Field) (u : Val) → t ≡ found → ent 𝓤 (⋆ 𝓤 H A (‵ (S.the-row .own t (u ∷ [])) ∷ (‵ (flft κ q) ⊛ ‵ ftrue) ∷ ‵ Own ∷ [])) (Post u)
+  exits : (t : FieldValue) (u : Val) → t ≡ found → ent 𝓤 (⋆ 𝓤 H A (‵ (S.the-row .own t (u ∷ [])) ∷ (‵ (flft κ q) ⊛ ‵ ftrue) ∷ ‵ Own ∷ [])) (Post u)
   exits t u e =
       qed W (‵ (S.the-row .own t (u ∷ [])) ∷ (‵ (flft κ q) ⊛ ‵ ftrue) ∷ ‵ Own ∷ []) ∵
       suffices ! _ (ends-at 𝓤 H A f.ended stayed (f.clauses 𝓤 H A mem run) W (((κ, tt), (q, tt), tt, (s, (n, (w, tt))), (v ∷ [], (vint w64 n ∷ [], (vint w64 w ∷ [], tt)))), tt) u t (tt, (tt, (tt, tt))) (tt, (tt, (tt, tt)))) $ says ! e $
@@ -139,7 +139,7 @@ module _ {M : Type 1} (𝓤 : URA M) (H : Heap 𝓤) (A : Atoms 𝓤) (W : Given
         land ! (from ! (stop !)) (init ! 3 refl (LL.lawful (T.the-type αᵉ) (T′.the-laws αᵉ) 𝓤 H A W .typed r _ is .0)) $
         use2 W (raw (Take 𝓤 H A mem run .pre (to-take r u))) (goes-take r u (subst (λ (m : ℕ). Askable m w) (sym (e .1)) ask)) $
         calls-at ! fm (Take 𝓤 H A mem run) known-take (to-take r u) (and-then ! (load ! (from ! (stop !)) (look ! 2 refl)) (and-then ! (load ! (from ! (stop !)) (look ! 4 refl)) (no-more !))) (λ u′.
-        use1 W (later (some (λ (t : Field). ((‵ (flft κ q) ⊛ ‵ ftrue) ⊛ ‵ (S.the-row .own t (u′ ∷ []))) ⊛ raw (ensured 𝓤 H A take.ended (take.clauses 𝓤 H A mem run) (κ, tt) (r, (w, tt)) tt t)))) (id⊢ 𝓤 _) $ await ! tt $ pick ! (λ t.
+        use1 W (later (some (λ (t : FieldValue). ((‵ (flft κ q) ⊛ ‵ ftrue) ⊛ ‵ (S.the-row .own t (u′ ∷ []))) ⊛ raw (ensured 𝓤 H A take.ended (take.clauses 𝓤 H A mem run) (κ, tt) (r, (w, tt)) tt t)))) (id⊢ 𝓤 _) $ await ! tt $ pick ! (λ t.
         split ! $ move ! (1 ∷ []) $ use1 W (raw (fact 𝓤 (t ≡ fieldAt (now (r .bytes)) (r .bit) w))) (take-said r t) $ heard ! (t ≡ fieldAt (now (r .bytes)) (r .bit) w) (λ e′. split ! $ move ! (1 ∷ []) $
         -- [the result; the token; what s owns; _4; …; _3; …; _2; …; _1; …; room for _0; …]
         peeks ! S.the-row (Is S.the-row) (shows 𝓤 H A S.the-row) t (u′ ∷ []) (λ is′.

@@ -42,12 +42,12 @@ use denote.Exit.{yes}
 use denote.Triple.Clauses.{ensured, lasts}
 use Rattle.bit_reader.specs.Fields.{fieldAt, Askable, startOf}
 use Rattle.bit_reader.specs.declared.BitReader.{BitReader}
-use Rattle.bit_reader.specs.declared.Field.{Field}
+use Rattle.bit_reader.specs.declared.FieldValue.{FieldValue}
 use Rattle.bit_reader.specs.declared.Start.{Start}
 use Rattle.bit_reader.proofs.BitReader as T
 use Rattle.bit_reader.proofs.BitReader.Laws as T′
-use Rattle.bit_reader.proofs.Field as S
-use Rattle.bit_reader.proofs.Field.Laws as S′
+use Rattle.bit_reader.proofs.FieldValue as S
+use Rattle.bit_reader.proofs.FieldValue.Laws as S′
 use Rattle.bit_reader.proofs.Start as D
 use Rattle.bit_reader.proofs.Start.Laws as D′
 use Rattle.bit_reader.proofs.BitReader.new as new
@@ -137,7 +137,7 @@ module _ {M : Type 1} (𝓤 : URA M) (H : Heap 𝓤) (A : Atoms 𝓤) (W : Given
       qed W (‵ (OwnR r u) ∷ (‵ (flft κ q) ⊛ ‵ ftrue) ∷ []) ∵ says ! ask $
       nothing ! $ owned ! usize (Is usize) (uint-makes 𝓤 H A W w64) w _ (refl, fits) $ fjoin ! $ move ! (1 ∷ 0 ∷ []) $ fjoin ! $ move ! (1 ∷ 0 ∷ []) $ frame ! $ done !
 
-  take-said : (r : BitReader) (w : ℕ) (t : Field) → ent 𝓤 (ensured 𝓤 H A take.ended (take.clauses 𝓤 H A mem run) (κ, tt) (r, (w, tt)) tt t) (fact 𝓤 (t ≡ fieldAt (now (r .bytes)) (r .bit) w))
+  take-said : (r : BitReader) (w : ℕ) (t : FieldValue) → ent 𝓤 (ensured 𝓤 H A take.ended (take.clauses 𝓤 H A mem run) (κ, tt) (r, (w, tt)) tt t) (fact 𝓤 (t ≡ fieldAt (now (r .bytes)) (r .bit) w))
   take-said r w t = exE 𝓤 _ (λ ws. snd∗ 𝓤 (sem 𝓤 H A (lasts take.ended (κ, tt) (r, (w, tt)) ws)) (fact 𝓤 (t ≡ fieldAt (now (r .bytes)) (r .bit) w)))
 
   -- the call of `moved`
@@ -153,15 +153,15 @@ module _ {M : Type 1} (𝓤 : URA M) (H : Heap 𝓤) (A : Atoms 𝓤) (W : Given
   moved-said r p = exE 𝓤 _ (λ ws. snd∗ 𝓤 (sem 𝓤 H A (lasts moved.ended (κ, tt) (r, (8, tt)) ws)) (fact 𝓤 ((p .bytes ≡ r .bytes) × (p .bit ≡ r .bit + 8))))
 
   -- the call of `start_of`
-  abbrev to-start : Field → Val → Field → Val → StartOf 𝓤 H A mem run .Ghost
+  abbrev to-start : FieldValue → Val → FieldValue → Val → StartOf 𝓤 H A mem run .Ghost
   to-start t u t′ u′ = ((tt, tt, tt, (t, (t′, tt)), (u ∷ [], (u′ ∷ [], tt))), tt)
 
-  goes-start : (t t′ : Field) (u u′ : Val) → Is S.the-row t (u ∷ []) → Is S.the-row t′ (u′ ∷ []) → ent 𝓤 (emp 𝓤) (StartOf 𝓤 H A mem run .pre (to-start t u t′ u′))
+  goes-start : (t t′ : FieldValue) (u u′ : Val) → Is S.the-row t (u ∷ []) → Is S.the-row t′ (u′ ∷ []) → ent 𝓤 (emp 𝓤) (StartOf 𝓤 H A mem run .pre (to-start t u t′ u′))
   goes-start t t′ u u′ is is′ =
       qed W [] ∵ suffices ! (onEntry 𝓤 H A start.signature tt tt (t, (t′, tt)) (u ∷ [], (u′ ∷ [], tt))) (∗emp 𝓤 _) $
       nothing ! $ owned ! S.the-row (Is S.the-row) ((EL.makes S.the-type S′.the-plain) 𝓤 H A) t′ _ is′ $ fjoin ! $ owned ! S.the-row (Is S.the-row) ((EL.makes S.the-type S′.the-plain) 𝓤 H A) t _ is $ fjoin ! $ nothing ! $ done !
 
-  start-said : (t t′ : Field) (h : Start) → ent 𝓤 (ensured 𝓤 H A start.ended (start.clauses 𝓤 H A mem run) tt (t, (t′, tt)) tt h) (fact 𝓤 (h ≡ startOf t t′))
+  start-said : (t t′ : FieldValue) (h : Start) → ent 𝓤 (ensured 𝓤 H A start.ended (start.clauses 𝓤 H A mem run) tt (t, (t′, tt)) tt h) (fact 𝓤 (h ≡ startOf t t′))
   start-said t t′ h = exE 𝓤 _ (λ ws. snd∗ 𝓤 (sem 𝓤 H A (lasts start.ended tt (t, (t′, tt)) ws)) (fact 𝓤 (h ≡ startOf t t′)))
 
   exits : (h : Start) (u : Val) → h ≡ startOf (fieldAt (now s) 0 8) (fieldAt (now s) 8 7) → ent 𝓤 (⋆ 𝓤 H A (‵ (D.the-row .own h (u ∷ [])) ∷ (‵ (flft κ q) ⊛ ‵ ftrue) ∷ ‵ Own ∷ [])) (Post u)
@@ -174,17 +174,17 @@ module _ {M : Type 1} (𝓤 : URA M) (H : Heap 𝓤) (A : Atoms 𝓤) (W : Given
   typed-reader : (r : BitReader) (u : Val) → Is (B (κ, tt)) r (u ∷ []) → Holds (hasTy (T′.mir erased) u) × WT u
   typed-reader r u is = LL.lawful (T.the-type αᵉ) (T′.the-laws αᵉ) 𝓤 H A W .typed r _ is .0
 
-  typed-field : (t : Field) (u : Val) → Is S.the-row t (u ∷ []) → Holds (hasTy S′.mir u) × WT u
+  typed-field : (t : FieldValue) (u : Val) → Is S.the-row t (u ∷ []) → Holds (hasTy S′.mir u) × WT u
   typed-field t u is = EL.lawful S.the-type S′.the-laws 𝓤 H A W tt .typed t _ is .0
 
   typed-start : (h : Start) (u : Val) → Is D.the-row h (u ∷ []) → Holds (hasTy D′.mir u) × WT u
   typed-start h u is = EL.lawful D.the-type D′.the-laws 𝓤 H A W tt .typed h _ is .0
 
   -- what the two fields are, from what each call says
-  found : (r p : BitReader) (t t′ : Field) (h : Start) → (r .bytes ≡ s) × (r .bit ≡ 0) → t ≡ fieldAt (now (r .bytes)) (r .bit) 8 → (p .bytes ≡ r .bytes) × (p .bit ≡ r .bit + 8) → t′ ≡ fieldAt (now (p .bytes)) (p .bit) 7 → h ≡ startOf t t′
+  found : (r p : BitReader) (t t′ : FieldValue) (h : Start) → (r .bytes ≡ s) × (r .bit ≡ 0) → t ≡ fieldAt (now (r .bytes)) (r .bit) 8 → (p .bytes ≡ r .bytes) × (p .bit ≡ r .bit + 8) → t′ ≡ fieldAt (now (p .bytes)) (p .bit) 7 → h ≡ startOf t t′
       → h ≡ startOf (fieldAt (now s) 0 8) (fieldAt (now s) 8 7)
   found r p t t′ h e e₁ e₂ e₃ e₄ =
-      e₄ ∙ (ap (λ (x : Field). startOf x t′) (e₁ ∙ at (r .bytes) (r .bit) 0 8 (e .0) (e .1)) ∙ ap (startOf (fieldAt (now s) 0 8)) (e₃ ∙ at (p .bytes) (p .bit) 8 7 (e₂ .0 ∙ e .0) (e₂ .1 ∙ ap (λ (m : ℕ). m + 8) (e .1))))
+      e₄ ∙ (ap (λ (x : FieldValue). startOf x t′) (e₁ ∙ at (r .bytes) (r .bit) 0 8 (e .0) (e .1)) ∙ ap (startOf (fieldAt (now s) 0 8)) (e₃ ∙ at (p .bytes) (p .bit) 8 7 (e₂ .0 ∙ e .0) (e₂ .1 ∙ ap (λ (m : ℕ). m + 8) (e .1))))
     where
       at : (x : RefT (List ℕ)) (m n w : ℕ) → x ≡ s → m ≡ n → fieldAt (now x) m w ≡ fieldAt (now s) n w
       at x m n w i j = ap (λ (y : RefT (List ℕ)). fieldAt (now y) m w) i ∙ ap (λ (k : ℕ). fieldAt (now s) k w) j
@@ -208,7 +208,7 @@ module _ {M : Type 1} (𝓤 : URA M) (H : Heap 𝓤) (A : Atoms 𝓤) (W : Given
         use2 W (raw (Take 𝓤 H A mem run .pre (to-take r u 8))) (goes-take r u 8 (lit< tt) first) $
         -- [take's pre; r; what s owns; _8; …]
         calls-at ! fm (Take 𝓤 H A mem run) known-take (to-take r u 8) (and-then ! (load ! (from ! (stop !)) (look ! 7 refl)) (and-then ! (lit ! tt) (no-more !))) (λ u₁.
-        use1 W (later (some (λ (t : Field). ((‵ (flft κ q) ⊛ ‵ ftrue) ⊛ ‵ (S.the-row .own t (u₁ ∷ []))) ⊛ raw (ensured 𝓤 H A take.ended (take.clauses 𝓤 H A mem run) (κ, tt) (r, (8, tt)) tt t)))) (id⊢ 𝓤 _) $ await ! tt $ pick ! (λ t.
+        use1 W (later (some (λ (t : FieldValue). ((‵ (flft κ q) ⊛ ‵ ftrue) ⊛ ‵ (S.the-row .own t (u₁ ∷ []))) ⊛ raw (ensured 𝓤 H A take.ended (take.clauses 𝓤 H A mem run) (κ, tt) (r, (8, tt)) tt t)))) (id⊢ 𝓤 _) $ await ! tt $ pick ! (λ t.
         split ! $ move ! (1 ∷ []) $ use1 W (raw (fact 𝓤 (t ≡ fieldAt (now (r .bytes)) (r .bit) 8))) (take-said r 8 t) $ heard ! (t ≡ fieldAt (now (r .bytes)) (r .bit) 8) (λ e₁. split ! $ move ! (1 ∷ []) $
         peeks ! S.the-row (Is S.the-row) (shows 𝓤 H A S.the-row) t (u₁ ∷ []) (λ is₁.
         -- [t; the token; r; what s owns; _8; …]
@@ -225,7 +225,7 @@ module _ {M : Type 1} (𝓤 : URA M) (H : Heap 𝓤) (A : Atoms 𝓤) (W : Given
         use2 W (raw (Take 𝓤 H A mem run .pre (to-take x u₂ 7))) (goes-take x u₂ 7 (lit< tt) (subst (λ (m : ℕ). Askable m 7) (sym (e₂ .1 ∙ ap (λ (m : ℕ). m + 8) (e .1))) (record { wide = lit≤ tt; narrow = lit≤ tt; low = lit< tt }))) $
         -- [take's pre; what s owns; _8; …]
         calls-at ! fm (Take 𝓤 H A mem run) known-take (to-take x u₂ 7) (and-then ! (load ! (from ! (stop !)) (look ! 2 refl)) (and-then ! (lit ! tt) (no-more !))) (λ u₃.
-        use1 W (later (some (λ (t′ : Field). ((‵ (flft κ q) ⊛ ‵ ftrue) ⊛ ‵ (S.the-row .own t′ (u₃ ∷ []))) ⊛ raw (ensured 𝓤 H A take.ended (take.clauses 𝓤 H A mem run) (κ, tt) (x, (7, tt)) tt t′)))) (id⊢ 𝓤 _) $ await ! tt $ pick ! (λ t′.
+        use1 W (later (some (λ (t′ : FieldValue). ((‵ (flft κ q) ⊛ ‵ ftrue) ⊛ ‵ (S.the-row .own t′ (u₃ ∷ []))) ⊛ raw (ensured 𝓤 H A take.ended (take.clauses 𝓤 H A mem run) (κ, tt) (x, (7, tt)) tt t′)))) (id⊢ 𝓤 _) $ await ! tt $ pick ! (λ t′.
         split ! $ move ! (1 ∷ []) $ use1 W (raw (fact 𝓤 (t′ ≡ fieldAt (now (x .bytes)) (x .bit) 7))) (take-said x 7 t′) $ heard ! (t′ ≡ fieldAt (now (x .bytes)) (x .bit) 7) (λ e₃. split ! $ move ! (1 ∷ []) $
         peeks ! S.the-row (Is S.the-row) (shows 𝓤 H A S.the-row) t′ (u₃ ∷ []) (λ is₃.
         -- [t′; the token; what s owns; _8; …]

@@ -1,32 +1,18 @@
--- `clear_settings` meets its contract: the settings passed so far are 0, the rest as before. Assumes nothing.
-use Prim.Native.Nat.{_≤_, _-_}
+-- `clear_settings` meets its contract: the loop's invariant: the places before i are 0 and the rest is as before; the places left fall.
+-- Assumes nothing.
+use Prim.Native.Nat.{_-_}
 use native.Mathlib.Omega.{arith}
-use mathlib.Core.Path.{_≡_, refl}
-use lib.ListN.{length, length-set}
-use Rattle.lists.proofs.Tables.{overwrite-none, overwrite-step, overwrite-done}
-use Rattle.lists.specs.Lists.{overwrite}
+use mathlib.Core.Path.{refl}
+use Rattle.study.specs.Limits.{maxTides}
+use Rattle.storage.proofs.FillLaws.{Filled, filled-none, filled-more, filled-done}
 use Rattle.storage.proofs.clear_settings.Statement.{statement}
 use Rattle.storage.proofs.clear_settings.Tie as tie
 
 abbrev Inv-loop : tie.InvT-loop
-Inv-loop settings₀ i₀ settings i = (i ≤ 120) × (settings ≡ overwrite i (λ _. 0) settings₀) × (length settings ≡ length settings₀)
+Inv-loop settings₀ i₀ settings i = Filled maxTides (λ _. 0) settings₀ settings i
 
 abbrev μ-loop : tie.MeasureT-loop
-μ-loop settings₀ i₀ settings i = 120 - i
-
-loop-holds : tie.Need-loop-holds Inv-loop μ-loop
-loop-holds c = (omega arith, overwrite-none _ _, refl)
-
-loop-again : tie.Need-loop-again Inv-loop μ-loop
-loop-again c =
-    let inv = c .before .loop .inv in
-    (omega arith, overwrite-step _ _ _ (inv .1) refl (omega arith), simp length-set (inv .2))
-
-same-length : tie.Need-same-length Inv-loop μ-loop
-same-length c = c .before .loop .inv .2
-
-returns : tie.Need-returns Inv-loop μ-loop
-returns c = overwrite-done _ _ (omega arith) (c .before .loop .inv .1)
+μ-loop settings₀ i₀ settings i = maxTides - i
 
 pub clear-settings-spec : {M : Type 1} → statement M
 clear-settings-spec =
@@ -34,10 +20,10 @@ clear-settings-spec =
     (tie.spec
     Inv-loop
     μ-loop
-    loop-holds
+    (λ c. filled-none)
     (λ c. omega arith)
     (λ c. omega arith)
     (λ c. omega arith)
-    loop-again
-    same-length
-    returns)
+    (λ c. filled-more (c .before .loop .inv) (omega arith) (omega arith) refl)
+    (λ c. c .before .loop .inv .same)
+    (λ c. filled-done (c .before .loop .inv) (omega arith)))

@@ -1,4 +1,4 @@
--- `number_before` meets its contract. Assumes nothing.
+-- `number_before` meets its contract: the tides before m keep their numbers, and the others had one more. Assumes nothing.
 use native.Mathlib.Omega.{arith}
 use borrow.Author.Tests.{lt-ltb, le-ltb}
 use borrow.Author.Needs.{needs}

@@ -1,4 +1,5 @@
--- `put_row` meets its contract: the distances passed so far stand in the new row and column. Assumes nothing.
+-- `put_row` meets its contract: the loop's invariant: the first i distances stand in the new row and column, and memory keeps its length;
+-- the distances left fall. Assumes nothing.
 use Prim.Native.Nat.{_≤_, _-_}
 use native.Mathlib.Omega.{arith}
 use mathlib.Core.Path.{_≡_, refl}

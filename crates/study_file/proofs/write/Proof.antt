@@ -8,13 +8,17 @@ use Rattle.study_file.proofs.write.Tie as tie
 
 write-file-requires : tie.Need-write-file-requires
 write-file-requires c κs =
-    let args = c .before .before .before .before .before .before .before .args in
-    passed (stateOf (args .dataset) (args .distances .now) (args .settings .now)) (c .before .enum-told .given .1) (c .before .before .before .check .ensures)
+    let at-check = c .before .before .before in
+    let args = at-check .before .before .before .before .args in
+    let σ = stateOf (args .dataset) (args .distances .now) (args .settings .now) in
+    passed σ (c .before .enum-told .given .1) (at-check .check .ensures)
 
 returns : tie.Need-returns
 returns c =
-    let args = c .before .before .before .before .before .before .before .args in
-    write-refused (stateOf (args .dataset) (args .distances .now) (args .settings .now)) (args .file .now) (c .before .answer .given .1) (c .before .before .before .check .ensures)
+    let at-check = c .before .before .before in
+    let args = at-check .before .before .before .before .args in
+    let σ = stateOf (args .dataset) (args .distances .now) (args .settings .now) in
+    write-refused σ (args .file .now) (c .before .answer .given .1) (at-check .check .ensures)
 
 returns-2 : tie.Need-returns-2
 returns-2 c = search needs

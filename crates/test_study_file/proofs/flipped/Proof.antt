@@ -1,4 +1,4 @@
--- `flipped` is safe and ends. Assumes nothing.
+-- `flipped` is safe and ends: the loop goes over the 192 bits of a file of 24 bytes; the bits left fall. Assumes nothing.
 use borrow.Author.Needs.{needs}
 use Prim.Native.Nat.{_≤_, _-_}
 use Rattle.test_study_file.proofs.flipped.Statement.{statement}

@@ -1,4 +1,4 @@
--- `truncated` is safe and ends. Assumes nothing.
+-- `truncated` is safe and ends: the loop goes over the 24 shorter parts of a file; the parts left fall. Assumes nothing.
 use borrow.Author.Needs.{needs}
 use Prim.Native.Nat.{_≤_, _-_}
 use Rattle.test_study_file.proofs.truncated.Statement.{statement}

@@ -1,4 +1,4 @@
--- `write_within` is safe. Assumes nothing.
+-- `write_within` is safe: the part that is lent is inside the file. Assumes nothing.
 use native.Mathlib.Omega.{arith}
 use lib.Seq.{length-take-le}
 use mathlib.Core.Path.{sym}

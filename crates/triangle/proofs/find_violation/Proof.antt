@@ -1,4 +1,5 @@
--- `find_violation` meets its contract: the pairs that are still to come begin with the answer. Assumes nothing.
+-- `find_violation` meets its contract: the invariant of both loops: nothing is found yet, and all violations are those that are still
+-- to come, with lower tide i or later, and in the inner loop, of i, with j or later. The tides left fall. Assumes nothing.
 use Prim.Native.Nat.{_≤_, _<_, _-_}
 use native.Mathlib.Omega.{arith}
 use mathlib.Core.Path.{_≡_, refl, sym, ap, _∙_}
@@ -6,7 +7,8 @@ use lib.ListN.{length, getD}
 use Rattle.study.specs.Limits.{cell}
 use Rattle.study.specs.Calls.{violations}
 use Rattle.triangle.specs.Pairs.{violationOf}
-use Rattle.triangle.proofs.PairLaws.{pairsFrom, pairsAt, violation-starts, violation-enters, violation-passes, violation-finds, violation-leaves, violation-ends}
+use Rattle.triangle.proofs.PairLaws.{pairsFrom, pairsAt, violation-starts, violation-enters, violation-passes}
+use Rattle.triangle.proofs.PairLaws.{violation-finds, violation-leaves, violation-ends}
 use Rattle.triangle.specs.declared.Violation.the-variants.{Nothing}
 use Rattle.triangle.proofs.find_violation.Statement.{statement}
 use Rattle.triangle.proofs.find_violation.Tie as tie

@@ -1,4 +1,4 @@
--- `first_violation` meets its contract: without a doubt there is no pair, and else the search finds it. Assumes nothing.
+-- `first_violation` meets its contract: a row without flags has no violation, and else the search finds the first. Assumes nothing.
 use borrow.Author.Needs.{needs}
 use Rattle.triangle.proofs.PrefilterLaws.{obeys-found}
 use Rattle.triangle.proofs.first_violation.Statement.{statement}

@@ -1,5 +1,5 @@
--- `prefilter` meets its contract: about the pairs whose lower tide is passed there is no doubt, and where there is one the
--- rule is broken or a distance is long. Assumes nothing.
+-- `prefilter` meets its contract: the loop's invariant: the new tide obeys the triangle inequality with each pair whose lower tide is
+-- before i; the tides left fall. Where a flag is raised, a pair violates the inequality or a distance is long. Assumes nothing.
 use Prim.Native.Nat.{ℕ, _≤_, _-_}
 use native.Mathlib.Omega.{arith}
 use mathlib.Core.Path.{_≡_, refl}

@@ -1,4 +1,5 @@
--- `row_flags` meets its contract: the doubts about the tides passed so far. Assumes nothing.
+-- `row_flags` meets its contract: the loop's invariant: the total is the flags that the first j tides of the row raise; the tides left
+-- fall. Assumes nothing.
 use Prim.Native.Nat.{_≤_, _-_}
 use native.Mathlib.Omega.{arith}
 use lib.ListN.{length}

@@ -1,4 +1,5 @@
--- `triple_flags` meets its contract: the top bits of three differences. Assumes nothing.
+-- `triple_flags` meets its contract: the flags are the top bits of three differences that wrap, and `triple-is` says what they tell.
+-- Assumes nothing.
 use borrow.Author.Needs.{needs}
 use native.Mathlib.Omega.{arith}
 use Rattle.triangle.proofs.PrefilterLaws.{triple-is}

@@ -1,4 +1,4 @@
--- `minima_of` meets its contract: the loop's invariant: the first j minima stand in place of zeros. Assumes nothing.
+-- `minima_of` meets its contract: the loop's invariant: the first j minima stand in place of zeros; the minima left fall. Assumes nothing.
 use native.Mathlib.Omega.{arith}
 use Rattle.study_file.proofs.HeadLaws.{minima-read}
 use Rattle.lists.proofs.Tables.{overwrite-step, overwrite-none}
@@ -36,9 +36,8 @@ cast-b0 c = omega (arith, c .number2 .ensures .1)
 
 returns : tie.Need-returns Inv-loop μ-loop
 returns c =
-    let args = c .before .before .before .before .args in
     let turn = c .before .before .loop in
-    minima-read (args .file .now) (args .k) (turn .j) (c .number2 .result) (omega arith) (omega arith) (c .number2 .ensures .0) (turn .inv .1)
+    minima-read (c .before .before .before .before .args .file .now) (omega arith) (c .number2 .ensures .0) (turn .inv .1)
 
 pub minima-of-spec : {M : Type 1} → statement M
 minima-of-spec =

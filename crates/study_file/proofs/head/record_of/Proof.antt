@@ -5,10 +5,14 @@ use Rattle.study_file.proofs.head.record_of.Statement.{statement}
 use Rattle.study_file.proofs.head.record_of.Tie as tie
 
 minima-of-requires : tie.Need-minima-of-requires
-minima-of-requires c κs = record-minima (c .before .before .before .args .file .now) (c .before .before .before .pre) (c .number2 .result) (c .number2 .ensures .0)
+minima-of-requires c κs = record-minima (c .before .before .before .pre) (c .number2 .ensures .0)
 
 returns : tie.Need-returns
-returns c = record-read (c .before .before .before .before .before .args .file .now) (c .before .before .before .before .before .args .dataset) (c .before .before .before .number .result) (c .before .before .number2 .result) (c .number3 .result) (c .before .before .before .number .ensures .0) (c .before .before .number2 .ensures .0) (c .number3 .ensures .0) (c .before .minima-of .ensures)
+returns c =
+    let at-count = c .before .before .before in
+    let args = at-count .before .before .args in
+    record-read (args .file .now) (args .dataset)
+    (at-count .number .ensures .0) (c .before .before .number2 .ensures .0) (c .number3 .ensures .0) (c .before .minima-of .ensures)
 
 pub record-of-spec : {M : Type 1} → statement M
 record-of-spec =

@@ -1,4 +1,5 @@
--- `read_tides` meets its contract: the loop's invariant: the first t tides are loaded, and memory keeps its length. Assumes nothing.
+-- `read_tides` meets its contract: the loop's invariant: the first t tides are loaded, and memory keeps its length; the
+-- tides left fall. Assumes nothing.
 use borrow.Author.Needs.{needs}
 use native.Mathlib.Omega.{arith}
 use Rattle.study_file.proofs.RowLaws.{reached-stops, reached-all}
@@ -24,9 +25,7 @@ read-tide-requires c κs =
     (pre .0, omega (arith, pre .1), c .before .before .before .loop .inv .1)
 
 returns : tie.Need-returns Inv-loop μ-loop
-returns c =
-    let args = c .before .before .before .before .before .before .before .before .before .before .before .before .before .before .args in
-    reached-stops (args .file .now) _ (args .n) (c .before .before .before .before .before .before .read-tide .ensures) (c .enum-told2 .given .1)
+returns c = reached-stops (c .before .before .before .before .before .before .read-tide .ensures) (c .enum-told2 .given .1)
 
 loop-again : tie.Need-loop-again Inv-loop μ-loop
 loop-again c = (omega arith, c .before .before .before .before .before .before .read-tide .ensures .goes (c .enum-told .given .1), omega arith, omega arith)
@@ -38,9 +37,7 @@ same-length-4 : tie.Need-same-length-4 Inv-loop μ-loop
 same-length-4 c = c .before .loop .inv .3
 
 returns-2 : tie.Need-returns-2 Inv-loop μ-loop
-returns-2 c =
-    let args = c .before .before .before .before .before .args in
-    reached-all (args .file .now) (c .before .loop .t) (args .n) (omega arith) (omega arith) (c .before .loop .inv .1)
+returns-2 c = reached-all (omega arith) (c .before .loop .inv .1)
 
 pub read-tides-spec : {M : Type 1} → statement M
 read-tides-spec =

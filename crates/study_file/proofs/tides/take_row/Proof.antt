@@ -1,4 +1,5 @@
--- `take_row` meets its contract: the loop's invariant: the first i distances stand in row and column. Assumes nothing.
+-- `take_row` meets its contract: the loop's invariant: the first i distances stand in row and column, and memory keeps its length; the
+-- distances left fall. Inside the file no field is cut off. Assumes nothing.
 use borrow.Author.Needs.{needs}
 use native.Mathlib.Omega.{arith}
 use Rattle.study_file.specs.Rows.{rowAt}
@@ -29,23 +30,26 @@ same-length c = c .before .before .before .before .loop .inv .2
 
 returns : tie.Need-returns Inv-loop μ-loop
 returns c =
+    let turn = c .before .before .before .before .loop in
     let args = c .before .before .before .before .before .before .before .args in
-    absurd (no-end (args .file .now) (args .start + 20 * c .before .before .before .before .loop .i) 20 (c .before .before .read-field .ensures) (c .enum-told .given .1) (omega arith))
+    absurd (no-end (args .file .now) (args .start + 20 * turn .i) 20 (c .before .before .read-field .ensures) (c .enum-told .given .1) (omega arith))
 
 slice-write-matrix-2 : tie.Need-slice-write-matrix-2 Inv-loop μ-loop
 slice-write-matrix-2 c = simp length-set (omega arith)
 
 loop-again : tie.Need-loop-again Inv-loop μ-loop
 loop-again c =
-    let args = c .before .before .before .before .before .before .before .before .args in
-    let turn = c .before .before .before .before .before .loop in
-    (omega arith, row-taken (args .file .now) (args .start) (args .t) (turn .i) (c .before .x .given .0 .0) _ (omega arith) (got (args .file .now) (args .start + 20 * turn .i) 20 (c .before .before .before .read-field .ensures) (c .before .x .given .1)) (turn .inv .1), simp length-set (turn .inv .2))
+    let at-field = c .before .before .before in
+    let inv = at-field .before .before .loop .inv in
+    let args = at-field .before .before .before .before .before .args in
+    let field = got (at-field .read-field .ensures) (c .before .x .given .1) in
+    (omega arith, row-taken (args .file .now) (args .start) _ (omega arith) field (inv .1), simp length-set (inv .2))
 
 same-length-2 : tie.Need-same-length-2 Inv-loop μ-loop
 same-length-2 c = c .before .loop .inv .2
 
 returns-2 : tie.Need-returns-2 Inv-loop μ-loop
-returns-2 c = (refl, row-done _ _ _ (c .before .loop .i) (c .before .before .before .before .args .t) (omega arith) (omega arith) (c .before .loop .inv .1))
+returns-2 c = (refl, row-done _ _ _ _ _ (omega arith) (omega arith) (c .before .loop .inv .1))
 
 pub take-row-spec : {M : Type 1} → statement M
 take-row-spec =

@@ -1,4 +1,4 @@
--- `kept` meets its contract. Assumes nothing.
+-- `kept` meets its contract: the bits from the first on clear a byte, and later ones leave it. Assumes nothing.
 use native.Mathlib.Omega.{arith}
 use borrow.Author.Tests.{eq-eqb, ne-eqb}
 use mathlib.Core.Bool.{cond}

@@ -1,4 +1,5 @@
--- `put_field` meets its contract: the loop's invariant: the first bits of the value are written. Assumes nothing.
+-- `put_field` meets its contract: the loop's invariant: the first bits of the value are written, `done` of them; the bits left
+-- fall. Assumes nothing.
 use native.Mathlib.Omega.{arith}
 use Rattle.study_file.proofs.PuttingLaws.{puts-one}
 use Rattle.study_file.specs.Writing.{Adds}
@@ -17,19 +18,30 @@ abbrev μ-loop : tie.MeasureT-loop
 μ-loop file₀ at width value done₀ file done = width - done
 
 loop-holds : tie.Need-loop-holds Inv-loop μ-loop
-loop-holds c = (omega arith, adds-none _ _)
+loop-holds c = (omega arith, adds-none)
 
 rem-put-part : tie.Need-rem-put-part Inv-loop μ-loop
 rem-put-part c = rw (one-moved (c .before .taken .result) (omega arith)) (pow-pos (c .before .taken .result))
 
 put-part-requires : tie.Need-put-part-requires Inv-loop μ-loop
-put-part-requires c κs = ((c .before .taken .ensures .0, c .before .taken .ensures .2), (bits-small _ (c .before .taken .result) (omega arith), omega (arith, c .before .before .before .loop .inv .1 .same)))
+put-part-requires c κs =
+    let count = c .before .taken in
+    record {
+      some = count .ensures .0;
+      inside = count .ensures .2;
+      small = bits-small _ (count .result) (omega arith);
+      room = omega (arith, c .before .before .before .loop .inv .1 .same);
+    }
 
 loop-again : tie.Need-loop-again Inv-loop μ-loop
 loop-again c =
-    let args = c .before .before .before .before .before .before .before .before .args in
-    let turn = c .before .before .before .before .before .before .loop in
-    (omega arith, field-more _ _ (args .width) (args .value) (turn .done) (c .before .before .before .before .taken .result) (omega arith) (omega arith) (turn .inv .1) (c .before .before .put-part .ensures))
+    let at-count = c .before .before .before .before in
+    let turn = at-count .before .before .loop in
+    let args = at-count .before .before .before .before .args in (
+      omega arith,
+      field-more (args .width) (args .value) (turn .done) (at-count .taken .result) (omega arith) (omega arith) (turn .inv .1)
+          (c .before .before .put-part .ensures),
+    )
 
 same-length : tie.Need-same-length Inv-loop μ-loop
 same-length c = c .before .loop .inv .1 .same
@@ -37,7 +49,7 @@ same-length c = c .before .loop .inv .1 .same
 returns : tie.Need-returns Inv-loop μ-loop
 returns c =
     let args = c .before .before .before .args in
-    puts-one _ _ _ _ (field-end _ _ (args .width) (args .value) (c .before .loop .done) (omega arith) (omega arith) (c .before .loop .inv .1))
+    puts-one _ _ (field-end (args .width) (args .value) (c .before .loop .done) (omega arith) (c .before .loop .inv .1))
 
 pub put-field-spec : {M : Type 1} → statement M
 put-field-spec =

@@ -5,7 +5,15 @@ use Rattle.study_file.proofs.writing.put_head.Statement.{statement}
 use Rattle.study_file.proofs.writing.put_head.Tie as tie
 
 returns : tie.Need-returns
-returns c = head-put (c .before .before .before .before .before .before .before .before .before .before .before .before .before .before .before .before .before .before .before .before .before .before .before .before .before .before .args .dataset) _ (c .before .before .before .before .before .before .before .before .before .before .before .before .before .before .before .before .before .before .before .before .before .before .put-field .ensures) (c .before .before .before .before .before .before .before .before .before .before .before .before .before .before .before .before .before .put-field2 .ensures) (c .before .before .before .before .before .before .before .before .before .before .before .before .put-field3 .ensures) (c .before .before .before .before .before .before .before .put-field4 .ensures) (c .before .before .put-field5 .ensures)
+returns c =
+    let after-withdrawals = c .before .before in
+    let after-b0 = after-withdrawals .before .before .before .before .before in
+    let after-k = after-b0 .before .before .before .before .before in
+    let after-tides = after-k .before .before .before .before .before in
+    let after-mark = after-tides .before .before .before .before .before in
+    let entry = after-mark .before .before .before .before in
+    head-put (entry .args .dataset) (after-mark .put-field .ensures) (after-tides .put-field2 .ensures) (after-k .put-field3 .ensures)
+    (after-b0 .put-field4 .ensures) (after-withdrawals .put-field5 .ensures)
 
 pub put-head-spec : {M : Type 1} → statement M
 put-head-spec =

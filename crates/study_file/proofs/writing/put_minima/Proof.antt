@@ -1,4 +1,4 @@
--- `put_minima` meets its contract: the loop's invariant: the first j minima are written. Assumes nothing.
+-- `put_minima` meets its contract: the loop's invariant: the first j minima are written; the minima left fall. Assumes nothing.
 use native.Mathlib.Omega.{arith}
 use Rattle.study_file.specs.Putting.{PutFields}
 use Rattle.study_file.proofs.PuttingLaws.{run-none, run-more, run-done}
@@ -17,21 +17,22 @@ abbrev μ-loop : tie.MeasureT-loop
 μ-loop file₀ k b j₀ file j = k - j
 
 loop-holds : tie.Need-loop-holds Inv-loop μ-loop
-loop-holds c = (omega arith, run-none _ 42 7 _)
+loop-holds c = (omega arith, run-none 7 _)
 
 put-field-requires : tie.Need-put-field-requires Inv-loop μ-loop
-put-field-requires c κs = ((omega arith, omega (arith, c .before .before .before .loop .inv .1 .same)), omega arith)
+put-field-requires c κs = (omega arith, omega (arith, c .before .before .before .loop .inv .1 .same), omega arith)
 
 loop-again : tie.Need-loop-again Inv-loop μ-loop
 loop-again c =
-    let turn = c .before .before .before .before .before .before .loop in
-    (omega arith, run-more _ 42 7 _ (turn .j) (c .before .before .before .wide .result) (turn .inv .1) (c .before .before .before .wide .ensures .0) (c .before .before .put-field .ensures))
+    let at-wide = c .before .before .before in
+    let turn = at-wide .before .before .before .loop in
+    (omega arith, run-more 7 _ (turn .j) (turn .inv .1) (at-wide .wide .ensures .0) (c .before .before .put-field .ensures))
 
 same-length : tie.Need-same-length Inv-loop μ-loop
 same-length c = c .before .loop .inv .1 .same
 
 returns : tie.Need-returns Inv-loop μ-loop
-returns c = run-done _ 42 7 _ (c .before .loop .j) (c .before .before .before .args .k) (omega arith) (omega arith) (c .before .loop .inv .1)
+returns c = run-done 7 _ (omega arith) (c .before .loop .inv .1)
 
 pub put-minima-spec : {M : Type 1} → statement M
 put-minima-spec =

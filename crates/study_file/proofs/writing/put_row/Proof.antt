@@ -1,4 +1,4 @@
--- `put_row` meets its contract: the loop's invariant: the first i distances are written. Assumes nothing.
+-- `put_row` meets its contract: the loop's invariant: the first i distances are written; the distances left fall. Assumes nothing.
 use native.Mathlib.Omega.{arith}
 use Rattle.lists.specs.Lists.{tabulate}
 use Rattle.study.specs.Limits.{cell}
@@ -18,21 +18,21 @@ abbrev μ-loop : tie.MeasureT-loop
 μ-loop file₀ start distances t i₀ file i = t - i
 
 loop-holds : tie.Need-loop-holds Inv-loop μ-loop
-loop-holds c = (omega arith, run-none _ _ 20 _)
+loop-holds c = (omega arith, run-none 20 _)
 
 put-field-requires : tie.Need-put-field-requires Inv-loop μ-loop
-put-field-requires c κs = ((omega arith, omega (arith, c .before .before .before .loop .inv .1 .same)), omega arith)
+put-field-requires c κs = (omega arith, omega (arith, c .before .before .before .loop .inv .1 .same), omega arith)
 
 loop-again : tie.Need-loop-again Inv-loop μ-loop
 loop-again c =
     let turn = c .before .before .before .before .before .before .loop in
-    (omega arith, run-more _ _ 20 _ (turn .i) _ (turn .inv .1) refl (c .before .before .put-field .ensures))
+    (omega arith, run-more 20 _ (turn .i) (turn .inv .1) refl (c .before .before .put-field .ensures))
 
 same-length : tie.Need-same-length Inv-loop μ-loop
 same-length c = c .before .loop .inv .1 .same
 
 returns : tie.Need-returns Inv-loop μ-loop
-returns c = run-done _ _ 20 _ (c .before .loop .i) (c .before .before .before .before .args .t) (omega arith) (omega arith) (c .before .loop .inv .1)
+returns c = run-done 20 _ (omega arith) (c .before .loop .inv .1)
 
 pub put-row-spec : {M : Type 1} → statement M
 put-row-spec =

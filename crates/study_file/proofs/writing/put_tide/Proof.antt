@@ -1,4 +1,4 @@
--- `put_tide` meets its contract: a setting and a row. Assumes nothing.
+-- `put_tide` meets its contract: a setting and a row, one after the other. Assumes nothing.
 use Rattle.study_file.proofs.PuttingLaws.{tide-put}
 use Rattle.validity.specs.Memory.{stateOf}
 use borrow.Author.Needs.{needs}
@@ -7,8 +7,11 @@ use Rattle.study_file.proofs.writing.put_tide.Tie as tie
 
 returns : tie.Need-returns
 returns c =
-    let args = c .before .before .before .before .before .before .before .before .before .before .before .before .before .args in
-    tide-put (stateOf (args .dataset) (args .distances .now) (args .settings .now)) _ _ (args .t) (c .before .before .before .before .before .before .before .wide .result) (c .before .before .before .before .before .before .before .wide .ensures .0) (c .before .before .before .before .before .before .put-field .ensures) (c .before .before .put-row .ensures)
+    let after-setting = c .before .before .before .before .before .before in
+    let at-setting = after-setting .before in
+    let args = at-setting .before .before .before .before .before .before .args in
+    let σ = stateOf (args .dataset) (args .distances .now) (args .settings .now) in
+    tide-put σ (args .t) (at-setting .wide .ensures .0) (after-setting .put-field .ensures) (c .before .before .put-row .ensures)
 
 pub put-tide-spec : {M : Type 1} → statement M
 put-tide-spec =

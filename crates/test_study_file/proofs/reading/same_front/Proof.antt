@@ -1,4 +1,4 @@
--- `same_front` is safe and ends. Assumes nothing.
+-- `same_front` is safe and ends: the loop goes over the shorter list, so that both have place i; the places left fall. Assumes nothing.
 use borrow.Author.Needs.{needs}
 use lib.ListN.{length}
 use Prim.Native.Nat.{_≤_, _-_}

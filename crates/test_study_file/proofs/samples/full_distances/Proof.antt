@@ -1,4 +1,4 @@
--- `full_distances` is safe and ends. Assumes nothing.
+-- `full_distances` is safe and ends: the loop goes over the table; the places left fall. Assumes nothing.
 use native.Mathlib.Omega.{arith}
 use Prim.Native.Nat.{_≤_, _-_}
 use Rattle.test_study_file.proofs.samples.full_distances.Statement.{statement}

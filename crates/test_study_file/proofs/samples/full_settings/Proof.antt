@@ -1,4 +1,4 @@
--- `full_settings` is safe and ends. Assumes nothing.
+-- `full_settings` is safe and ends: the loop goes over the settings; the places left fall. Assumes nothing.
 use native.Mathlib.Omega.{arith}
 use Prim.Native.Nat.{_≤_, _-_}
 use Rattle.test_study_file.proofs.samples.full_settings.Statement.{statement}
