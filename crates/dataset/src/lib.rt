@@ -13,14 +13,14 @@ use study::MAX_WITHDRAWALS;
 ghost use mathlib.Core.Path.{_≡_};
 ghost use mathlib.Core.List.{[]};
 ghost use Rattle.study.specs.Refusals.{verdictOf};
-ghost use Rattle.validity.specs.Memory.{stateOf};
+ghost use Rattle.validity.specs.Memory.{stateOf, entryState, exitState};
 ghost use Rattle.dataset.specs.Answers.{heldAnswer, openAnswer, openLeaves, minimaAnswer, minimaLeaves, enterAnswer, enterLeaves, withdrawAnswer, withdrawLeaves};
 ghost use Rattle.dataset.specs.Accepted.{Passed, EnterAccepted, WithdrawAccepted};
 
 // The dataset becomes empty, whatever it was.
 pub fn open(dataset: Dataset, distances: &mut [u32], settings: &mut [u8], k: u8) -> Outcome
-    ensures answer { λ r. ⌜ verdictOf (r .answer) ≡ openAnswer (stateOf dataset (now (distances .entry)) (now (settings .entry))) k ⌝ }
-    ensures leaves { λ r. ⌜ stateOf (r .dataset) (now (distances .exit)) (now (settings .exit)) ≡ openLeaves (stateOf dataset (now (distances .entry)) (now (settings .entry))) k ⌝ }
+    ensures answer { λ r. ⌜ verdictOf (r .answer) ≡ openAnswer (entryState dataset distances settings) k ⌝ }
+    ensures leaves { λ r. ⌜ exitState (r .dataset) distances settings ≡ openLeaves (entryState dataset distances settings) k ⌝ }
 {
     if is_short(distances, settings) {
         return Outcome {
@@ -59,7 +59,7 @@ pub fn open(dataset: Dataset, distances: &mut [u32], settings: &mut [u8], k: u8)
 
 // With what every call but Open and Read begins: short memory (1), then what is no dataset (21).
 pub fn check(dataset: Dataset, distances: &[u32], settings: &[u8]) -> Answer
-    ensures { λ r. ⌜ verdictOf r ≡ heldAnswer (stateOf dataset (now (distances .entry)) (now (settings .entry))) (λ _. []) ⌝ }
+    ensures { λ r. ⌜ verdictOf r ≡ heldAnswer (entryState dataset distances settings) (λ _. []) ⌝ }
 {
     if is_short(distances, settings) {
         return Answer::Refused(Refusal::ShortMemory);
@@ -72,8 +72,8 @@ pub fn check(dataset: Dataset, distances: &[u32], settings: &[u8]) -> Answer
 
 // Replaces the minima. The memory is only read.
 pub fn set_minima(dataset: Dataset, distances: &[u32], settings: &[u8], minima: Minima) -> Outcome
-    ensures answer { λ r. ⌜ verdictOf (r .answer) ≡ minimaAnswer (stateOf dataset (now (distances .entry)) (now (settings .entry))) minima ⌝ }
-    ensures leaves { λ r. ⌜ stateOf (r .dataset) (now (distances .entry)) (now (settings .entry)) ≡ minimaLeaves (stateOf dataset (now (distances .entry)) (now (settings .entry))) minima ⌝ }
+    ensures answer { λ r. ⌜ verdictOf (r .answer) ≡ minimaAnswer (entryState dataset distances settings) minima ⌝ }
+    ensures leaves { λ r. ⌜ entryState (r .dataset) distances settings ≡ minimaLeaves (entryState dataset distances settings) minima ⌝ }
 {
     let answer = check(dataset, distances, settings);
     let Answer::Done = answer else {
@@ -102,7 +102,7 @@ fn enter_answer(
     row: &[u32],
 ) -> Answer
     requires { ⌜ Passed (stateOf dataset (now distances) (now settings)) ⌝ }
-    ensures { λ r. ⌜ verdictOf r ≡ enterAnswer (stateOf dataset (now (distances .entry)) (now (settings .entry))) setting (now (row .entry)) ⌝ }
+    ensures { λ r. ⌜ verdictOf r ≡ enterAnswer (entryState dataset distances settings) setting (now (row .entry)) ⌝ }
 {
     let k = dataset.k;
     let n = dataset.n;
@@ -137,7 +137,7 @@ fn add_tide(
     row: &[u32],
 ) -> Dataset
     requires { ⌜ EnterAccepted (stateOf dataset (now distances) (now settings)) setting (now row) ⌝ }
-    ensures { λ r. ⌜ stateOf r (now (distances .exit)) (now (settings .exit)) ≡ enterLeaves (stateOf dataset (now (distances .entry)) (now (settings .entry))) setting (now (row .entry)) ⌝ }
+    ensures { λ r. ⌜ exitState r distances settings ≡ enterLeaves (entryState dataset distances settings) setting (now (row .entry)) ⌝ }
 {
     let n = dataset.n;
     storage::put_row(distances, row);
@@ -155,8 +155,8 @@ pub fn enter(
     setting: u8,
     row: &[u32],
 ) -> Outcome
-    ensures answer { λ r. ⌜ verdictOf (r .answer) ≡ enterAnswer (stateOf dataset (now (distances .entry)) (now (settings .entry))) setting (now (row .entry)) ⌝ }
-    ensures leaves { λ r. ⌜ stateOf (r .dataset) (now (distances .exit)) (now (settings .exit)) ≡ enterLeaves (stateOf dataset (now (distances .entry)) (now (settings .entry))) setting (now (row .entry)) ⌝ }
+    ensures answer { λ r. ⌜ verdictOf (r .answer) ≡ enterAnswer (entryState dataset distances settings) setting (now (row .entry)) ⌝ }
+    ensures leaves { λ r. ⌜ exitState (r .dataset) distances settings ≡ enterLeaves (entryState dataset distances settings) setting (now (row .entry)) ⌝ }
 {
     let first = check(dataset, distances, settings);
     let Answer::Done = first else {
@@ -179,7 +179,7 @@ pub fn enter(
 // The reasons that Withdraw has of its own. Tides are numbered from 1.
 fn withdraw_answer(dataset: Dataset, distances: &[u32], settings: &[u8], tide: u8) -> Answer
     requires { ⌜ Passed (stateOf dataset (now distances) (now settings)) ⌝ }
-    ensures { λ r. ⌜ verdictOf r ≡ withdrawAnswer (stateOf dataset (now (distances .entry)) (now (settings .entry))) tide ⌝ }
+    ensures { λ r. ⌜ verdictOf r ≡ withdrawAnswer (entryState dataset distances settings) tide ⌝ }
 {
     let n = dataset.n;
     let count = dataset.withdrawn;
@@ -199,7 +199,7 @@ fn withdraw_answer(dataset: Dataset, distances: &[u32], settings: &[u8], tide: u
 // What an accepted Withdraw makes of record and memory.
 fn remove_tide(dataset: Dataset, distances: &mut [u32], settings: &mut [u8], tide: u8) -> Dataset
     requires { ⌜ WithdrawAccepted (stateOf dataset (now distances) (now settings)) tide ⌝ }
-    ensures { λ r. ⌜ stateOf r (now (distances .exit)) (now (settings .exit)) ≡ withdrawLeaves (stateOf dataset (now (distances .entry)) (now (settings .entry))) tide ⌝ }
+    ensures { λ r. ⌜ exitState r distances settings ≡ withdrawLeaves (entryState dataset distances settings) tide ⌝ }
 {
     let m = tide as usize - 1;
     storage::remove_row(distances, m);
@@ -212,8 +212,8 @@ fn remove_tide(dataset: Dataset, distances: &mut [u32], settings: &mut [u8], tid
 
 // The named tide goes, and later tides move down by one.
 pub fn withdraw(dataset: Dataset, distances: &mut [u32], settings: &mut [u8], tide: u8) -> Outcome
-    ensures answer { λ r. ⌜ verdictOf (r .answer) ≡ withdrawAnswer (stateOf dataset (now (distances .entry)) (now (settings .entry))) tide ⌝ }
-    ensures leaves { λ r. ⌜ stateOf (r .dataset) (now (distances .exit)) (now (settings .exit)) ≡ withdrawLeaves (stateOf dataset (now (distances .entry)) (now (settings .entry))) tide ⌝ }
+    ensures answer { λ r. ⌜ verdictOf (r .answer) ≡ withdrawAnswer (entryState dataset distances settings) tide ⌝ }
+    ensures leaves { λ r. ⌜ exitState (r .dataset) distances settings ≡ withdrawLeaves (entryState dataset distances settings) tide ⌝ }
 {
     let first = check(dataset, distances, settings);
     let Answer::Done = first else {

@@ -25,15 +25,15 @@ abbrev pub stateOf : Dataset → List ℕ → List ℕ → State
 stateOf r d s = record { dataset = r; distances = d; settings = s }
 
 -- a lent list of numbers as an `ensures` has it: where the function begins, and where it returns
-abbrev pub Lent : Type 0
-Lent = Both (RefT (List ℕ)) (RefT (List ℕ))
+abbrev pub LentList : Type 0
+LentList = Both (RefT (List ℕ)) (RefT (List ℕ))
 
 -- a record with the lent memory as it is where the function begins
-abbrev pub entryState : Dataset → Lent → Lent → State
+abbrev pub entryState : Dataset → LentList → LentList → State
 entryState r d s = stateOf r (now (d .entry)) (now (s .entry))
 
 -- a record with the lent memory as it is where the function returns
-abbrev pub exitState : Dataset → Lent → Lent → State
+abbrev pub exitState : Dataset → LentList → LentList → State
 exitState r d s = stateOf r (now (d .exit)) (now (s .exit))
 
 -- reason 1 of memory that has room for no dataset: fewer than 14,400 distances, in rows of 120, or than 120 setting bytes

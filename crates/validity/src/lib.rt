@@ -17,7 +17,7 @@ ghost use lib.ListN.{length, getD};
 ghost use Rattle.lists.specs.Lists.{every, sumBelow};
 ghost use Rattle.study.specs.Limits.{maxTides, tableSize, maxDistance, maxSettings};
 ghost use Rattle.study.specs.Study.{validMinima};
-ghost use Rattle.validity.specs.Memory.{stateOf, tooShort, validSetting, validPlace, validRow, isStudy, isDataset};
+ghost use Rattle.validity.specs.Memory.{tooShort, validSetting, validPlace, validRow, isStudy, isDataset, entryState};
 
 fn byte(x: u8) -> usize
     ensures { λ r. ⌜ (r ≡ x) × (r < 256) ⌝ }
@@ -224,7 +224,7 @@ pub fn row_in_range(row: &[u32]) -> bool
 pub fn is_study(dataset: Dataset, distances: &[u32], settings: &[u8]) -> bool
     requires { ⌜ tableSize ≤ length (now distances) ⌝ }
     requires { ⌜ maxTides ≤ length (now settings) ⌝ }
-    ensures { λ r. ⌜ r ≡ isStudy (stateOf dataset (now (distances .entry)) (now (settings .entry))) ⌝ }
+    ensures { λ r. ⌜ r ≡ isStudy (entryState dataset distances settings) ⌝ }
 {
     let k = dataset.k;
     if k < 1 {
@@ -254,7 +254,7 @@ pub fn is_study(dataset: Dataset, distances: &[u32], settings: &[u8]) -> bool
 pub fn is_dataset(dataset: Dataset, distances: &[u32], settings: &[u8]) -> bool
     requires { ⌜ tableSize ≤ length (now distances) ⌝ }
     requires { ⌜ maxTides ≤ length (now settings) ⌝ }
-    ensures { λ r. ⌜ r ≡ isDataset (stateOf dataset (now (distances .entry)) (now (settings .entry))) ⌝ }
+    ensures { λ r. ⌜ r ≡ isDataset (entryState dataset distances settings) ⌝ }
 {
     is_study(dataset, distances, settings)
 }
