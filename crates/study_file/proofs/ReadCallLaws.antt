@@ -30,9 +30,9 @@ count-is : (s : List ℕ) {r : Dataset} → r ≡ recordOf (decoded s) → r .n 
 unfolding recordOf
 count-is s e = ap (λ (r : Dataset). r .n) e ∙ decoded-size s
 
-kinds-is : (s : List ℕ) {r : Dataset} → r ≡ recordOf (decoded s) → r .k ≡ bitsAt s 15 4
+k-is : (s : List ℕ) {r : Dataset} → r ≡ recordOf (decoded s) → r .k ≡ bitsAt s 15 4
 unfolding recordOf decoded
-kinds-is s e = ap (λ (r : Dataset). r .k) e
+k-is s e = ap (λ (r : Dataset). r .k) e
 
 blank : (x n i : ℕ) → x ≡ 0 → getD (replicate n x) i 0 ≡ 0
 blank x n i e =
@@ -46,7 +46,7 @@ module _ (s : List ℕ) {a : Answer} (verdict : verdictOf a ≡ firstOf (headRea
   pub tides-begin : {r : Dataset} → r ≡ recordOf (decoded s) → {matrix vector : List ℕ} → matrix ≡ replicate 14400 0 → vector ≡ replicate 120 0
       → (r .k ≡ bitsAt s 15 4) × (r .n ≡ bitsAt s 8 7) × Loaded s 0 matrix vector
   tides-begin e {matrix} {vector} x y = (
-    kinds-is s e,
+    k-is s e,
     count-is s e,
     loaded-none s matrix vector head-passed (sym verdict ∙ ap verdictOf q)
         (ap length x ∙ length-replicate {A = ℕ} 14400 0) (ap length y ∙ length-replicate {A = ℕ} 120 0)
@@ -64,10 +64,10 @@ module _ (σ : State) (file : List ℕ) where
   unfolding readAnswer freshAnswer
   read-short o = by-verdict (refused (number 1)) (ap (λ b. cond b (refused (number 1)) (firstOf (readReasons file))) (short-yes σ o))
 
-  module _ (far : 14400 ≤ length (σ .distances)) (vector : 120 ≤ length (σ .settings)) where
+  module _ (long : 14400 ≤ length (σ .distances)) (enough : 120 ≤ length (σ .settings)) where
     own : readAnswer σ file ≡ firstOf (readReasons file)
     unfolding readAnswer freshAnswer
-    own = ap (λ b. cond b (refused (number 1)) (firstOf (readReasons file))) (short-no σ far vector)
+    own = ap (λ b. cond b (refused (number 1)) (firstOf (readReasons file))) (short-no σ long enough)
 
     refuses : {a : Answer} {why : Refusal} → a ≡ Refused why → firstOf (readReasons file) ≡ refused (numbered why)
         → (verdictOf a ≡ readAnswer σ file) × (σ ≡ readLeaves σ file)
