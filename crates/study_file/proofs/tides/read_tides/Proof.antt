@@ -11,7 +11,8 @@ use Rattle.study_file.proofs.tides.read_tides.Statement.{statement}
 use Rattle.study_file.proofs.tides.read_tides.Tie as tie
 
 abbrev Inv-loop : tie.InvT-loop
-Inv-loop file k n matrix₀ vector₀ t₀ matrix vector t = (t ≤ n) × Loaded file t matrix vector × (length matrix ≡ length matrix₀) × (length vector ≡ length vector₀)
+Inv-loop file k n matrix₀ vector₀ t₀ matrix vector t =
+    (t ≤ n) × Loaded file t matrix vector × (length matrix ≡ length matrix₀) × (length vector ≡ length vector₀)
 
 abbrev μ-loop : tie.MeasureT-loop
 μ-loop file k n matrix₀ vector₀ t₀ matrix vector t = n - t
