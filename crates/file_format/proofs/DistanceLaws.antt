@@ -1,4 +1,4 @@
--- Distances by the rows of a study, and the triangle rule tide by tide. Assumes nothing.
+-- Distances by the rows of a study, and the triangle inequality tide by tide. Assumes nothing.
 use Prim.Native.Nat.{ℕ, _≤_, _<_}
 use native.Mathlib.Omega.{arith}
 use mathlib.Core.Path.{_≡_, _∙_, subst}
@@ -28,7 +28,7 @@ module _ (S : Study) where
       (λ m. let e : t ≡ u = omega arith in subst (λ z. distance S t z ≤ b) e (omega (arith, distance-itself S t))) (split u t))
       (split t u)
 
-  -- the rule holds exactly when no pair of earlier tides violates it with any tide
+  -- the triangle inequality holds exactly when no pair of earlier tides violates it with any tide
   pub rule-T : TriangleInequality S ↔ ((t : ℕ) → t < size S → T (isEmpty (violations (distance S) t (distance S t))))
   rule-T =
       let turn = distance-both-ways S in (

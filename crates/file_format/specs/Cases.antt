@@ -81,8 +81,8 @@ pub record WorkedCase : Type 0 where
   pub asked : Question
   pub given : Reply CaseValue
 
--- a worked case, written as a sentence
 infix 10 _gives_
+-- a worked case, written as a sentence
 abbrev pub _gives_ : Question → Reply CaseValue → WorkedCase
 q gives r = record { asked = q; given = r }
 

@@ -179,12 +179,12 @@ module _ (s : List ℕ) where
     laid =
         λ i. record {
           dataset = record { k = k; n = part-size t i; minima = minimaAt s k; withdrawn = bitsAt s 26 16 };
-          distances = sym (L .far) i;
+          distances = sym (L .distances) i;
           settings = sym (L .settings) i;
         }
 
-    is-dataset : IsStudy (σ t matrix vector)
-    is-dataset = subst IsStudy laid (stored-is (part s t) valid (σ t matrix vector))
+    is-study : IsStudy (σ t matrix vector)
+    is-study = subst IsStudy laid (stored-is (part s t) valid (σ t matrix vector))
 
     study-is : studyOf (σ t matrix vector) ≡ P t
     unfolding contentsOf
@@ -218,22 +218,22 @@ module _ (s : List ℕ) where
     in-file = omega (arith, decoded-size s)
 
     -- memory holds t tides, and entering tide t makes it t + 1
-    so-far : IsStudy (σ t matrix vector)
-    so-far = is-dataset t (omega arith) matrix vector L
+    loaded-study : IsStudy (σ t matrix vector)
+    loaded-study = is-study t (omega arith) matrix vector L
 
     entered-part : (x : ℕ) → x ≡ tideAt s k t .setting → entered x (row t) (studyOf (σ t matrix vector)) ≡ P (t + 1)
     entered-part x e = ap (entered x (row t)) (study-is t (omega arith) matrix vector L) ∙ next-part t x e
 
     -- the row and the column of tide t
-    module _ (far : List ℕ) (e : far ≡ withRow (tideAt s (bitsAt s 15 4) t .row) t matrix) where
-      row-laid : far ≡ distancesOf (P (t + 1)) matrix
+    module _ (new : List ℕ) (e : new ≡ withRow (tideAt s (bitsAt s 15 4) t .row) t matrix) where
+      row-laid : new ≡ distancesOf (P (t + 1)) matrix
       row-laid =
           let x = tideAt s k t .setting in
           e ∙ ap (λ m. withRow (row t) m matrix) (sym (row-length t))
-          ∙ entered-distances (σ t matrix vector) so-far x (row t) (row-length t) below (L .long)
+          ∙ entered-distances (σ t matrix vector) loaded-study x (row t) (row-length t) below (L .long)
           ∙ ap (λ (Q : Study). distancesOf Q matrix) (entered-part x refl)
 
-      distance-laid : (i j : ℕ) → i ≤ t → j ≤ t → cell far i j ≡ distance S i j
+      distance-laid : (i j : ℕ) → i ≤ t → j ≤ t → cell new i j ≡ distance S i j
       unfolding distancesOf
       distance-laid i j a b =
           let p : (i * 120 + j) / 120 ≡ i = omega (arith, below) in
@@ -243,14 +243,14 @@ module _ (s : List ℕ) where
           ∙ ap₂ (distance (P (t + 1))) p q
           ∙ part-distance (t + 1) i j (omega arith) (omega arith) (omega arith)
 
-      pairs-laid : violations (cell far) t (cell far t) ≡ violationsAt S t
+      pairs-laid : violations (cell new) t (cell new t) ≡ violationsAt S t
       pairs-laid =
-          violations-same (cell far) (distance S) t (cell far t) (distance S t)
+          violations-same (cell new) (distance S) t (cell new t) (distance S t)
           (λ i j a b. distance-laid i j (omega arith) (omega arith)) (λ i a. distance-laid t i (omega arith) (omega arith))
 
-      far-length : length far ≡ length matrix
+      new-length : length new ≡ length matrix
       unfolding distancesOf
-      far-length = ap length row-laid ∙ length-overwrite (λ p. distance (P (t + 1)) (p / 120) (p % 120)) matrix 14400 (L .long)
+      new-length = ap length row-laid ∙ length-overwrite (λ p. distance (P (t + 1)) (p / 120) (p % 120)) matrix 14400 (L .long)
 
     -- ---- the ways on
 
@@ -258,36 +258,36 @@ module _ (s : List ℕ) where
       pub turn-five : bitsAt s 15 4 ≤ less → firstOf (readReasons s) ≡ refused (number 5)
       turn-five h = refused-five s t (L .clear) in-file (omega (arith, decoded-setting s t in-file, decoded-k))
 
-      module _ (fits : less < bitsAt s 15 4) (far : List ℕ) (e : far ≡ withRow (tideAt s (bitsAt s 15 4) t .row) t matrix)
-          (a : Answer) (found : verdictOf a ≡ violationVerdict (violations (cell far) t (cell far t))) where
+      module _ (fits : less < bitsAt s 15 4) (new : List ℕ) (e : new ≡ withRow (tideAt s (bitsAt s 15 4) t .row) t matrix)
+          (a : Answer) (found : verdictOf a ≡ violationVerdict (violations (cell new) t (cell new t))) where
         fits-setting : tide S t .setting ≤ S .k
         fits-setting = omega (arith, decoded-setting s t in-file, decoded-k)
 
         verdict : verdictOf a ≡ violationVerdict (violationsAt S t)
-        verdict = found ∙ ap violationVerdict (pairs-laid far e)
+        verdict = found ∙ ap violationVerdict (pairs-laid new e)
 
         pub turn-seven : {why : Refusal} → a ≡ Refused why → firstOf (readReasons s) ≡ refused (numbered why)
         turn-seven q =
             let w = told-pair (violationsAt S t) verdict q in
             refused-seven s t (L .clear) in-file fits-setting (w .0) ∙ ap refused (w .1)
 
-        pub turn-next : a ≡ Done → Loaded s (t + 1) far (set vector t (less + 1))
+        pub turn-next : a ≡ Done → Loaded s (t + 1) new (set vector t (less + 1))
         turn-next q =
             record {
               head = L .head;
               clear = clear-more s t (L .clear) in-file fits-setting (told-none (violationsAt S t) verdict q);
-              far = distances-own (P (t + 1)) matrix far (row-laid far e);
-              settings = settings-own (P (t + 1)) vector (set vector t (less + 1)) kinds-laid;
-              long = omega (arith, far-length far e, L .long);
+              distances = distances-own (P (t + 1)) matrix new (row-laid new e);
+              settings = settings-own (P (t + 1)) vector (set vector t (less + 1)) settings-laid;
+              long = omega (arith, new-length new e, L .long);
               enough = simp length-set (L .enough);
             }
           where
             x-is : less + 1 ≡ tideAt s k t .setting
             x-is = ap (λ z. z + 1) read ∙ sym (setting-next t more)
 
-            kinds-laid : set vector t (less + 1) ≡ settingsOf (P (t + 1)) vector
-            kinds-laid =
-                entered-settings (σ t matrix vector) so-far (less + 1) (row t) (row-length t) below (L .enough)
+            settings-laid : set vector t (less + 1) ≡ settingsOf (P (t + 1)) vector
+            settings-laid =
+                entered-settings (σ t matrix vector) loaded-study (less + 1) (row t) (row-length t) below (L .enough)
                 ∙ ap (λ (Q : Study). settingsOf Q vector) (entered-part (less + 1) x-is)
 
   -- ---- the start and the end
@@ -299,7 +299,7 @@ module _ (s : List ℕ) where
       record {
         head = h;
         clear = clear-none s e;
-        far = sym (overwrite-same (λ p. distance (P 0) (p / 120) (p % 120)) matrix 14400 0 (omega arith)
+        distances = sym (overwrite-same (λ p. distance (P 0) (p / 120) (p % 120)) matrix 14400 0 (omega arith)
             (λ p _. distance-none (P 0) (p / 120) (p % 120) (inl (omega (arith, part-size 0))) ∙ sym (f p)));
         settings = sym (overwrite-same (λ i. tide (P 0) i .setting) vector 120 0 (omega arith)
             (λ i _. setting-none (P 0) i (omega (arith, part-size 0)) ∙ sym (g i)));
@@ -315,7 +315,7 @@ module _ (s : List ℕ) where
     unfolding distancesOf
     copied-distances d =
         overwrite-ext (λ p. getD matrix p 0) d 14400 (λ p. distance S (p / 120) (p % 120))
-        (λ p l. ap (λ (m : List ℕ). getD m p 0) (L .far) ∙ getD-overwrite (λ p. distance (P n) (p / 120) (p % 120)) matrix 14400 p 0 l
+        (λ p l. ap (λ (m : List ℕ). getD m p 0) (L .distances) ∙ getD-overwrite (λ p. distance (P n) (p / 120) (p % 120)) matrix 14400 p 0 l
         ∙ ap (λ (H : Contents). distance (H .study) (p / 120) (p % 120)) (sym part-whole))
 
     pub copied-settings : (g : List ℕ) → overwrite 120 (λ i. getD vector i 0) g ≡ settingsOf (decoded s .study) g

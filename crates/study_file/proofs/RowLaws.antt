@@ -95,19 +95,19 @@ module _ {s : List ℕ} {k t start : ℕ} {matrix vector : List ℕ} (A : AtTide
   pub tide-five : k ≤ less → Reading s (t + 1) (Refused Because.Setting) matrix vector
   tide-five h = stopped refl (turn-five s t (A .more) matrix vector (A .loaded) less read (omega (arith, A .k-is)))
 
-  module _ (fits : less < k) {far : List ℕ} {a : Answer} (r : RowRead s (start + 3) t matrix far a) where
+  module _ (fits : less < k) {new : List ℕ} {a : Answer} (r : RowRead s (start + 3) t matrix new a) where
     small : less < bitsAt s 15 4
     small = omega (arith, A .k-is)
 
-    laid : far ≡ withRow (tideAt s (bitsAt s 15 4) t .row) t matrix
+    laid : new ≡ withRow (tideAt s (bitsAt s 15 4) t .row) t matrix
     unfolding tideAt
     laid = r .laid ∙ ap (λ p. withRow (rowAt s (p + 3) t) t matrix) (A .begins)
 
-    pub tide-stops : {why : Refusal} → a ≡ Refused why → Reading s (t + 1) a far vector
-    tide-stops q = stopped q (turn-seven s t (A .more) matrix vector (A .loaded) less read small far laid a (r .verdict) q)
+    pub tide-stops : {why : Refusal} → a ≡ Refused why → Reading s (t + 1) a new vector
+    tide-stops q = stopped q (turn-seven s t (A .more) matrix vector (A .loaded) less read small new laid a (r .verdict) q)
 
-    pub tide-goes : a ≡ Done → Reading s (t + 1) Done far (set vector t (less + 1))
-    tide-goes q = reached (turn-next s t (A .more) matrix vector (A .loaded) less read small far laid a (r .verdict) q)
+    pub tide-goes : a ≡ Done → Reading s (t + 1) Done new (set vector t (less + 1))
+    tide-goes q = reached (turn-next s t (A .more) matrix vector (A .loaded) less read small new laid a (r .verdict) q)
 
 -- ---- all tides
 

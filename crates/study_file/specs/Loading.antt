@@ -36,7 +36,7 @@ part s t =
 pub record Loaded (s : List ℕ) (t : ℕ) (matrix vector : List ℕ) : Type 0 where
   pub head : Head s
   pub clear : Clear s t
-  pub far : matrix ≡ distancesOf (part s t .study) matrix
+  pub distances : matrix ≡ distancesOf (part s t .study) matrix
   pub settings : vector ≡ settingsOf (part s t .study) vector
   pub long : tableSize ≤ length matrix
   pub enough : maxTides ≤ length vector

@@ -24,6 +24,6 @@ abbrev pub rowAt : List ℕ → ℕ → ℕ → List ℕ
 rowAt s start t = tabulate t (λ (i : ℕ). bitsAt s (start + 20 * i) 20)
 
 -- tide t's row taken into memory, and its answer
-pub record RowRead (s : List ℕ) (start t : ℕ) (matrix far : List ℕ) (a : Answer) : Type 0 where
-  pub laid : far ≡ withRow (rowAt s start t) t matrix
-  pub verdict : verdictOf a ≡ violationVerdict (violations (cell far) t (cell far t))
+pub record RowRead (s : List ℕ) (start t : ℕ) (old new : List ℕ) (a : Answer) : Type 0 where
+  pub laid : new ≡ withRow (rowAt s start t) t old
+  pub verdict : verdictOf a ≡ violationVerdict (violations (cell new) t (cell new t))

@@ -11,10 +11,11 @@ use Rattle.study_file.proofs.tides.read_tides.Statement.{statement}
 use Rattle.study_file.proofs.tides.read_tides.Tie as tie
 
 abbrev Inv-loop : tie.InvT-loop
-Inv-loop file k n near₀ kinds₀ t₀ matrix vector t = (t ≤ n) × Loaded file t matrix vector × (length matrix ≡ length near₀) × (length vector ≡ length kinds₀)
+Inv-loop file k n matrix₀ vector₀ t₀ matrix vector t =
+    (t ≤ n) × Loaded file t matrix vector × (length matrix ≡ length matrix₀) × (length vector ≡ length vector₀)
 
 abbrev μ-loop : tie.MeasureT-loop
-μ-loop file k n near₀ kinds₀ t₀ matrix vector t = n - t
+μ-loop file k n matrix₀ vector₀ t₀ matrix vector t = n - t
 
 loop-holds : tie.Need-loop-holds Inv-loop μ-loop
 loop-holds c = (omega arith, c .before .before .before .pre .2, refl, refl)

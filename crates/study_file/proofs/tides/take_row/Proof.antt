@@ -14,10 +14,10 @@ use Rattle.study_file.proofs.tides.take_row.Statement.{statement}
 use Rattle.study_file.proofs.tides.take_row.Tie as tie
 
 abbrev Inv-loop : tie.InvT-loop
-Inv-loop file start near₀ t i₀ matrix i = (i ≤ t) × (matrix ≡ withRow (rowAt file start t) i near₀) × (length matrix ≡ length near₀)
+Inv-loop file start matrix₀ t i₀ matrix i = (i ≤ t) × (matrix ≡ withRow (rowAt file start t) i matrix₀) × (length matrix ≡ length matrix₀)
 
 abbrev μ-loop : tie.MeasureT-loop
-μ-loop file start near₀ t i₀ matrix i = t - i
+μ-loop file start matrix₀ t i₀ matrix i = t - i
 
 loop-holds : tie.Need-loop-holds Inv-loop μ-loop
 loop-holds c = (omega arith, row-none _ _, refl)
