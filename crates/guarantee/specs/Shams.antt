@@ -20,6 +20,7 @@ pairs = plain 2 (0 ∷ 1 ∷ 10 ∷ 11 ∷ 20 ∷ 21 ∷ [])
 unfoldable pub mixed : Study
 mixed = plain 2 (0 ∷ 10 ∷ 20 ∷ 1 ∷ 11 ∷ 21 ∷ [])
 
+-- each sham's answer, and that it contradicts
 pub record Shams : Type 0 where
   -- all tides in one block: demand 3 stops it
   pub one-block : (F : Figures) → Guaranteed pairs F (1 ∷ 1 ∷ 1 ∷ 1 ∷ 1 ∷ 1 ∷ []) → ⊥

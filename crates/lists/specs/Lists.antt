@@ -7,6 +7,8 @@ use lib.Dec.{leb, eqb}
 use lib.ListN.{length, drop, getD}
 
 infix 40 _among_
+
+-- x is an element of xs
 abbrev pub _among_ : {A : Type 0} → A → List A → Type 0
 x among xs = List·Memᴰ x xs
 
@@ -36,6 +38,7 @@ unfoldable pub sumBelow : ℕ → (ℕ → ℕ) → ℕ
 sumBelow zero f = 0
 sumBelow (suc n) f = sumBelow n f + f n
 
+-- 1 where it holds, else 0
 abbrev pub bit : Bool → ℕ
 bit true = 1
 bit false = 0
@@ -87,11 +90,12 @@ module _ {A : Type 0} where
   isEmpty [] = true
   isEmpty (x ∷ xs) = false
 
--- the least of a list; 0 of the empty list
+-- the least of x and a list
 abbrev pub leastFrom : ℕ → List ℕ → ℕ
 leastFrom x [] = x
 leastFrom x (y ∷ ys) = min x (leastFrom y ys)
 
+-- the least of a list; 0 of the empty list
 abbrev pub least : List ℕ → ℕ
 least [] = 0
 least (x ∷ xs) = leastFrom x xs

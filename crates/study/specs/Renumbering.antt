@@ -24,6 +24,7 @@ renumberedTide to S t = record { setting = tide S (to t) .setting; row = tabulat
 unfoldable pub renumbered : (ℕ → ℕ) → Study → Study
 renumbered to S = record { k = S .k; minima = S .minima; tides = tabulate (size S) (renumberedTide to S) }
 
+-- of every study and every order of its tides
 pub record Renumberings : Type 0 where
   -- every study has its tides in every order
   pub in-any-order : (S : Study) (B : Permutation (size S))

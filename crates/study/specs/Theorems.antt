@@ -18,6 +18,7 @@ use Rattle.study.specs.Calls.{openReasons, opening, minimaReasons, setti
 
 -- ---- what the theorems ask of a problem
 
+-- distances the same both ways, 0 from a tide to itself
 pub record Symmetric (P : Problem) : Type 0 where
   pub both-ways : (t u : ℕ) → P .dist t u ≡ P .dist u t
   pub itself : (t : ℕ) → P .dist t t ≡ 0

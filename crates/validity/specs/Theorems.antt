@@ -10,6 +10,7 @@ use Rattle.study.specs.Theorems.{ValidContents}
 use Rattle.validity.specs.Memory.{State, short, isDataset, contentsOf, stored}
 use Rattle.validity.specs.Validity.{IsDataset}
 
+-- of every record, memory and contents
 pub record ForDatasets : Type 0 where
   -- reason 21 is exact
   pub exactly : (s : State) → T (isDataset s) ↔ IsDataset s
