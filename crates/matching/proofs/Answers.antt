@@ -1,5 +1,4 @@
 -- The four ends of the search keep the promise. Assumes nothing.
-use mathlib.Core.Path.{refl, _∙_}
 use mathlib.Core.List.{List}
 use mathlib.Core.Bool.{true, false, true≢false, false≢true}
 use Prim.Native.Nat.{ℕ, _*_, _<_}
@@ -13,6 +12,7 @@ use Rattle.matching.specs.Matching.{Unsaturable}
 use Rattle.matching.specs.Graph.{Edge, Saturated}
 use Rattle.matching.specs.Slots.{Slots}
 use Rattle.lists.specs.Lists.{TailKept}
+use Rattle.lists.proofs.Tables.{tail-same, tail-trans}
 use Rattle.matching.specs.Steps.{ListWritten}
 use Rattle.matching.proofs.Correspondence.{no-assignment, written-assigned}
 
@@ -23,8 +23,7 @@ module _ (n blocks : ℕ) (M : Minima) (settings allowed list : List ℕ) where
       record {
         found = λ e. absurd (false≢true e);
         none = λ _ D asg. let l = enough-tides n blocks (M .b0) (meeting M n settings) _ D (meeting-least M n settings) asg in omega arith;
-        same-length = refl;
-        rest = refl;
+        tail = tail-same n list;
       }
 
   module _ (owner kind list′ : List ℕ) (ask : Asked (Able M n settings) n blocks allowed list) (sl : Slots blocks (M .b0) (M .b) owner kind) where
@@ -34,8 +33,7 @@ module _ (n blocks : ℕ) (M : Minima) (settings allowed list : List ℕ) where
         record {
           found = λ e. absurd (false≢true e);
           none = λ _ D asg. no-assignment n blocks M settings allowed list owner kind D ask sl asg un;
-          same-length = re .same-length;
-          rest = re .rest;
+          tail = re;
         }
 
     -- one does, and the list is written
@@ -45,8 +43,7 @@ module _ (n blocks : ℕ) (M : Minima) (settings allowed list : List ℕ) where
         record {
           found = λ _. written-assigned n blocks M settings allowed owner kind tide slot list′ (ask .able .fit) sl sat wr;
           none = λ e. absurd (true≢false e);
-          same-length = re .same-length;
-          rest = re .rest;
+          tail = re;
         }
 
   -- a tide may go nowhere
@@ -56,6 +53,5 @@ module _ (n blocks : ℕ) (M : Minima) (settings allowed list : List ℕ) where
       record {
         found = λ e. absurd (false≢true e);
         none = λ _ D asg. w .2 (D (w .0)) (asg .below (w .0) (w .1)) (asg .may (w .0) (w .1));
-        same-length = re′ .same-length ∙ re .same-length;
-        rest = re′ .rest ∙ re .rest;
+        tail = tail-trans re re′;
       }

@@ -9,7 +9,7 @@ use lib.ListN.{set, length-set}
 use lib.Seq.{getD-set-same, getD-set-other}
 use Rattle.lists.specs.Lists.{sumBelow, bit, countBelow, at}
 use Rattle.lists.proofs.Counts.{sum-zero, sum-suc, count-zero, count-same}
-use Rattle.lists.proofs.Counting.{sum-more, sum-front, count-more}
+use Rattle.lists.proofs.Counting.{sum-next, sum-front, count-next}
 use Rattle.matching.specs.Slots.{total, blockSum, slotTest, Slots, Tables, Added, BlockAdded}
 
 -- the slots of the settings below j of block m stand from start up to pos
@@ -60,7 +60,7 @@ added-more pos m k i owner₀ kind₀ owner kind ad l =
         = count-same (pos + i) q (slotTest Q owner kind)
         (λ s h. rw (getD-set-other owner (pos + i) s m 0 (λ q. omega arith), getD-set-other kind (pos + i) s k 0 (λ q. omega arith))) in
         let e : countBelow (pos + (i + 1)) q ≡ countBelow (pos + i + 1) q = ap (λ (x : ℕ). countBelow x q) (omega arith) in
-        omega (arith, count-more (pos + i) q, cond-more (Q m k) i, ad .law Q)
+        omega (arith, count-next (pos + i) q, cond-more (Q m k) i, ad .law Q)
 
 pub part-start : (start m : ℕ) (b owner kind : List ℕ) → Tables owner kind → PartAdded start m 0 start b owner kind owner kind
 part-start start m b owner kind ta =
@@ -82,8 +82,8 @@ module _ (start m j pos b0 : ℕ) (b owner₀ kind₀ owner kind : List ℕ) (pa
   part-more owner′ kind′ ad =
       record {
         tables = ad .tables;
-        place = omega (arith, sum-more j (λ i. at b i), pa .place);
-        law = λ Q. omega (arith, sum-more j (λ i. cond (Q m (i + 1)) (at b i) 0), ad .law Q, pa .law Q);
+        place = omega (arith, sum-next j (λ i. at b i), pa .place);
+        law = λ Q. omega (arith, sum-next j (λ i. cond (Q m (i + 1)) (at b i) 0), ad .law Q, pa .law Q);
       }
 
   pub part-end : 8 ≤ j → j ≤ 8 → (owner′ kind′ : List ℕ) → Added pos m 0 (start + b0 - pos) owner kind owner′ kind′ → BlockAdded start m b0 b owner₀ kind₀ owner′ kind′
@@ -113,7 +113,7 @@ module _ (m pos b0 blocks : ℕ) (b owner kind : List ℕ) (la : LaidOut m pos b
       record {
         tables = ba .tables;
         place = omega (arith, la .place);
-        law = λ Q. omega (arith, sum-more m (blockSum Q b0 b), ba .law Q, la .law Q);
+        law = λ Q. omega (arith, sum-next m (blockSum Q b0 b), ba .law Q, la .law Q);
       }
 
   pub laid-end : blocks ≤ m → m ≤ blocks → Slots blocks b0 b owner kind
