@@ -1,9 +1,9 @@
 // Centres at a radius.
 use crate::front::fill_front;
-use study::refusals::refusal_number;
 use study::Answer;
 use study::Dataset;
 use study::Refusal;
+use study::refusals::refusal_number;
 ghost use mathlib.Core.Path.{_≡_};
 ghost use lib.ListN.{length};
 ghost use Rattle.study.specs.Refusals.{verdictOf};

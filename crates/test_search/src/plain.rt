@@ -1,6 +1,6 @@
 // Enumeration of every list.
-use study::Minima;
 use study::MAX_TIDES;
+use study::Minima;
 use study::TABLE_SIZE;
 ghost use Prim.Native.Nat.{_<_, _≤_};
 
@@ -77,7 +77,12 @@ fn meets(q: Question, settings: &[u8; 6], list: &[u8; 8], m: u8) -> bool
 }
 
 // Whether the first n places of list are an assignment.
-pub fn is_assignment(q: Question, settings: &[u8; 6], allowed: &[u8; TABLE_SIZE], list: &[u8; 8]) -> bool
+pub fn is_assignment(
+    q: Question,
+    settings: &[u8; 6],
+    allowed: &[u8; TABLE_SIZE],
+    list: &[u8; 8],
+) -> bool
     requires { ⌜ q .n ≤ 6 ⌝ }
     requires { ⌜ q .blocks ≤ 3 ⌝ }
 {
