@@ -9,6 +9,7 @@ use native.Mathlib.Omega.{arith}
 use lib.Dec.{T}
 use lib.ListN.{length, set}
 use lib.Seq.{getD-set-same, getD-set-other}
+use Rattle.study.specs.Limits.{tableSize}
 use Rattle.study.specs.declared.Minima.{Minima}
 use Rattle.promise.specs.Promise.{allows, Asked, Nowhere}
 use Rattle.promise.specs.Promise.{Able}
@@ -25,13 +26,17 @@ pub record WrittenTo (t n blocks slots : ℕ) (allowed owner slot list₀ list :
   pub rest : TailKept n list₀ list
   pub done : ListWritten t blocks slots allowed owner slot list
 
-pub write-start : (n blocks slots : ℕ) (allowed owner slot list : List ℕ) → WrittenTo 0 n blocks slots allowed owner slot list list
-write-start n blocks slots allowed owner slot list =
-    record { rest = tail-same n list; done = record { below = λ k l. absurd (omega arith); may = λ k l. absurd (omega arith); own = λ k l. absurd (omega arith) } }
+pub write-start : {n blocks slots : ℕ} {allowed owner slot list : List ℕ} → WrittenTo 0 n blocks slots allowed owner slot list list
+write-start {n} {list = list} =
+    record {
+      rest = tail-same n list;
+      done = record { below = λ k l. absurd (omega arith); may = λ k l. absurd (omega arith); own = λ k l. absurd (omega arith) };
+    }
 
-module _ (t n blocks slots : ℕ) (allowed owner slot list₀ list : List ℕ) (wt : WrittenTo t n blocks slots allowed owner slot list₀ list) where
-  pub write-more : (r : ℕ) → t < n → n ≤ length list₀ → r < blocks → BlockOf allowed owner slot blocks slots t r → WrittenTo (t + 1) n blocks slots allowed owner slot list₀ (set list t r)
-  write-more r l m b pl =
+module _ {t n blocks slots : ℕ} {allowed owner slot list₀ list : List ℕ} (wt : WrittenTo t n blocks slots allowed owner slot list₀ list) where
+  pub write-more : {r : ℕ} → t < n → n ≤ length list₀ → r < blocks → BlockOf allowed owner slot blocks slots t r
+      → WrittenTo (t + 1) n blocks slots allowed owner slot list₀ (set list t r)
+  write-more {r} l m b pl =
       record {
         rest = tail-set t r l (wt .rest);
         done = record {
@@ -61,11 +66,12 @@ module _ (t n blocks slots : ℕ) (allowed owner slot list₀ list : List ℕ) (
 
 -- ---- what the parts of the search may assume
 
-pub slots-bound : (n blocks : ℕ) (M : Minima) (settings allowed list : List ℕ) → Asked (Able M n settings) n blocks allowed list → blocks * M .b0 ≤ 14400
-slots-bound n blocks M settings allowed list ask = let a = mul-le-mul-right (M .b0) (ask .few-blocks) in omega (arith, ask .able .small)
+pub slots-bound : {n blocks : ℕ} {M : Minima} {settings allowed list : List ℕ} → Asked (Able M n settings) n blocks allowed list
+    → blocks * M .b0 ≤ tableSize
+slots-bound {M = M} ask = let a = mul-le-mul-right (M .b0) (ask .few-blocks) in omega (arith, ask .able .small)
 
-module _ (n blocks : ℕ) (M : Minima) (settings allowed list owner kind : List ℕ) (ask : Asked (Able M n settings) n blocks allowed list) (fit : blocks * M .b0 ≤ n)
-    (sl : Slots blocks (M .b0) (M .b) owner kind) where
+module _ {n blocks : ℕ} {M : Minima} {settings allowed list owner kind : List ℕ} (ask : Asked (Able M n settings) n blocks allowed list)
+    (fit : blocks * M .b0 ≤ n) (sl : Slots blocks (M .b0) (M .b) owner kind) where
   pub sized : SizedGraph allowed settings owner kind (blocks * M .b0) n
   sized =
       record {
@@ -78,8 +84,9 @@ module _ (n blocks : ℕ) (M : Minima) (settings allowed list owner kind : List 
         high = ask .able .setting-high;
       }
 
-  pub owned : (tide slot : List ℕ) → Matching (Edge allowed settings owner kind) (blocks * M .b0) n tide slot → (t : ℕ) → t < n → Owned allowed owner slot blocks (blocks * M .b0) t
-  owned tide slot v t tl =
+  pub owned : {tide slot : List ℕ} → Matching (Edge allowed settings owner kind) (blocks * M .b0) n tide slot → (t : ℕ) → t < n
+      → Owned allowed owner slot blocks (blocks * M .b0) t
+  owned {slot = slot} v t tl =
       record {
         below = λ h. slot-below blocks (M .b0) (M .b) owner kind sl (at slot t) h;
         may = λ h. let e = v .back t tl h in subst (λ (u : ℕ). T (allows allowed u (at owner (at slot t)))) e (v .edge (at slot t) h (rw e tl) .may);

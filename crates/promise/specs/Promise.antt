@@ -27,7 +27,7 @@ pub record AtLeast (n b : ℕ) (E : Test) : Type 0 where
 
 -- ---- the table of allowed pairs
 
--- tide t may go to block m, by a table in rows of 120: a row for each block, so that a scan of a block runs along memory
+-- tide t may go to block m, by a table in rows of maxTides: a row for each block, so that a scan of a block runs along memory
 unfoldable pub allows : List ℕ → ℕ → ℕ → Bool
 allows allowed t m = not (eqb (cell allowed m t) 0)
 

@@ -1,4 +1,4 @@
--- `write_partial` meets its contract: it writes only places of the first n tides. Assumes nothing.
+-- The places from n on stay, since only places of the tides below t are written; n - t falls. Assumes nothing.
 use native.Mathlib.Omega.{arith}
 use Prim.Native.Nat.{_-_, _≤_}
 use Rattle.lists.proofs.Tables.{tail-same, tail-set}
