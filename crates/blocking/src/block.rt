@@ -1,5 +1,6 @@
 // Block: the core, by plain rows of numbers.
 use crate::computing::compute;
+use crate::tides::check_tides;
 use radius_search::bound::ball_meets;
 use study::Answer;
 use study::Blocked;
@@ -40,14 +41,11 @@ fn block_answer(
 ) -> Answer
     ensures { λ r. ⌜ verdictOf r ≡ blockAnswer (stateOf dataset (now (distances .entry)) (now (settings .entry))) list records ⌝ }
 {
-    let first = dataset::check(dataset, distances, settings);
+    let first = check_tides(dataset, distances, settings);
     let Answer::Done = first else {
         return first;
     };
     let n = dataset.n;
-    if n < 1 {
-        return Answer::Refused(Refusal::NoTides);
-    }
     // every tide is at most 1,048,575 from the first
     if !ball_meets(distances, settings, n, dataset.minima, 0, MAX_DISTANCE) {
         return Answer::Refused(Refusal::TooFewTides);

@@ -1,5 +1,6 @@
 // Centres at a radius.
 use crate::front::fill_front;
+use crate::tides::check_tides;
 use study::Answer;
 use study::Dataset;
 use study::Refusal;
@@ -21,14 +22,11 @@ pub struct Counted {
 pub fn centres_answer(dataset: Dataset, distances: &[u32], settings: &[u8], list: &[u8]) -> Answer
     ensures { λ r. ⌜ verdictOf r ≡ centresAnswer (stateOf dataset (now (distances .entry)) (now (settings .entry))) (now (list .entry)) ⌝ }
 {
-    let first = dataset::check(dataset, distances, settings);
+    let first = check_tides(dataset, distances, settings);
     let Answer::Done = first else {
         return first;
     };
     let n = dataset.n;
-    if n < 1 {
-        return Answer::Refused(Refusal::NoTides);
-    }
     if list.len() < n {
         return Answer::Refused(Refusal::ShortMemory);
     }

@@ -14,6 +14,7 @@ ghost use Rattle.blocking.specs.Answers.{blockReply, blockList};
 ghost use Rattle.blocking.specs.Accepted.{BlockAccepted};
 ghost use Rattle.blocking.specs.Rows.{RowsOf};
 
+// What an accepted Block answers, the rows of its blocks, and its list.
 pub fn compute(
     dataset: Dataset,
     distances: &[u32],
@@ -22,7 +23,8 @@ pub fn compute(
     room: usize,
 ) -> Computed
     requires { ⌜ BlockAccepted (stateOf dataset (now distances) (now settings)) (length (now list)) room ⌝ }
-    ensures { λ r. ⌜ blockedOf (r .answer) ≡ blockReply (stateOf dataset (now (distances .entry)) (now (settings .entry))) (length (now (list .entry))) room ⌝ }
+    ensures { λ r. ⌜ blockedOf (r .answer)
+        ≡ blockReply (stateOf dataset (now (distances .entry)) (now (settings .entry))) (length (now (list .entry))) room ⌝ }
     ensures { λ r. ⌜ RowsOf (stateOf dataset (now (distances .entry)) (now (settings .entry))) (length (now (list .entry))) room (r .rows) ⌝ }
     ensures { λ _. ⌜ now (list .exit) ≡ blockList (stateOf dataset (now (distances .entry)) (now (settings .entry))) (now (list .entry)) room ⌝ }
 {

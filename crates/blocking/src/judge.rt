@@ -1,6 +1,7 @@
 // Judge: whether a list of block numbers made by anyone is feasible.
 use crate::judging::blocks_meet;
 use crate::judging::numbers_valid;
+use crate::tides::check_tides;
 use blocking_core::measure::widest;
 use study::Answer;
 use study::Dataset;
@@ -16,14 +17,11 @@ ghost use Rattle.blocking.specs.Answers.{judgeAnswer, judgeReply};
 fn judge_answer(dataset: Dataset, distances: &[u32], settings: &[u8], list: &[u8]) -> Answer
     ensures { λ r. ⌜ verdictOf r ≡ judgeAnswer (stateOf dataset (now (distances .entry)) (now (settings .entry))) (now (list .entry)) ⌝ }
 {
-    let first = dataset::check(dataset, distances, settings);
+    let first = check_tides(dataset, distances, settings);
     let Answer::Done = first else {
         return first;
     };
     let n = dataset.n;
-    if n < 1 {
-        return Answer::Refused(Refusal::NoTides);
-    }
     if list.len() != n {
         return Answer::Refused(Refusal::ListLength);
     }
