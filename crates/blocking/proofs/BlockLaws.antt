@@ -29,13 +29,12 @@ use Rattle.blocking_core.specs.Core.{Blocks}
 use Rattle.validity.specs.Memory.{State, studyOf, contentsOf}
 use Rattle.validity.proofs.ValidityLaws.{study-size}
 use Rattle.dataset.proofs.AnswerLaws.{held-own, accepted-held, passed-by}
-use Rattle.dataset.specs.Accepted.{Passed}
 use Rattle.blocking.specs.declared.block.BlockRows.{BlockRows}
 use Rattle.blocking.specs.Answers.{blockAnswer, blockReply, blockList, blockRecords}
 use Rattle.blocking.proofs.ProblemOfArrays.{problem-of-arrays, sized-arrays, valid-arrays, meets-same}
 use Rattle.blocking.specs.Rows.{rowAt, RowsOf}
 use Rattle.blocking.proofs.TidesLaws.{past-24}
-use Rattle.blocking.specs.Accepted.{BlockAccepted}
+use Rattle.blocking.specs.Accepted.{TidesChecked, BlockAccepted}
 
 module _ (s : State) (list room : ℕ) where
   abbrev n : ℕ
@@ -51,51 +50,50 @@ module _ (s : State) (list room : ℕ) where
   abbrev whole : Bool
   whole = meeting M n (s .settings) (ball (s .distances) 0 maxDistance)
 
-  module _ (P : Passed s) where
+  module _ {first : Answer} (F : TidesChecked s first) (done : first ≡ Done) where
     block-own : (v : Verdict) → firstOf (blockReasons S list room) ≡ v → v ≡ blockAnswer s list room
     unfolding blockAnswer contentsOf
-    block-own v q = sym q ∙ held-own s (λ H. blockReasons (H .study) list room) (P .not-short) (P .tested)
+    block-own v q = sym q ∙ held-own s (λ H. blockReasons (H .study) list room) (F .passed done .not-short) (F .passed done .tested)
 
-    module _ (l : 1 ≤ n) where
-      whole-is : sufficient S (λ t. true) ≡ whole
-      unfolding arrayProblem problem meeting
-      whole-is =
-          ap (λ (Q : Problem). Q .enough (λ t. true)) (problem-of-arrays s (P .dataset))
-          ∙ meets-same M n (λ t k. refl)
-          (λ t k. sym (le-leb (cell (s .distances) 0 t) maxDistance (P .dataset .distance-high 0 t (omega arith) k)))
+    whole-is : sufficient S (λ t. true) ≡ whole
+    unfolding arrayProblem problem meeting
+    whole-is =
+        ap (λ (Q : Problem). Q .enough (λ t. true)) (problem-of-arrays s (F .passed done .dataset))
+        ∙ meets-same M n (λ t k. refl)
+        (λ t k. sym (le-leb (cell (s .distances) 0 t) maxDistance (F .passed done .dataset .distance-high 0 t (F .some-tide done) k)))
 
-      module _ {r : Bool} (e : r ≡ whole) where
-        pub block-25 : r ≡ false → refused (number 25) ≡ blockAnswer s list room
+    module _ {r : Bool} (e : r ≡ whole) where
+      pub block-25 : r ≡ false → refused (number 25) ≡ blockAnswer s list room
+      unfolding blockReasons firstOf
+      block-25 f = block-own (refused (number 25)) (rw (past-24 F done, whole-is ∙ sym e ∙ f))
+
+      module _ (f : r ≡ true) where
+        pub block-1-list : list < n → refused (number 1) ≡ blockAnswer s list room
         unfolding blockReasons firstOf
-        block-25 f = block-own (refused (number 25)) (rw (past-24 s l, whole-is ∙ sym e ∙ f))
+        block-1-list h =
+            block-own (refused (number 1)) (rw (past-24 F done, whole-is ∙ sym e ∙ f, lt-leb (size S) list (omega (arith, study-size s))))
 
-        module _ (f : r ≡ true) where
-          pub block-1-list : list < n → refused (number 1) ≡ blockAnswer s list room
-          unfolding blockReasons firstOf
-          block-1-list h =
-              block-own (refused (number 1)) (rw (past-24 s l, whole-is ∙ sym e ∙ f, lt-leb (size S) list (omega (arith, study-size s))))
+        pub block-1-records : n ≤ list → room < n → refused (number 1) ≡ blockAnswer s list room
+        unfolding blockReasons firstOf
+        block-1-records h k =
+            block-own (refused (number 1))
+            (rw (
+              past-24 F done,
+              whole-is ∙ sym e ∙ f,
+              le-leb (size S) list (omega (arith, study-size s)),
+              lt-leb (size S) room (omega (arith, study-size s)),
+            ))
 
-          pub block-1-records : n ≤ list → room < n → refused (number 1) ≡ blockAnswer s list room
-          unfolding blockReasons firstOf
-          block-1-records h k =
-              block-own (refused (number 1))
-              (rw (
-                past-24 s l,
-                whole-is ∙ sym e ∙ f,
-                le-leb (size S) list (omega (arith, study-size s)),
-                lt-leb (size S) room (omega (arith, study-size s)),
-              ))
-
-          pub block-done : n ≤ list → n ≤ room → accepted ≡ blockAnswer s list room
-          unfolding blockReasons firstOf
-          block-done h k =
-              block-own accepted
-              (rw (
-                past-24 s l,
-                whole-is ∙ sym e ∙ f,
-                le-leb (size S) list (omega (arith, study-size s)),
-                le-leb (size S) room (omega (arith, study-size s)),
-              ))
+        pub block-done : n ≤ list → n ≤ room → accepted ≡ blockAnswer s list room
+        unfolding blockReasons firstOf
+        block-done h k =
+            block-own accepted
+            (rw (
+              past-24 F done,
+              whole-is ∙ sym e ∙ f,
+              le-leb (size S) list (omega (arith, study-size s)),
+              le-leb (size S) room (omega (arith, study-size s)),
+            ))
 
   pub block-accepted : {a : Answer} → a ≡ Done → verdictOf a ≡ blockAnswer s list room → BlockAccepted s list room
   unfolding blockAnswer contentsOf blockReasons

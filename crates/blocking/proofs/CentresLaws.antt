@@ -25,11 +25,10 @@ use Rattle.radius_search.proofs.FrontLaws.{front-at}
 use Rattle.validity.specs.Memory.{State, studyOf, contentsOf}
 use Rattle.validity.proofs.ValidityLaws.{study-size}
 use Rattle.dataset.proofs.AnswerLaws.{held-own, accepted-held, passed-by}
-use Rattle.dataset.specs.Accepted.{Passed}
 use Rattle.blocking.specs.Answers.{centresAnswer, centresFront, centresLeaves}
 use Rattle.blocking.proofs.ProblemOfArrays.{problem-of-arrays}
 use Rattle.blocking.proofs.TidesLaws.{past-24}
-use Rattle.blocking.specs.Accepted.{CentresAccepted}
+use Rattle.blocking.specs.Accepted.{TidesChecked, CentresAccepted}
 
 module _ (s : State) (list : List ℕ) where
   abbrev n : ℕ
@@ -38,19 +37,18 @@ module _ (s : State) (list : List ℕ) where
   abbrev S : Study
   S = studyOf s
 
-  module _ (P : Passed s) where
+  module _ {first : Answer} (F : TidesChecked s first) (done : first ≡ Done) where
     centres-own : (v : Verdict) → firstOf (centresReasons S (length list)) ≡ v → v ≡ centresAnswer s list
     unfolding centresAnswer contentsOf
-    centres-own v q = sym q ∙ held-own s (λ H. centresReasons (H .study) (length list)) (P .not-short) (P .tested)
+    centres-own v q = sym q ∙ held-own s (λ H. centresReasons (H .study) (length list)) (F .passed done .not-short) (F .passed done .tested)
 
-    module _ (l : 1 ≤ n) where
-      pub centres-1 : length list < n → refused (number 1) ≡ centresAnswer s list
-      unfolding centresReasons firstOf
-      centres-1 h = centres-own (refused (number 1)) (rw (past-24 s l, lt-leb (size S) (length list) (omega (arith, study-size s))))
+    pub centres-1 : length list < n → refused (number 1) ≡ centresAnswer s list
+    unfolding centresReasons firstOf
+    centres-1 h = centres-own (refused (number 1)) (rw (past-24 F done, lt-leb (size S) (length list) (omega (arith, study-size s))))
 
-      pub centres-done : n ≤ length list → accepted ≡ centresAnswer s list
-      unfolding centresReasons firstOf
-      centres-done h = centres-own accepted (rw (past-24 s l, le-leb (size S) (length list) (omega (arith, study-size s))))
+    pub centres-done : n ≤ length list → accepted ≡ centresAnswer s list
+    unfolding centresReasons firstOf
+    centres-done h = centres-own accepted (rw (past-24 F done, le-leb (size S) (length list) (omega (arith, study-size s))))
 
   pub centres-accepted : {a : Answer} → a ≡ Done → verdictOf a ≡ centresAnswer s list → CentresAccepted s list
   unfolding centresAnswer contentsOf centresReasons

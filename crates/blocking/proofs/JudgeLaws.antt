@@ -29,7 +29,7 @@ use Rattle.blocking.proofs.ProblemOfArrays.{problem-of-arrays, sized-ar
 use Rattle.blocking_core.specs.Measured.{widestOf}
 use Rattle.blocking_core.proofs.MeasuredLaws.{widest-diameter}
 use Rattle.blocking.proofs.TidesLaws.{past-24}
-use Rattle.blocking.specs.Accepted.{JudgedArrays}
+use Rattle.blocking.specs.Accepted.{TidesChecked, JudgedArrays}
 
 module _ (s : State) (list : List ℕ) where
   abbrev n : ℕ
@@ -38,19 +38,18 @@ module _ (s : State) (list : List ℕ) where
   abbrev S : Study
   S = studyOf s
 
-  module _ (P : Passed s) where
+  module _ {first : Answer} (F : TidesChecked s first) (done : first ≡ Done) where
     judge-own : (v : Verdict) → firstOf (judgeReasons S list) ≡ v → v ≡ judgeAnswer s list
     unfolding judgeAnswer contentsOf
-    judge-own v q = sym q ∙ held-own s (λ H. judgeReasons (H .study) list) (P .not-short) (P .tested)
+    judge-own v q = sym q ∙ held-own s (λ H. judgeReasons (H .study) list) (F .passed done .not-short) (F .passed done .tested)
 
-    module _ (l : 1 ≤ n) where
-      pub judge-12 : (length list ≡ n → ⊥) → refused (number 12) ≡ judgeAnswer s list
-      unfolding judgeReasons firstOf
-      judge-12 h = judge-own (refused (number 12)) (rw (past-24 s l, ne-eqb (length list) (size S) (λ e. h (e ∙ study-size s))))
+    pub judge-12 : (length list ≡ n → ⊥) → refused (number 12) ≡ judgeAnswer s list
+    unfolding judgeReasons firstOf
+    judge-12 h = judge-own (refused (number 12)) (rw (past-24 F done, ne-eqb (length list) (size S) (λ e. h (e ∙ study-size s))))
 
-      pub judge-done : length list ≡ n → accepted ≡ judgeAnswer s list
-      unfolding judgeReasons firstOf
-      judge-done h = judge-own accepted (rw (past-24 s l, eq-eqb (length list) (size S) (h ∙ sym (study-size s))))
+    pub judge-done : length list ≡ n → accepted ≡ judgeAnswer s list
+    unfolding judgeReasons firstOf
+    judge-done h = judge-own accepted (rw (past-24 F done, eq-eqb (length list) (size S) (h ∙ sym (study-size s))))
 
   -- what an accepted call tells
   pub record JudgeAccepted : Type 0 where

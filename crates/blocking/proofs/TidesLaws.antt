@@ -24,8 +24,8 @@ not-both : {A : Type 0} {a : Answer} {x : Refusal} → a ≡ Refused x → a ≡
 not-both e f = let z : _≡_ {A = ℕ} 0 1 = cc in absurd (omega arith)
 
 -- the test of the first reason fails where there is a tide
-pub past-24 : (s : State) → 1 ≤ s .dataset .n → eqb (size (studyOf s)) 0 ≡ false
-past-24 s l = ne-eqb (size (studyOf s)) 0 (λ e. omega (arith, study-size s))
+pub past-24 : {s : State} {first : Answer} → TidesChecked s first → first ≡ Done → eqb (size (studyOf s)) 0 ≡ false
+past-24 {s} F done = let l = F .some-tide done in ne-eqb (size (studyOf s)) 0 (λ e. omega (arith, study-size s))
 
 module _ {s : State} where
   pub tides-refused : {a : Answer} {x : Refusal} → a ≡ Refused x → verdictOf a ≡ heldAnswer s (λ _. []) → TidesChecked s a

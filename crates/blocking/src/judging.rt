@@ -54,8 +54,7 @@ fn count_block(settings: &[u8], n: usize, list: &[u8], number: u8, counts: &mut 
     let mut t = 0;
     while t < n {
         let one = same(list[t], number);
-        tally_one(settings, t, one, counts);
-        found = found + one;
+        found = tally_one(settings, t, one, found, counts);
         t += 1;
     }
     found

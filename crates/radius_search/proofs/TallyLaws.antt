@@ -90,18 +90,20 @@ module _ {s : List ℕ} {p : ℕ → Bool} where
 
 -- where tides are few and have one of the settings, the next can be counted
 pub tally-room : {s : List ℕ} {p : ℕ → Bool} {t one found : ℕ} {counts : List ℕ} → t < length s → getD s t 0 ≤ 8 → t ≤ maxTides → one ≤ 1
-    → Tallied s p t found counts → TallyRoom s t one counts
+    → Tallied s p t found counts → TallyRoom s t one found counts
 tally-room l h k o A =
     record {
       inside = l;
       setting-high = h;
       long = tallied-long A;
       small = λ j q. omega (arith, tallied-small A j q);
+      few = omega (arith, tallied-few A);
       once = o;
     }
 
-pub tally-step : {s counts : List ℕ} {t one : ℕ} (r : ℕ) → r ≡ getD s t 0 → getD s t 0 ≤ 8 → TallyStep s t one counts (set counts r (getD counts r 0 + one))
-tally-step {one = one} r e h = record { more = λ p found A q. tallied-more one r A q e (omega arith) }
+pub tally-step : {s counts : List ℕ} {t one found : ℕ} (r : ℕ) → r ≡ getD s t 0 → getD s t 0 ≤ 8
+    → TallyStep s t one found counts (found + one) (set counts r (getD counts r 0 + one))
+tally-step {one = one} r e h = record { more = λ p A q. tallied-more one r A q e (omega arith) }
 
 -- ---- the minima, from the counts
 

@@ -18,17 +18,18 @@ pub record Tallied (s : List ℕ) (p : ℕ → Bool) (t found : ℕ) (counts : L
   pub found-is : found ≡ countBelow t p
   pub counts-are : counts ≡ tally s p t
 
--- tide t can be counted, once or not at all: it has one of the settings, and there is room for one more in each count
-pub record TallyRoom (s : List ℕ) (t one : ℕ) (counts : List ℕ) : Type 0 where
+-- tide t can be counted, once or not at all: it has one of the settings, and no count is near its type's greatest number
+pub record TallyRoom (s : List ℕ) (t one found : ℕ) (counts : List ℕ) : Type 0 where
   pub inside : t < length s
   pub setting-high : getD s t 0 ≤ 8
   pub long : length counts ≡ 9
   pub small : (j : ℕ) → j < 9 → getD counts j 0 ≤ maxTides
+  pub few : found ≤ maxTides
   pub once : one ≤ 1
 
 -- the counts with tide t, for any test of tides that says whether it is counted
-pub record TallyStep (s : List ℕ) (t one : ℕ) (counts counts′ : List ℕ) : Type 0 where
-  pub more : (p : ℕ → Bool) (found : ℕ) → Tallied s p t found counts → one ≡ bit (p t) → Tallied s p (t + 1) (found + one) counts′
+pub record TallyStep (s : List ℕ) (t one found : ℕ) (counts : List ℕ) (found′ : ℕ) (counts′ : List ℕ) : Type 0 where
+  pub more : (p : ℕ → Bool) → Tallied s p t found counts → one ≡ bit (p t) → Tallied s p (t + 1) found′ counts′
 
 -- the count of setting j, from 0, meets its minimum
 abbrev pub enough : List ℕ → List ℕ → ℕ → Bool

@@ -44,8 +44,7 @@ fn count_ball(
     let mut t = 0;
     while t < n {
         let one = within_radius(distances[c * MAX_TIDES + t], g);
-        tally_one(settings, t, one, counts);
-        found = found + one;
+        found = tally_one(settings, t, one, found, counts);
         t += 1;
     }
     found

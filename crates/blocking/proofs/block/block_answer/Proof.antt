@@ -24,7 +24,7 @@ returns-2 c =
     let at-ball = c .before in
     let first = at-ball .before .before .before .check-tides .ensures in
     let done = at-ball .before .enum-told .given .1 in
-    block-25 _ _ _ (first .passed done) (first .some-tide done) (at-ball .ball-meets .ensures) (not-true _ (c .if1 .taken))
+    block-25 _ _ _ first done (at-ball .ball-meets .ensures) (not-true _ (c .if1 .taken))
 
 returns-3 : tie.Need-returns-3
 returns-3 c =
@@ -32,7 +32,7 @@ returns-3 c =
     let first = at-ball .before .before .before .check-tides .ensures in
     let done = at-ball .before .enum-told .given .1 in
     let meets = not-false _ (c .before .if1 .left) in
-    block-1-list _ _ _ (first .passed done) (first .some-tide done) (at-ball .ball-meets .ensures) meets (c .if2 .taken)
+    block-1-list _ _ _ first done (at-ball .ball-meets .ensures) meets (c .if2 .taken)
 
 returns-4 : tie.Need-returns-4
 returns-4 c =
@@ -40,7 +40,7 @@ returns-4 c =
     let first = at-ball .before .before .before .check-tides .ensures in
     let done = at-ball .before .enum-told .given .1 in
     let meets = not-false _ (c .before .before .if1 .left) in
-    block-1-records _ _ _ (first .passed done) (first .some-tide done) (at-ball .ball-meets .ensures) meets (c .before .if2 .left) (c .if3 .taken)
+    block-1-records _ _ _ first done (at-ball .ball-meets .ensures) meets (c .before .if2 .left) (c .if3 .taken)
 
 returns-5 : tie.Need-returns-5
 returns-5 c =
@@ -48,7 +48,7 @@ returns-5 c =
     let first = at-ball .before .before .before .check-tides .ensures in
     let done = at-ball .before .enum-told .given .1 in
     let meets = not-false _ (c .before .before .if1 .left) in
-    block-done _ _ _ (first .passed done) (first .some-tide done) (at-ball .ball-meets .ensures) meets (c .before .if2 .left) (c .if3 .left)
+    block-done _ _ _ first done (at-ball .ball-meets .ensures) meets (c .before .if2 .left) (c .if3 .left)
 
 pub block-answer-spec : {M : Type 1} → statement M
 block-answer-spec =

@@ -11,16 +11,10 @@ unfolding centresAnswer centresReasons
 returns c = c .before .before .check-tides .ensures .refuses _ (c .enum-told2 .given .1) _
 
 returns-2 : tie.Need-returns-2
-returns-2 c =
-    let first = c .before .before .before .check-tides .ensures in
-    let done = c .before .enum-told .given .1 in
-    centres-1 _ _ (first .passed done) (first .some-tide done) (c .if1 .taken)
+returns-2 c = centres-1 _ _ (c .before .before .before .check-tides .ensures) (c .before .enum-told .given .1) (c .if1 .taken)
 
 returns-3 : tie.Need-returns-3
-returns-3 c =
-    let first = c .before .before .before .check-tides .ensures in
-    let done = c .before .enum-told .given .1 in
-    centres-done _ _ (first .passed done) (first .some-tide done) (c .if1 .left)
+returns-3 c = centres-done _ _ (c .before .before .before .check-tides .ensures) (c .before .enum-told .given .1) (c .if1 .left)
 
 pub centres-answer-spec : {M : Type 1} → statement M
 centres-answer-spec =

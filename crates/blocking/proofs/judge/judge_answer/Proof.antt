@@ -11,16 +11,10 @@ unfolding judgeAnswer judgeReasons
 returns c = c .before .before .check-tides .ensures .refuses _ (c .enum-told2 .given .1) _
 
 returns-2 : tie.Need-returns-2
-returns-2 c =
-    let first = c .before .before .before .check-tides .ensures in
-    let done = c .before .enum-told .given .1 in
-    judge-12 _ _ (first .passed done) (first .some-tide done) (c .if1 .taken)
+returns-2 c = judge-12 _ _ (c .before .before .before .check-tides .ensures) (c .before .enum-told .given .1) (c .if1 .taken)
 
 returns-3 : tie.Need-returns-3
-returns-3 c =
-    let first = c .before .before .before .check-tides .ensures in
-    let done = c .before .enum-told .given .1 in
-    judge-done _ _ (first .passed done) (first .some-tide done) (c .if1 .left)
+returns-3 c = judge-done _ _ (c .before .before .before .check-tides .ensures) (c .before .enum-told .given .1) (c .if1 .left)
 
 pub judge-answer-spec : {M : Type 1} → statement M
 judge-answer-spec =

@@ -5,7 +5,7 @@ use Prim.Native.Nat.{_≤_, _-_}
 use mathlib.Core.Path.{_≡_}
 use Rattle.radius_theory.specs.Arrays.{ball}
 use Rattle.radius_search.specs.Tally.{Tallied}
-use Rattle.radius_search.proofs.TallyLaws.{tallied-none, tallied-done, tallied-few, tally-room}
+use Rattle.radius_search.proofs.TallyLaws.{tallied-none, tallied-done, tally-room}
 use Rattle.radius_search.proofs.bound.count_ball.Statement.{statement}
 use Rattle.radius_search.proofs.bound.count_ball.Tie as tie
 
@@ -42,20 +42,13 @@ tally-one-requires c κs =
     let l = c .before .before .before .loop-test .taken in
     tally-room (omega arith) (z .able .setting-high _ l) (omega arith) (c .before .within-radius .ensures .1) (c .before .before .before .before .loop .inv .1)
 
-add-found : tie.Need-add-found Inv-loop μ-loop
-add-found c =
-    let few = c .before .before .before .before .before .before .before .before .pre .0 .few in
-    let q = tallied-few (c .before .before .before .before .before .loop .inv .1) in
-    let once = c .before .before .within-radius .ensures .1 in
-    omega arith
-
 add-t : tie.Need-add-t Inv-loop μ-loop
 add-t c = let few = c .before .before .before .before .before .before .before .before .pre .0 .few in omega arith
 
 loop-again : tie.Need-loop-again Inv-loop μ-loop
 loop-again c =
-    let turn = c .before .before .before .before .before .loop in
-    (omega arith, c .tally-one .ensures .more _ (turn .found) (turn .inv .1) (c .before .before .within-radius .ensures .0))
+    let i = c .before .before .before .before .before .loop .inv in
+    (omega arith, c .tally-one .ensures .more _ (i .1) (c .before .before .within-radius .ensures .0))
 
 returns : tie.Need-returns Inv-loop μ-loop
 returns c = let e : c .before .loop .t ≡ c .before .before .before .before .args .n = omega arith in tallied-done e (c .before .loop .inv .1)
@@ -73,7 +66,6 @@ count-ball-spec =
     shared-slice-read-within-radius
     (λ c κs. search needs)
     tally-one-requires
-    add-found
     add-t
     (λ c. omega arith)
     loop-again

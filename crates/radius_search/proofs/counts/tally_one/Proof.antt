@@ -1,4 +1,5 @@
--- One store: the count of the tide's setting grows by one or by nothing, as the test of the tide says. Assumes nothing.
+-- One store and one sum: the count of the tide's setting and that of all found grow by one or by nothing, as the test of the tide says.
+-- Assumes nothing.
 use borrow.Author.Needs.{needs}
 use native.Mathlib.Omega.{arith}
 use Rattle.radius_search.proofs.TallyLaws.{tally-step}
@@ -26,6 +27,7 @@ tally-one-spec =
     (λ c. search needs)
     (λ c. search needs)
     add-counts
+    (λ c. search needs)
     (λ c. search needs)
     (λ c. search needs)
     returns)
