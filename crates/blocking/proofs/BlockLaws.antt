@@ -6,13 +6,13 @@ use mathlib.Core.Path.{_≡_, refl, sym, ap, ap₂, _∙_, subst}
 use mathlib.Core.Logic.{⊎-elim}
 use mathlib.Core.Bool.{Bool, true, false, not, _&&_}
 use mathlib.Core.List.{List, _++_}
-use lib.Dec.{T, leb, eqb, leb→le}
+use lib.Dec.{T, leb, leb→le}
 use lib.ListN.{length, getD, drop}
-use borrow.Author.Tests.{le-leb, lt-leb, eq-eqb, ne-eqb}
+use borrow.Author.Tests.{le-leb, lt-leb, eq-eqb}
 use Rattle.lists.specs.Lists.{countBelow, overwrite}
 use Rattle.lists.proofs.Tests.{not-not, T-left, T-right, split}
 use Rattle.lists.proofs.Tables.{overwrite-none, overwrite-ext, getD-overwrite}
-use Rattle.study.specs.Limits.{cell}
+use Rattle.study.specs.Limits.{cell, maxDistance}
 use Rattle.study.specs.declared.Minima.{Minima}
 use Rattle.study.specs.declared.Refusal.{Refusal}
 use Rattle.study.specs.declared.Answer.{Answer}
@@ -24,16 +24,17 @@ use Rattle.study.specs.Calls.{blockReasons, Figures, figures, blockRecord}
 use Rattle.study.proofs.CallLaws.{none-holds}
 use Rattle.promise.specs.Promise.{meeting, Able}
 use Rattle.radius_theory.specs.Arrays.{arrayProblem, ball, SizedArrays, ValidArrays}
+use Rattle.radius_search.specs.Inputs.{posed}
 use Rattle.blocking_core.specs.Core.{Blocks}
 use Rattle.validity.specs.Memory.{State, studyOf, contentsOf}
 use Rattle.validity.proofs.ValidityLaws.{study-size}
 use Rattle.dataset.proofs.AnswerLaws.{held-own, accepted-held, passed-by}
-use Rattle.dataset.specs.Accepted.{Passed}
 use Rattle.blocking.specs.declared.block.BlockRows.{BlockRows}
 use Rattle.blocking.specs.Answers.{blockAnswer, blockReply, blockList, blockRecords}
 use Rattle.blocking.proofs.ProblemOfArrays.{problem-of-arrays, sized-arrays, valid-arrays, meets-same}
 use Rattle.blocking.specs.Rows.{rowAt, RowsOf}
-use Rattle.blocking.specs.Accepted.{BlockAccepted}
+use Rattle.blocking.proofs.TidesLaws.{past-24}
+use Rattle.blocking.specs.Accepted.{TidesChecked, BlockAccepted}
 
 module _ (s : State) (list room : ℕ) where
   abbrev n : ℕ
@@ -47,49 +48,52 @@ module _ (s : State) (list room : ℕ) where
 
   -- the ball that the code counts holds every tide
   abbrev whole : Bool
-  whole = meeting M n (s .settings) (ball (s .distances) 0 1048575)
+  whole = meeting M n (s .settings) (ball (s .distances) 0 maxDistance)
 
-  module _ (P : Passed s) where
+  module _ {first : Answer} (F : TidesChecked s first) (done : first ≡ Done) where
     block-own : (v : Verdict) → firstOf (blockReasons S list room) ≡ v → v ≡ blockAnswer s list room
     unfolding blockAnswer contentsOf
-    block-own v q = sym q ∙ held-own s (λ H. blockReasons (H .study) list room) (P .not-short) (P .tested)
+    block-own v q = sym q ∙ held-own s (λ H. blockReasons (H .study) list room) (F .passed done .not-short) (F .passed done .tested)
 
-    pub block-24 : n < 1 → refused (number 24) ≡ blockAnswer s list room
-    unfolding blockReasons firstOf
-    block-24 l = block-own (refused (number 24)) (rw (eq-eqb (size S) 0 (omega (arith, study-size s))))
+    whole-is : sufficient S (λ t. true) ≡ whole
+    unfolding arrayProblem problem meeting
+    whole-is =
+        ap (λ (Q : Problem). Q .enough (λ t. true)) (problem-of-arrays s (F .passed done .study))
+        ∙ meets-same M n (λ t k. refl)
+        (λ t k. sym (le-leb (cell (s .distances) 0 t) maxDistance (F .passed done .study .distance-high 0 t (F .some-tide done) k)))
 
-    module _ (l : 1 ≤ n) where
-      past-24 : eqb (size S) 0 ≡ false
-      past-24 = ne-eqb (size S) 0 (λ e. omega (arith, study-size s))
+    module _ {r : Bool} (e : r ≡ whole) where
+      pub block-25 : r ≡ false → refused (number 25) ≡ blockAnswer s list room
+      unfolding blockReasons firstOf
+      block-25 f = block-own (refused (number 25)) (rw (past-24 F done, whole-is ∙ sym e ∙ f))
 
-      whole-is : sufficient S (λ t. true) ≡ whole
-      unfolding arrayProblem problem meeting
-      whole-is =
-          ap (λ (Q : Problem). Q .enough (λ t. true)) (problem-of-arrays s (P .study))
-          ∙ meets-same M n (λ t k. refl) (λ t k. sym (le-leb (cell (s .distances) 0 t) 1048575 (P .study .distance-high 0 t (omega arith) k)))
-
-      module _ {r : Bool} (e : r ≡ whole) where
-        pub block-25 : r ≡ false → refused (number 25) ≡ blockAnswer s list room
+      module _ (f : r ≡ true) where
+        pub block-1-list : list < n → refused (number 1) ≡ blockAnswer s list room
         unfolding blockReasons firstOf
-        block-25 f = block-own (refused (number 25)) (rw (past-24, whole-is ∙ sym e ∙ f))
+        block-1-list h =
+            block-own (refused (number 1)) (rw (past-24 F done, whole-is ∙ sym e ∙ f, lt-leb (size S) list (omega (arith, study-size s))))
 
-        module _ (f : r ≡ true) where
-          pub block-1-list : list < n → refused (number 1) ≡ blockAnswer s list room
-          unfolding blockReasons firstOf
-          block-1-list h =
-              block-own (refused (number 1)) (rw (past-24, whole-is ∙ sym e ∙ f, lt-leb (size S) list (omega (arith, study-size s))))
+        pub block-1-records : n ≤ list → room < n → refused (number 1) ≡ blockAnswer s list room
+        unfolding blockReasons firstOf
+        block-1-records h k =
+            block-own (refused (number 1))
+            (rw (
+              past-24 F done,
+              whole-is ∙ sym e ∙ f,
+              le-leb (size S) list (omega (arith, study-size s)),
+              lt-leb (size S) room (omega (arith, study-size s)),
+            ))
 
-          pub block-1-records : n ≤ list → room < n → refused (number 1) ≡ blockAnswer s list room
-          unfolding blockReasons firstOf
-          block-1-records h k =
-              block-own (refused (number 1))
-              (rw (past-24, whole-is ∙ sym e ∙ f, le-leb (size S) list (omega (arith, study-size s)), lt-leb (size S) room (omega (arith, study-size s))))
-
-          pub block-done : n ≤ list → n ≤ room → accepted ≡ blockAnswer s list room
-          unfolding blockReasons firstOf
-          block-done h k =
-              block-own accepted
-              (rw (past-24, whole-is ∙ sym e ∙ f, le-leb (size S) list (omega (arith, study-size s)), le-leb (size S) room (omega (arith, study-size s))))
+        pub block-done : n ≤ list → n ≤ room → accepted ≡ blockAnswer s list room
+        unfolding blockReasons firstOf
+        block-done h k =
+            block-own accepted
+            (rw (
+              past-24 F done,
+              whole-is ∙ sym e ∙ f,
+              le-leb (size S) list (omega (arith, study-size s)),
+              le-leb (size S) room (omega (arith, study-size s)),
+            ))
 
   pub block-accepted : {a : Answer} → a ≡ Done → verdictOf a ≡ blockAnswer s list room → BlockAccepted s list room
   unfolding blockAnswer contentsOf blockReasons
@@ -100,7 +104,8 @@ module _ (s : State) (list room : ℕ) where
       let fits = not-not (leb (size S) list && leb (size S) room) (w .1 .1 .0) in
       record {
         passed = passed-by s (h .not-short) (h .tested);
-        some-tide = ⊎-elim (λ k. k) (λ k. absurd (subst (λ b. T (not b)) (eq-eqb (size S) 0 (omega (arith, study-size s))) (w .0))) (split 0 n);
+        some-tide = ⊎-elim (λ k. k) (λ k. absurd (subst (λ b. T (not b)) (eq-eqb (size S) 0 (omega (arith, study-size s))) (w .0)))
+            (split 0 n);
         enough = not-not (sufficient S (λ t. true)) (w .1 .0);
         list-room = omega (arith, study-size s, leb→le (size S) list (T-left (leb (size S) list) (leb (size S) room) fits));
         record-room = omega (arith, study-size s, leb→le (size S) room (T-right (leb (size S) list) (leb (size S) room) fits));
@@ -189,12 +194,13 @@ module _ (s : State) (list room : ℕ) where
               few = omega (arith, B .few, A .passed .study .few);
               records = λ l k.
                   overwrite-ext (rowAt rows) l c (blockRecord S) row-is
-                  ∙ ap₂ (λ z v. settled v (overwrite z (blockRecord S) l) l) (ap (λ (F : Figures). F .blocks) figures-are) (A .answer ∙ ap (blockAnswer s list) (sym k));
+                  ∙ ap₂ (λ z v. settled v (overwrite z (blockRecord S) l) l) (ap (λ (F : Figures). F .blocks) figures-are)
+                  (A .answer ∙ ap (blockAnswer s list) (sym k));
             }
 
 -- the list
 pub block-list : (s : State) (old : List ℕ) (room : ℕ) {new : List ℕ} → BlockAccepted s (length old) room
-    → new ≡ blocking (arrayProblem (s .distances) (s .dataset .n) (meeting (s .dataset .minima) (s .dataset .n) (s .settings))) ++ drop (s .dataset .n) old → new ≡ blockList s old room
+    → new ≡ blocking (posed (s .distances) (s .settings) (s .dataset .n) (s .dataset .minima)) ++ drop (s .dataset .n) old → new ≡ blockList s old room
 unfolding blockList
 block-list s old room A e =
     e

@@ -3,12 +3,11 @@ use Prim.Native.Nat.{ℕ, suc, _+_, _≤_, _<_}
 use native.Mathlib.Omega.{arith}
 use native.Mathlib.Numerals.{add-one}
 use mathlib.Core.Path.{_≡_, sym, ap, ap₂, _∙_}
-use mathlib.Core.Bool.{false}
 use mathlib.Core.List.{List, [], _++_, map}
-use lib.Dec.{leb→le, leb, eqb}
+use lib.Dec.{leb→le, leb}
 use lib.ListN.{length, getD, take, drop, length-map, List·getD-map}
 use lib.Seq.{take-append-seam}
-use borrow.Author.Tests.{le-leb, lt-leb, eq-eqb, ne-eqb}
+use borrow.Author.Tests.{le-leb, lt-leb}
 use Rattle.lists.specs.Lists.{tabulate, overwrite}
 use Rattle.lists.proofs.Tests.{not-not}
 use Rattle.lists.proofs.Tables.{tabulate-is}
@@ -26,10 +25,10 @@ use Rattle.radius_search.proofs.FrontLaws.{front-at}
 use Rattle.validity.specs.Memory.{State, studyOf, contentsOf}
 use Rattle.validity.proofs.ValidityLaws.{study-size}
 use Rattle.dataset.proofs.AnswerLaws.{held-own, accepted-held, passed-by}
-use Rattle.dataset.specs.Accepted.{Passed}
 use Rattle.blocking.specs.Answers.{centresAnswer, centresFront, centresLeaves}
 use Rattle.blocking.proofs.ProblemOfArrays.{problem-of-arrays}
-use Rattle.blocking.specs.Accepted.{CentresAccepted}
+use Rattle.blocking.proofs.TidesLaws.{past-24}
+use Rattle.blocking.specs.Accepted.{TidesChecked, CentresAccepted}
 
 module _ (s : State) (list : List ℕ) where
   abbrev n : ℕ
@@ -38,26 +37,18 @@ module _ (s : State) (list : List ℕ) where
   abbrev S : Study
   S = studyOf s
 
-  module _ (P : Passed s) where
+  module _ {first : Answer} (F : TidesChecked s first) (done : first ≡ Done) where
     centres-own : (v : Verdict) → firstOf (centresReasons S (length list)) ≡ v → v ≡ centresAnswer s list
     unfolding centresAnswer contentsOf
-    centres-own v q = sym q ∙ held-own s (λ H. centresReasons (H .study) (length list)) (P .not-short) (P .tested)
+    centres-own v q = sym q ∙ held-own s (λ H. centresReasons (H .study) (length list)) (F .passed done .not-short) (F .passed done .tested)
 
-    pub centres-24 : n < 1 → refused (number 24) ≡ centresAnswer s list
+    pub centres-1 : length list < n → refused (number 1) ≡ centresAnswer s list
     unfolding centresReasons firstOf
-    centres-24 l = centres-own (refused (number 24)) (rw (eq-eqb (size S) 0 (omega (arith, study-size s))))
+    centres-1 h = centres-own (refused (number 1)) (rw (past-24 F done, lt-leb (size S) (length list) (omega (arith, study-size s))))
 
-    module _ (l : 1 ≤ n) where
-      past-24 : eqb (size S) 0 ≡ false
-      past-24 = ne-eqb (size S) 0 (λ e. omega (arith, study-size s))
-
-      pub centres-1 : length list < n → refused (number 1) ≡ centresAnswer s list
-      unfolding centresReasons firstOf
-      centres-1 h = centres-own (refused (number 1)) (rw (past-24, lt-leb (size S) (length list) (omega (arith, study-size s))))
-
-      pub centres-done : n ≤ length list → accepted ≡ centresAnswer s list
-      unfolding centresReasons firstOf
-      centres-done h = centres-own accepted (rw (past-24, le-leb (size S) (length list) (omega (arith, study-size s))))
+    pub centres-done : n ≤ length list → accepted ≡ centresAnswer s list
+    unfolding centresReasons firstOf
+    centres-done h = centres-own accepted (rw (past-24 F done, le-leb (size S) (length list) (omega (arith, study-size s))))
 
   pub centres-accepted : {a : Answer} → a ≡ Done → verdictOf a ≡ centresAnswer s list → CentresAccepted s list
   unfolding centresAnswer contentsOf centresReasons

@@ -28,7 +28,8 @@ use Rattle.blocking.specs.Answers.{judgeAnswer, judgeReply}
 use Rattle.blocking.proofs.ProblemOfArrays.{problem-of-arrays, sized-arrays}
 use Rattle.blocking_core.specs.Measured.{widestOf}
 use Rattle.blocking_core.proofs.MeasuredLaws.{widest-diameter}
-use Rattle.blocking.specs.Accepted.{JudgedArrays}
+use Rattle.blocking.proofs.TidesLaws.{past-24}
+use Rattle.blocking.specs.Accepted.{TidesChecked, JudgedArrays}
 
 module _ (s : State) (list : List ℕ) where
   abbrev n : ℕ
@@ -37,26 +38,18 @@ module _ (s : State) (list : List ℕ) where
   abbrev S : Study
   S = studyOf s
 
-  module _ (P : Passed s) where
+  module _ {first : Answer} (F : TidesChecked s first) (done : first ≡ Done) where
     judge-own : (v : Verdict) → firstOf (judgeReasons S list) ≡ v → v ≡ judgeAnswer s list
     unfolding judgeAnswer contentsOf
-    judge-own v q = sym q ∙ held-own s (λ H. judgeReasons (H .study) list) (P .not-short) (P .tested)
+    judge-own v q = sym q ∙ held-own s (λ H. judgeReasons (H .study) list) (F .passed done .not-short) (F .passed done .tested)
 
-    pub judge-24 : n < 1 → refused (number 24) ≡ judgeAnswer s list
+    pub judge-12 : (length list ≡ n → ⊥) → refused (number 12) ≡ judgeAnswer s list
     unfolding judgeReasons firstOf
-    judge-24 l = judge-own (refused (number 24)) (rw (eq-eqb (size S) 0 (omega (arith, study-size s))))
+    judge-12 h = judge-own (refused (number 12)) (rw (past-24 F done, ne-eqb (length list) (size S) (λ e. h (e ∙ study-size s))))
 
-    module _ (l : 1 ≤ n) where
-      past-24 : eqb (size S) 0 ≡ false
-      past-24 = ne-eqb (size S) 0 (λ e. omega (arith, study-size s))
-
-      pub judge-12 : (length list ≡ n → ⊥) → refused (number 12) ≡ judgeAnswer s list
-      unfolding judgeReasons firstOf
-      judge-12 h = judge-own (refused (number 12)) (rw (past-24, ne-eqb (length list) (size S) (λ e. h (e ∙ study-size s))))
-
-      pub judge-done : length list ≡ n → accepted ≡ judgeAnswer s list
-      unfolding judgeReasons firstOf
-      judge-done h = judge-own accepted (rw (past-24, eq-eqb (length list) (size S) (h ∙ sym (study-size s))))
+    pub judge-done : length list ≡ n → accepted ≡ judgeAnswer s list
+    unfolding judgeReasons firstOf
+    judge-done h = judge-own accepted (rw (past-24 F done, eq-eqb (length list) (size S) (h ∙ sym (study-size s))))
 
   -- what an accepted call tells
   pub record JudgeAccepted : Type 0 where
@@ -87,7 +80,12 @@ module _ (s : State) (list : List ℕ) where
     pub judged-arrays : JudgedArrays (s .settings) n list
     judged-arrays =
         let z = sized-arrays s (A .passed .study) (A .passed .long) in
-        record { few = z .few; settings-long = z .able .settings-long; setting-high = z .able .setting-high; list-long = omega (arith, A .long) }
+        record {
+          few = z .few;
+          settings-long = z .able .settings-long;
+          setting-high = z .able .setting-high;
+          list-long = omega (arith, A .long);
+        }
 
     -- the two tests that the code makes
     abbrev numbers : Bool
@@ -99,7 +97,8 @@ module _ (s : State) (list : List ℕ) where
     approved-is : approved S list ≡ numbers && sufficient
     unfolding approved feasible arrayProblem meeting
     approved-is =
-        ap₂ (λ (k : ℕ) (P : Problem). every k (λ t. between 1 255 (labels list t)) && feasible P (labels list)) (study-size s) (problem-of-arrays s (A .passed .study))
+        ap₂ (λ (k : ℕ) (P : Problem). every k (λ t. between 1 255 (labels list t)) && feasible P (labels list)) (study-size s)
+        (problem-of-arrays s (A .passed .study))
 
     judged : (b : Bool) → numbers && sufficient ≡ b → value (cond b (approval (greatestDiameter (problem S) (labels list))) disapproval) ≡ judgeReply s list
     unfolding judgeReply judgement

@@ -5,3 +5,4 @@ pub mod ProblemOfArrays
 pub mod CentresLaws
 pub mod BlockLaws
 pub mod JudgeLaws
+pub mod TidesLaws

@@ -2,15 +2,30 @@
 use Prim.Native.Nat.{ℕ, _≤_, _<_}
 use mathlib.Core.Path.{_≡_}
 use mathlib.Core.Bool.{true}
-use mathlib.Core.List.{List}
-use lib.Dec.{T}
+use mathlib.Core.List.{List, _∷_}
+use lib.Dec.{T, eqb}
 use lib.ListN.{length, getD}
 use Rattle.study.specs.Limits.{maxTides}
-use Rattle.study.specs.Study.{sufficient}
-use Rattle.study.specs.Refusals.{accepted}
+use Rattle.study.specs.declared.Refusal.{Refusal}
+use Rattle.study.specs.declared.Answer.{Answer}
+use Rattle.study.specs.declared.Answer.the-variants.{Done, Refused}
+use Rattle.study.specs.Study.{Study, Contents, size, sufficient}
+use Rattle.study.specs.Refusals.{Reason, _⇒_, number, accepted, verdictOf}
 use Rattle.validity.specs.Memory.{State, studyOf}
 use Rattle.dataset.specs.Accepted.{Passed}
+use Rattle.dataset.specs.Answers.{heldAnswer}
 use Rattle.blocking.specs.Answers.{blockAnswer, centresAnswer}
+
+-- the reason that Centres, Block and Judge give first: there are no tides
+abbrev pub noTides : Study → Reason
+noTides S = eqb (size S) 0 ⇒ number 24
+
+-- what `check_tides` answers: a refusal is that of every call whose own reasons begin with noTides; Done tells that there is a dataset
+-- with a tide in it
+pub record TidesChecked (s : State) (r : Answer) : Type 0 where
+  pub refuses : (x : Refusal) → r ≡ Refused x → (own : Contents → List Reason) → verdictOf r ≡ heldAnswer s (λ H. noTides (H .study) ∷ own H)
+  pub passed : r ≡ Done → Passed s
+  pub some-tide : r ≡ Done → 1 ≤ s .dataset .n
 
 -- what an accepted Block tells, lent a list and records of these lengths
 pub record BlockAccepted (s : State) (list room : ℕ) : Type 0 where

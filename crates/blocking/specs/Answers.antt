@@ -13,6 +13,7 @@ use Rattle.dataset.specs.Answers.{heldAnswer}
 
 -- ---- Centres at g, lent a list
 
+-- accepted, or the refusal
 unfoldable pub centresAnswer : State → List ℕ → Verdict
 centresAnswer s list = heldAnswer s (λ H. centresReasons (H .study) (length list))
 
@@ -26,6 +27,7 @@ centresLeaves s g list = centresFront s g list ++ drop (length (centresFront s g
 
 -- ---- Block, lent a list and records; of each only the length counts for the answer
 
+-- accepted, or the refusal
 unfoldable pub blockAnswer : State → ℕ → ℕ → Verdict
 blockAnswer s list records = heldAnswer s (λ H. blockReasons (H .study) list records)
 
@@ -47,6 +49,7 @@ blockRecords s list records =
 
 -- ---- Judge, given a list
 
+-- accepted, or the refusal
 unfoldable pub judgeAnswer : State → List ℕ → Verdict
 judgeAnswer s list = heldAnswer s (λ H. judgeReasons (H .study) list)
 

@@ -14,10 +14,11 @@ use Rattle.blocking.specs.Answers.{blockRecords}
 abbrev pub rowAt : BlockRows → ℕ → BlockRecord
 rowAt rows i = record { centre = getD (rows .centres) i 0; tides = getD (rows .tides) i 0; diameter = getD (rows .diameters) i 0 }
 
--- 120 places with no block in them
+-- a place with no block in it
 abbrev pub noRecord : BlockRecord
 noRecord = record { centre = 0; tides = 0; diameter = 0 }
 
+-- as many places as there can be blocks, with none in them
 unfoldable pub noRecords : List BlockRecord
 noRecords = replicate maxTides noRecord
 

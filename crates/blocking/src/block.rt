@@ -1,17 +1,18 @@
 // Block: the core, by plain rows of numbers.
 use crate::computing::compute;
+use crate::tides::check_tides;
 use radius_search::bound::ball_meets;
 use study::Answer;
 use study::Blocked;
 use study::Dataset;
-use study::Refusal;
-use study::MAX_TIDES;
 use study::MAX_DISTANCE;
+use study::MAX_TIDES;
+use study::Refusal;
 ghost use mathlib.Core.Path.{_≡_};
 ghost use lib.ListN.{length};
 ghost use Rattle.study.specs.Refusals.{verdictOf};
 ghost use Rattle.study.specs.Calls.{blockedOf};
-ghost use Rattle.validity.specs.Memory.{stateOf};
+ghost use Rattle.validity.specs.Memory.{entryState};
 ghost use Rattle.blocking.specs.Answers.{blockAnswer, blockReply, blockList};
 ghost use Rattle.blocking.specs.Rows.{RowsOf};
 
@@ -38,16 +39,13 @@ fn block_answer(
     list: usize,
     records: usize,
 ) -> Answer
-    ensures { λ r. ⌜ verdictOf r ≡ blockAnswer (stateOf dataset (now (distances .entry)) (now (settings .entry))) list records ⌝ }
+    ensures { λ r. ⌜ verdictOf r ≡ blockAnswer (entryState dataset distances settings) list records ⌝ }
 {
-    let first = dataset::check(dataset, distances, settings);
+    let first = check_tides(dataset, distances, settings);
     let Answer::Done = first else {
         return first;
     };
     let n = dataset.n;
-    if n < 1 {
-        return Answer::Refused(Refusal::NoTides);
-    }
     // every tide is at most 1,048,575 from the first
     if !ball_meets(distances, settings, n, dataset.minima, 0, MAX_DISTANCE) {
         return Answer::Refused(Refusal::TooFewTides);
@@ -71,9 +69,9 @@ pub fn block_core(
     room: usize,
 ) -> Computed
     ensures answer { λ r. ⌜ blockedOf (r .answer)
-        ≡ blockReply (stateOf dataset (now (distances .entry)) (now (settings .entry))) (length (now (list .entry))) room ⌝ }
-    ensures rows { λ r. ⌜ RowsOf (stateOf dataset (now (distances .entry)) (now (settings .entry))) (length (now (list .entry))) room (r .rows) ⌝ }
-    ensures list { λ _. ⌜ now (list .exit) ≡ blockList (stateOf dataset (now (distances .entry)) (now (settings .entry))) (now (list .entry)) room ⌝ }
+        ≡ blockReply (entryState dataset distances settings) (length (now (list .entry))) room ⌝ }
+    ensures rows { λ r. ⌜ RowsOf (entryState dataset distances settings) (length (now (list .entry))) room (r .rows) ⌝ }
+    ensures list { λ _. ⌜ now (list .exit) ≡ blockList (entryState dataset distances settings) (now (list .entry)) room ⌝ }
 {
     let answer = block_answer(dataset, distances, settings, list.len(), room);
     if let Answer::Refused(why) = answer {

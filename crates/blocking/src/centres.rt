@@ -1,14 +1,15 @@
 // Centres at a radius.
 use crate::front::fill_front;
-use study::refusals::refusal_number;
+use crate::tides::check_tides;
 use study::Answer;
 use study::Dataset;
 use study::Refusal;
+use study::refusals::refusal_number;
 ghost use mathlib.Core.Path.{_≡_};
 ghost use lib.ListN.{length};
 ghost use Rattle.study.specs.Refusals.{verdictOf};
 ghost use Rattle.study.specs.Numbers.{refusalNumber};
-ghost use Rattle.validity.specs.Memory.{stateOf};
+ghost use Rattle.validity.specs.Memory.{entryState};
 ghost use Rattle.blocking.specs.Answers.{centresAnswer, centresFront, centresLeaves};
 
 // The answer, and how many centres stand in the front of the list.
@@ -19,16 +20,13 @@ pub struct Counted {
 
 // The answer alone: nothing is written.
 pub fn centres_answer(dataset: Dataset, distances: &[u32], settings: &[u8], list: &[u8]) -> Answer
-    ensures { λ r. ⌜ verdictOf r ≡ centresAnswer (stateOf dataset (now (distances .entry)) (now (settings .entry))) (now (list .entry)) ⌝ }
+    ensures { λ r. ⌜ verdictOf r ≡ centresAnswer (entryState dataset distances settings) (now (list .entry)) ⌝ }
 {
-    let first = dataset::check(dataset, distances, settings);
+    let first = check_tides(dataset, distances, settings);
     let Answer::Done = first else {
         return first;
     };
     let n = dataset.n;
-    if n < 1 {
-        return Answer::Refused(Refusal::NoTides);
-    }
     if list.len() < n {
         return Answer::Refused(Refusal::ShortMemory);
     }
@@ -43,9 +41,9 @@ pub fn centres_into(
     g: u32,
     list: &mut [u8],
 ) -> Counted
-    ensures answer { λ r. ⌜ verdictOf (r .answer) ≡ centresAnswer (stateOf dataset (now (distances .entry)) (now (settings .entry))) (now (list .entry)) ⌝ }
-    ensures count { λ r. ⌜ r .count ≡ length (centresFront (stateOf dataset (now (distances .entry)) (now (settings .entry))) g (now (list .entry))) ⌝ }
-    ensures list { λ _. ⌜ now (list .exit) ≡ centresLeaves (stateOf dataset (now (distances .entry)) (now (settings .entry))) g (now (list .entry)) ⌝ }
+    ensures answer { λ r. ⌜ verdictOf (r .answer) ≡ centresAnswer (entryState dataset distances settings) (now (list .entry)) ⌝ }
+    ensures count { λ r. ⌜ r .count ≡ length (centresFront (entryState dataset distances settings) g (now (list .entry))) ⌝ }
+    ensures list { λ _. ⌜ now (list .exit) ≡ centresLeaves (entryState dataset distances settings) g (now (list .entry)) ⌝ }
 {
     let answer = centres_answer(dataset, distances, settings, list);
     let Answer::Done = answer else {
@@ -66,9 +64,9 @@ pub fn centres<'a>(
     refusal: &mut u8,
 ) -> &'a mut [u8]
     ensures front { λ r. ⌜ r .ptr ≡ list .entry .ptr ⌝ }
-    ensures part { λ r. ⌜ now r ≡ centresFront (stateOf dataset (now (distances .entry)) (now (settings .entry))) g (now (list .entry)) ⌝ }
+    ensures part { λ r. ⌜ now r ≡ centresFront (entryState dataset distances settings) g (now (list .entry)) ⌝ }
     ensures refusal { λ _. ⌜ now (refusal .exit)
-        ≡ refusalNumber (centresAnswer (stateOf dataset (now (distances .entry)) (now (settings .entry))) (now (list .entry))) ⌝ }
+        ≡ refusalNumber (centresAnswer (entryState dataset distances settings) (now (list .entry))) ⌝ }
 {
     let filled = centres_into(dataset, distances, settings, g, list);
     let answer = filled.answer;

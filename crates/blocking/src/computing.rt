@@ -9,11 +9,12 @@ use study::MAX_TIDES;
 ghost use mathlib.Core.Path.{_≡_};
 ghost use lib.ListN.{length};
 ghost use Rattle.study.specs.Calls.{blockedOf};
-ghost use Rattle.validity.specs.Memory.{stateOf};
+ghost use Rattle.validity.specs.Memory.{stateOf, entryState};
 ghost use Rattle.blocking.specs.Answers.{blockReply, blockList};
 ghost use Rattle.blocking.specs.Accepted.{BlockAccepted};
 ghost use Rattle.blocking.specs.Rows.{RowsOf};
 
+// What an accepted Block answers, the rows of its blocks, and its list.
 pub fn compute(
     dataset: Dataset,
     distances: &[u32],
@@ -22,9 +23,10 @@ pub fn compute(
     room: usize,
 ) -> Computed
     requires { ⌜ BlockAccepted (stateOf dataset (now distances) (now settings)) (length (now list)) room ⌝ }
-    ensures { λ r. ⌜ blockedOf (r .answer) ≡ blockReply (stateOf dataset (now (distances .entry)) (now (settings .entry))) (length (now (list .entry))) room ⌝ }
-    ensures { λ r. ⌜ RowsOf (stateOf dataset (now (distances .entry)) (now (settings .entry))) (length (now (list .entry))) room (r .rows) ⌝ }
-    ensures { λ _. ⌜ now (list .exit) ≡ blockList (stateOf dataset (now (distances .entry)) (now (settings .entry))) (now (list .entry)) room ⌝ }
+    ensures { λ r. ⌜ blockedOf (r .answer)
+        ≡ blockReply (entryState dataset distances settings) (length (now (list .entry))) room ⌝ }
+    ensures { λ r. ⌜ RowsOf (entryState dataset distances settings) (length (now (list .entry))) room (r .rows) ⌝ }
+    ensures { λ _. ⌜ now (list .exit) ≡ blockList (entryState dataset distances settings) (now (list .entry)) room ⌝ }
 {
     let n = dataset.n;
     let rows = block_rows(distances, settings, n, dataset.minima, list);

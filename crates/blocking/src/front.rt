@@ -7,7 +7,7 @@ ghost use Prim.Native.Nat.{ℕ, _+_, _<_, _≤_};
 ghost use lib.ListN.{length, getD};
 ghost use Rattle.lists.specs.Lists.{overwrite};
 ghost use Rattle.study.specs.Limits.{maxTides};
-ghost use Rattle.validity.specs.Memory.{stateOf};
+ghost use Rattle.validity.specs.Memory.{stateOf, entryState};
 ghost use Rattle.blocking.specs.Answers.{centresFront, centresLeaves};
 ghost use Rattle.blocking.specs.Accepted.{CentresAccepted};
 
@@ -33,8 +33,8 @@ pub fn fill_front(
     list: &mut [u8],
 ) -> usize
     requires { ⌜ CentresAccepted (stateOf dataset (now distances) (now settings)) (now list) ⌝ }
-    ensures { λ r. ⌜ r ≡ length (centresFront (stateOf dataset (now (distances .entry)) (now (settings .entry))) g (now (list .entry))) ⌝ }
-    ensures { λ _. ⌜ now (list .exit) ≡ centresLeaves (stateOf dataset (now (distances .entry)) (now (settings .entry))) g (now (list .entry)) ⌝ }
+    ensures { λ r. ⌜ r ≡ length (centresFront (entryState dataset distances settings) g (now (list .entry))) ⌝ }
+    ensures { λ _. ⌜ now (list .exit) ≡ centresLeaves (entryState dataset distances settings) g (now (list .entry)) ⌝ }
 {
     let n = dataset.n;
     let mut centres: [usize; MAX_TIDES] = [0; MAX_TIDES];

@@ -1,6 +1,7 @@
 // Judge: whether a list of block numbers made by anyone is feasible.
 use crate::judging::blocks_meet;
 use crate::judging::numbers_valid;
+use crate::tides::check_tides;
 use blocking_core::measure::widest;
 use study::Answer;
 use study::Dataset;
@@ -9,21 +10,18 @@ use study::Refusal;
 ghost use mathlib.Core.Path.{_≡_};
 ghost use Rattle.study.specs.Refusals.{verdictOf};
 ghost use Rattle.study.specs.Calls.{judgedOf};
-ghost use Rattle.validity.specs.Memory.{stateOf};
+ghost use Rattle.validity.specs.Memory.{entryState};
 ghost use Rattle.blocking.specs.Answers.{judgeAnswer, judgeReply};
 
 // The answer alone: whether the list is judged at all.
 fn judge_answer(dataset: Dataset, distances: &[u32], settings: &[u8], list: &[u8]) -> Answer
-    ensures { λ r. ⌜ verdictOf r ≡ judgeAnswer (stateOf dataset (now (distances .entry)) (now (settings .entry))) (now (list .entry)) ⌝ }
+    ensures { λ r. ⌜ verdictOf r ≡ judgeAnswer (entryState dataset distances settings) (now (list .entry)) ⌝ }
 {
-    let first = dataset::check(dataset, distances, settings);
+    let first = check_tides(dataset, distances, settings);
     let Answer::Done = first else {
         return first;
     };
     let n = dataset.n;
-    if n < 1 {
-        return Answer::Refused(Refusal::NoTides);
-    }
     if list.len() != n {
         return Answer::Refused(Refusal::ListLength);
     }
@@ -32,7 +30,7 @@ fn judge_answer(dataset: Dataset, distances: &[u32], settings: &[u8], list: &[u8
 
 // Yes with the greatest diameter, or no.
 pub fn judge(dataset: Dataset, distances: &[u32], settings: &[u8], list: &[u8]) -> Judged
-    ensures { λ r. ⌜ judgedOf r ≡ judgeReply (stateOf dataset (now (distances .entry)) (now (settings .entry))) (now (list .entry)) ⌝ }
+    ensures { λ r. ⌜ judgedOf r ≡ judgeReply (entryState dataset distances settings) (now (list .entry)) ⌝ }
 {
     let answer = judge_answer(dataset, distances, settings, list);
     if let Answer::Refused(why) = answer {

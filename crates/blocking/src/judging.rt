@@ -1,17 +1,18 @@
 // What Judge looks at in a list: its numbers, and the tides under each of them.
 use radius_search::counts::counts_meet;
-use radius_search::counts::wide;
+use radius_search::counts::tally_one;
 use study::Minima;
 ghost use mathlib.Core.Path.{_≡_};
 ghost use Prim.Native.Nat.{ℕ, _≤_};
 ghost use lib.Dec.{eqb};
-ghost use lib.ListN.{length, getD, replicate};
-ghost use Rattle.lists.specs.Lists.{bit, between, every};
+ghost use lib.ListN.{length, replicate};
+ghost use Rattle.lists.specs.Lists.{at, bit, between, every};
 ghost use Rattle.study.specs.Problem.{block, labels};
 ghost use Rattle.study.specs.Study.{meets};
 ghost use Rattle.radius_search.specs.Tally.{Tallied};
 ghost use Rattle.blocking.specs.Accepted.{JudgedArrays};
 
+// Whether a number is 1 to 255.
 fn valid_number(x: u8) -> bool
     ensures { λ r. ⌜ r ≡ between 1 255 x ⌝ }
 {
@@ -53,9 +54,7 @@ fn count_block(settings: &[u8], n: usize, list: &[u8], number: u8, counts: &mut 
     let mut t = 0;
     while t < n {
         let one = same(list[t], number);
-        let s = wide(settings[t]);
-        counts[s] = counts[s] + one;
-        found = found + one;
+        found = tally_one(settings, t, one, found, counts);
         t += 1;
     }
     found
@@ -64,7 +63,7 @@ fn count_block(settings: &[u8], n: usize, list: &[u8], number: u8, counts: &mut 
 // Whether the tides under a number meet the minima.
 fn block_meets(settings: &[u8], n: usize, minima: Minima, list: &[u8], number: u8) -> bool
     requires { ⌜ JudgedArrays (now settings) n (now list) ⌝ }
-    ensures { λ r. ⌜ r ≡ meets minima n (λ (t : ℕ). getD (now (settings .entry)) t 0) (block (labels (now (list .entry))) number) ⌝ }
+    ensures { λ r. ⌜ r ≡ meets minima n (at (now (settings .entry))) (block (labels (now (list .entry))) number) ⌝ }
 {
     let mut counts: [usize; 9] = [0; 9];
     let found = count_block(settings, n, list, number, &mut counts);
@@ -75,7 +74,7 @@ fn block_meets(settings: &[u8], n: usize, minima: Minima, list: &[u8], number: u
 pub fn blocks_meet(settings: &[u8], n: usize, minima: Minima, list: &[u8]) -> bool
     requires { ⌜ JudgedArrays (now settings) n (now list) ⌝ }
     ensures { λ r. ⌜ r
-        ≡ every n (λ (u : ℕ). meets minima n (λ (t : ℕ). getD (now (settings .entry)) t 0)
+        ≡ every n (λ (u : ℕ). meets minima n (at (now (settings .entry)))
         (block (labels (now (list .entry))) (labels (now (list .entry)) u))) ⌝ }
 {
     let mut t = 0;

@@ -8,3 +8,4 @@ pub mod judge;
 mod judging;
 pub mod records;
 mod storing;
+mod tides;

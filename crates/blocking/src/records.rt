@@ -9,7 +9,7 @@ ghost use mathlib.Core.Path.{_≡_};
 ghost use lib.ListN.{length};
 ghost use Rattle.study.specs.Limits.{maxTides};
 ghost use Rattle.study.specs.Calls.{blockedOf};
-ghost use Rattle.validity.specs.Memory.{stateOf};
+ghost use Rattle.validity.specs.Memory.{entryState};
 ghost use Rattle.blocking.specs.Answers.{blockReply, blockList, blockRecords};
 ghost use Rattle.blocking.specs.Rows.{noRecords};
 
@@ -22,11 +22,11 @@ pub fn block(
     records: &mut [BlockRecord],
 ) -> Blocked
     ensures answer { λ r. ⌜ blockedOf r
-        ≡ blockReply (stateOf dataset (now (distances .entry)) (now (settings .entry))) (length (now (list .entry))) (length (now (records .entry))) ⌝ }
+        ≡ blockReply (entryState dataset distances settings) (length (now (list .entry))) (length (now (records .entry))) ⌝ }
     ensures list { λ _. ⌜ now (list .exit)
-        ≡ blockList (stateOf dataset (now (distances .entry)) (now (settings .entry))) (now (list .entry)) (length (now (records .entry))) ⌝ }
+        ≡ blockList (entryState dataset distances settings) (now (list .entry)) (length (now (records .entry))) ⌝ }
     ensures records { λ _. ⌜ now (records .exit)
-        ≡ blockRecords (stateOf dataset (now (distances .entry)) (now (settings .entry))) (length (now (list .entry))) (now (records .entry)) ⌝ }
+        ≡ blockRecords (entryState dataset distances settings) (length (now (list .entry))) (now (records .entry)) ⌝ }
 {
     let room = records.len();
     let computed = block_core(dataset, distances, settings, list, room);
@@ -48,10 +48,10 @@ pub fn block_by_value(
     list: &mut [u8],
 ) -> Blocking
     ensures answer { λ r. ⌜ blockedOf (r .answer)
-        ≡ blockReply (stateOf dataset (now (distances .entry)) (now (settings .entry))) (length (now (list .entry))) maxTides ⌝ }
-    ensures list { λ _. ⌜ now (list .exit) ≡ blockList (stateOf dataset (now (distances .entry)) (now (settings .entry))) (now (list .entry)) maxTides ⌝ }
+        ≡ blockReply (entryState dataset distances settings) (length (now (list .entry))) maxTides ⌝ }
+    ensures list { λ _. ⌜ now (list .exit) ≡ blockList (entryState dataset distances settings) (now (list .entry)) maxTides ⌝ }
     ensures records { λ r. ⌜ r .records
-        ≡ blockRecords (stateOf dataset (now (distances .entry)) (now (settings .entry))) (length (now (list .entry))) noRecords ⌝ }
+        ≡ blockRecords (entryState dataset distances settings) (length (now (list .entry))) noRecords ⌝ }
 {
     let none = BlockRecord {
         centre: 0,

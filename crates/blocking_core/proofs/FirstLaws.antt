@@ -10,12 +10,11 @@ use lib.Dec.{T}
 use lib.ListN.{length, getD, drop}
 use Rattle.lists.specs.Lists.{at, overwrite, TailKept}
 use Rattle.lists.proofs.Tests.{split}
-use Rattle.lists.proofs.Tables.{getD-overwrite, length-overwrite, drop-overwrite}
+use Rattle.lists.proofs.Tables.{getD-overwrite, length-overwrite, drop-overwrite, tail-same, tail-trans}
 use Rattle.study.specs.Limits.{maxTides}
 use Rattle.study.specs.Problem.{labels}
 use Rattle.promise.specs.Promise.{Test, allows, Nowhere, Assigned, Promise, Upward}
 use Rattle.promise.proofs.Enough.{assigning-same}
-use Rattle.radius_search.proofs.AscentLaws.{kept-same, kept-on}
 use Rattle.blocking_core.specs.Column.{Column, Narrowed}
 use Rattle.blocking_core.proofs.ColumnLaws.{column-again, column-may, column-sound, column-complete}
 use Rattle.blocking_core.specs.First.{Agree, First, SearchTried, Chosen}
@@ -43,7 +42,7 @@ tried-found {n} {old = old} {new = new} {trial = trial} up long P e q =
 pub tried-none : {n blocks : ℕ} {E : Test} {allowed trial copy : List ℕ} {r : Bool} (old : List ℕ) → Promise n blocks E allowed copy trial r
     → r ≡ false → SearchTried n blocks E allowed old old false
 tried-none {n} old P e =
-    record { found = λ f. absurd (false≢true f); none = λ _. P .none e; same = λ _. refl; kept = kept-same n old }
+    record { found = λ f. absurd (false≢true f); none = λ _. P .none e; same = λ _. refl; kept = tail-same n old }
 
 -- no search is needed where tide t may go to no block
 pub tried-nowhere : {n blocks : ℕ} {E : Test} {allowed : List ℕ} {t : ℕ} (list : List ℕ) → t < n → Nowhere allowed t blocks
@@ -53,7 +52,7 @@ tried-nowhere {n} {t = t} list tl nowhere =
       found = λ f. absurd (false≢true f);
       none = λ _ D A. nowhere (D t) (A .below t tl) (A .may t tl);
       same = λ _. refl;
-      kept = kept-same n list;
+      kept = tail-same n list;
     }
 
 -- ---- one tide
@@ -76,7 +75,7 @@ choosing-start {n = n} {list = list} t v A e =
       low = λ m k l. (λ h. h, λ h. h);
       assigned = A;
       here = sym e;
-      kept = kept-same n list;
+      kept = tail-same n list;
     }
 
 module _ {rank : ℕ → ℕ} {n blocks : ℕ} {E : Test} {t v : ℕ} {old new list₀ list : List ℕ} (small : n ≤ maxTides) (tl : t < n)
@@ -111,7 +110,7 @@ module _ {rank : ℕ → ℕ} {n blocks : ℕ} {E : Test} {t v : ℕ} {old new l
                 (λ h. p .0 h .0, λ h. p .1 (h, omega arith));
             assigned = column-sound small tl whole (λ m l h. h .0) (labels tried) (A .found e);
             here = sym q;
-            kept = kept-on (S .kept) (A .kept);
+            kept = tail-trans (S .kept) (A .kept);
           }
 
       -- none ranks before v, and t is left v alone
@@ -134,7 +133,7 @@ module _ {rank : ℕ → ℕ} {n blocks : ℕ} {E : Test} {t v : ℕ} {old new l
               ⊎-elim (λ l. absurd (A .none e G (column-complete small tl whole G B (B .may t tl, l)))) (λ l. l) (split (rank (G t)) (rank v))
 
       pub choosing-kept : TailKept n list₀ tried
-      choosing-kept = kept-on (S .kept) (A .kept)
+      choosing-kept = tail-trans (S .kept) (A .kept)
 
 -- the ranks stand in a list
 pub chosen-ranked : {rank : ℕ → ℕ} {n blocks : ℕ} {E : Test} {t : ℕ} {old new list ranks : List ℕ} (ranks₀ : List ℕ) → t < n

@@ -28,17 +28,17 @@ sum-const zero c = omega (arith, sum-zero (λ t. c))
 sum-const (suc n) c = omega (arith, sum-suc n (λ t. c), sum-const n c)
 
 -- one more, for a loop that goes up by i + 1
-pub sum-more : (i : ℕ) (f : ℕ → ℕ) → sumBelow (i + 1) f ≡ sumBelow i f + f i
-sum-more i f = rw (add-one i) (sum-suc i f)
+pub sum-next : (i : ℕ) (f : ℕ → ℕ) → sumBelow (i + 1) f ≡ sumBelow i f + f i
+sum-next i f = rw (add-one i) (sum-suc i f)
 
 pub sum-front : (f : ℕ → ℕ) (i n : ℕ) → i ≤ n → sumBelow i f ≤ sumBelow n f
 sum-front f i n h = le-ind (λ k. sumBelow i f ≤ sumBelow k f) (le-refl (sumBelow i f)) (λ k l e. omega (arith, sum-suc k f)) n h
 
 -- ---- counts
 
-pub count-more : (i : ℕ) (q : ℕ → Bool) → countBelow (i + 1) q ≡ countBelow i q + bit (q i)
+pub count-next : (i : ℕ) (q : ℕ → Bool) → countBelow (i + 1) q ≡ countBelow i q + bit (q i)
 unfolding countBelow
-count-more i q = sum-more i (λ t. bit (q t))
+count-next i q = sum-next i (λ t. bit (q t))
 
 -- tests that pass the same numbers have one count
 pub count-iff : (n : ℕ) (p q : ℕ → Bool) → ((t : ℕ) → t < n → T (p t) → T (q t)) → ((t : ℕ) → t < n → T (q t) → T (p t)) → countBelow n p ≡ countBelow n q

@@ -6,9 +6,9 @@ use native.Mathlib.Numerals.{add-one}
 use mathlib.Core.Path.{_≡_, refl, sym, ap, _∙_}
 use mathlib.Core.Logic.{⊎-elim}
 use mathlib.Core.List.{List, [], _∷_, _++_, map, append-assoc}
-use lib.ListN.{length, drop, getD, set, length-append, length-drop, List·getD-append}
-use lib.Seq.{ext-getD, getD-append-add, getD-drop, drop-at, drop-cons, set-at}
-use Rattle.lists.specs.Lists.{_among_, iota, tabulate, overwrite}
+use lib.ListN.{length, drop, getD, set, length-append, length-drop, length-set, List·getD-append}
+use lib.Seq.{ext-getD, getD-append-add, getD-drop, drop-at, drop-cons, drop-set-lt, set-at}
+use Rattle.lists.specs.Lists.{_among_, iota, tabulate, overwrite, TailKept}
 use Rattle.lists.proofs.Tests.{split}
 use Rattle.lists.proofs.Members.{mem-map, map-mem, mem-range, range-mem}
 
@@ -24,6 +24,20 @@ getD-map-range f d k (suc n) (suc i) l = getD-map-range f d (suc k) n i (le-of-s
 map-range-snoc : {A : Type 0} (f : ℕ → A) (k n : ℕ) → map f (iota k (suc n)) ≡ map f (iota k n) ++ (f (k + n) ∷ [])
 map-range-snoc f k zero = ap (λ (z : ℕ). f z ∷ []) (omega arith)
 map-range-snoc f k (suc n) = ap (λ l. f k ∷ l) (map-range-snoc f (suc k) n ∙ ap (λ (z : ℕ). map f (iota (suc k) n) ++ (f z ∷ [])) (omega arith))
+
+-- ---- a list whose tail stays
+
+pub tail-same : (n : ℕ) (l : List ℕ) → TailKept n l l
+tail-same n l = record { same-length = refl; rest = refl }
+
+pub tail-trans : {n : ℕ} {a b c : List ℕ} → TailKept n a b → TailKept n b c → TailKept n a c
+tail-trans p q = record { same-length = q .same-length ∙ p .same-length; rest = q .rest ∙ p .rest }
+
+-- one place before it is written
+pub tail-set : {n : ℕ} {a b : List ℕ} (t x : ℕ) → t < n → TailKept n a b → TailKept n a (set b t x)
+tail-set {n} {a} {b} t x l k = record { same-length = length-set b t x ∙ k .same-length; rest = drop-set-lt n b t x l ∙ k .rest }
+
+-- ---- tables
 
 module _ {A : Type 0} where
   pub length-tabulate : (n : ℕ) (f : ℕ → A) → length (tabulate n f) ≡ n

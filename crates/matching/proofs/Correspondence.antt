@@ -36,7 +36,8 @@ ofBlock m x y = eqb x m
 
 module _ (blocks b0 : ℕ) (b owner kind : List ℕ) (sl : Slots blocks b0 b owner kind) where
   -- a test that fails at every slot of another block
-  one-block : (Q : ℕ → ℕ → Bool) (m : ℕ) → m < blocks → ((x y : ℕ) → (x ≡ m → ⊥) → Q x y ≡ false) → countBelow (blocks * b0) (slotTest Q owner kind) ≡ blockSum Q b0 b m
+  one-block : (Q : ℕ → ℕ → Bool) (m : ℕ) → m < blocks → ((x y : ℕ) → (x ≡ m → ⊥) → Q x y ≡ false)
+      → countBelow (blocks * b0) (slotTest Q owner kind) ≡ blockSum Q b0 b m
   unfolding blockSum
   one-block Q m l out =
       sl .law Q ∙ sum-one blocks (blockSum Q b0 b) m l (λ x _ n.
@@ -87,7 +88,8 @@ module _ (blocks b0 : ℕ) (b owner kind : List ℕ) (sl : Slots blocks b0 b own
 
   pub slot-kind : (s : ℕ) → s < blocks * b0 → at kind s ≤ 8
   slot-kind s l =
-      let r = nleb→lt 9 (at kind s) (count-none (slotTest (λ x y. leb 9 y) owner kind) (blocks * b0) (no-slot (λ x y. leb 9 y) (λ m ml k kl. lt-leb 9 k (omega arith))) s l) in
+      let none = no-slot (λ x y. leb 9 y) (λ m ml k kl. lt-leb 9 k (omega arith)) in
+      let r = nleb→lt 9 (at kind s) (count-none (slotTest (λ x y. leb 9 y) owner kind) (blocks * b0) none s l) in
       omega arith
 
 -- ---- from an assignment to a matching
@@ -192,7 +194,8 @@ module _ (n blocks : ℕ) (M : Minima) (settings allowed list owner kind : List 
       let r : idx s ≡ idx u = sym (gives s l .rank) ∙ (λ i. countBelow (e i) (fitting (M .b) setting (block D (m i)) (q i))) ∙ gives u k .rank in
       let a : countBelow s (like s) ≡ countBelow u (like s) = r ∙ (λ i. countBelow u (slotTest (cls (sym m i) (sym q i)) owner kind)) in
       count-apart (like s) s u (like-self s)
-      (and-T (eqb (at owner u) (at owner s)) (eqb (at kind u) (at kind s)) (eq→eqb (at owner u) (at owner s) (sym m)) (eq→eqb (at kind u) (at kind s) (sym q))) a
+      (and-T (eqb (at owner u) (at owner s)) (eqb (at kind u) (at kind s))
+      (eq→eqb (at owner u) (at owner s) (sym m)) (eq→eqb (at kind u) (at kind s) (sym q))) a
 
   -- where no matching gives every slot a tide, there is no assignment
   pub no-assignment : Unsaturable (Edge allowed settings owner kind) slots n → ⊥
@@ -202,7 +205,8 @@ module _ (n blocks : ℕ) (M : Minima) (settings allowed list owner kind : List 
 
 module _ (n blocks : ℕ) (M : Minima) (settings allowed owner kind tide slot list : List ℕ) (fit : total (M .b) ≤ M .b0)
     (sl : Slots blocks (M .b0) (M .b) owner kind)
-    (sat : Saturated (Edge allowed settings owner kind) (blocks * M .b0) n (blocks * M .b0) tide slot) (wr : ListWritten n blocks (blocks * M .b0) allowed owner slot list) where
+    (sat : Saturated (Edge allowed settings owner kind) (blocks * M .b0) n (blocks * M .b0) tide slot)
+    (wr : ListWritten n blocks (blocks * M .b0) allowed owner slot list) where
   held-block : (s : ℕ) → s < blocks * M .b0 → labels list (at tide s) ≡ at owner s
   unfolding labels
   held-block s l =
@@ -232,9 +236,13 @@ module _ (n blocks : ℕ) (M : Minima) (settings allowed owner kind tide slot li
         each = λ j jl. omega (
           arith,
           class-count blocks (M .b0) (M .b) owner kind sl m j ml jl,
-          count-into (blocks * M .b0) n (slotTest (cls m (suc j)) owner kind) (λ t. block (labels list) m t && eqb (getD settings t 0) (suc j)) (at tide) (λ s l p. sat .full s l)
-              (λ s l p. and-T (block (labels list) m (at tide s)) (eqb (at settings (at tide s)) (suc j)) (in-block m s l (T-left (eqb (at owner s) m) (eqb (at kind s) (suc j)) p))
-              (eq→eqb (at settings (at tide s)) (suc j) (held-setting s j l (eqb→eq (at kind s) (suc j) (T-right (eqb (at owner s) m) (eqb (at kind s) (suc j)) p)))))
+          count-into (blocks * M .b0) n (slotTest (cls m (suc j)) owner kind) (λ t. block (labels list) m t && eqb (getD settings t 0) (suc j))
+              (at tide) (λ s l p. sat .full s l)
+              (λ s l p.
+              let own = T-left (eqb (at owner s) m) (eqb (at kind s) (suc j)) p in
+              let k = eqb→eq (at kind s) (suc j) (T-right (eqb (at owner s) m) (eqb (at kind s) (suc j)) p) in
+              and-T (block (labels list) m (at tide s)) (eqb (at settings (at tide s)) (suc j)) (in-block m s l own)
+              (eq→eqb (at settings (at tide s)) (suc j) (held-setting s j l k)))
               (λ s u l k p q. held-apart s u l k),
         );
       }

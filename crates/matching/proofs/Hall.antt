@@ -7,7 +7,7 @@ use Rattle.lists.proofs.Counts.{pigeonhole}
 use Rattle.lists.specs.Lists.{at}
 use Rattle.matching.specs.Matching.{Saturating, Unsaturable, Matching, Tree, Closed}
 
-module _ (E : ℕ → ℕ → Type 0) (slots tides tail : ℕ) (tide slot from rank queue : List ℕ) (small : slots ≤ 120)
+module _ {E : ℕ → ℕ → Type 0} {slots tides tail : ℕ} {tide slot from rank queue : List ℕ} (small : slots ≤ 120)
     (v : Matching E slots tides tide slot) (tr : Tree E slots tides tail tide slot from rank queue) (cl : Closed E slots tides tail from rank)
     (g : ℕ → ℕ) (sat : Saturating E slots tides g) where
   -- the tide of the i-th slot of the tree
@@ -63,6 +63,6 @@ module _ (E : ℕ → ℕ → Type 0) (slots tides tail : ℕ) (tide slot from r
       (λ i j hi hj e. next-inj i j hi hj (omega (arith, next-pos i hi, next-pos j hj))) in
       omega arith
 
-pub hall : (E : ℕ → ℕ → Type 0) (slots tides tail : ℕ) (tide slot from rank queue : List ℕ) → slots ≤ 120
+pub hall : {E : ℕ → ℕ → Type 0} {slots tides tail : ℕ} {tide slot from rank queue : List ℕ} → slots ≤ 120
     → Matching E slots tides tide slot → Tree E slots tides tail tide slot from rank queue → Closed E slots tides tail from rank → Unsaturable E slots tides
-hall E slots tides tail tide slot from rank queue small v tr cl g sat = absurdity E slots tides tail tide slot from rank queue small v tr cl g sat
+hall small v tr cl g sat = absurdity small v tr cl g sat

@@ -61,7 +61,8 @@ module _ (S : Study) (ok : Valid S) (g : ℕ) where
     choose : (t : ℕ) → t < n → (m : ℕ) × Chosen t m
     choose t l =
         ⊎-elim
-        (λ s. let a = leb→le 1 (D t) s in (D t, record { in-radius = record { low = a; high = P .inside t l; in-radius = P .in-radius t l a }; own = λ b. refl }))
+        (λ s. let a = leb→le 1 (D t) s in
+        (D t, record { in-radius = record { low = a; high = P .inside t l; in-radius = P .in-radius t l a }; own = λ b. refl }))
         (λ s. let a = nleb→lt 1 (D t) s in let r = covered t l in (r .0, record { in-radius = r .1; own = λ b. absurd (omega arith) }))
         (test (leb 1 (D t)))
 
@@ -158,7 +159,8 @@ module _ (S : Study) (ok : Valid S) (g : ℕ) where
     unfolding problem stays rest ofSetting
     solution =
         record {
-          inside = λ t l. ⊎-elim (λ s. let a = leb→le 1 (D t) s in rw (own t a) (A .high t l)) (λ s. let a = nleb→lt 1 (D t) s in omega arith) (test (leb 1 (D t)));
+          inside = λ t l. ⊎-elim (λ s. let a = leb→le 1 (D t) s in rw (own t a) (A .high t l)) (λ s. let a = nleb→lt 1 (D t) s in omega arith)
+              (test (leb 1 (D t)));
           in-radius = λ t l a. rw (own t a) (A .in-radius t l);
           whole = λ m a h. let e = meet m a h in
               kept-block m a ∙ count-kept (S .minima .b) setting (block (labels xs) m) n (ok .setting-low) high (S .minima .b0) (e .whole) (e .each) fit;

@@ -15,10 +15,10 @@ front : ℕ → (ℕ → ℕ) → ℕ → ℕ
 front h f zero = h
 front h f (suc i) = f i
 
-module _ (E : ℕ → ℕ → Type 0) (slots tides tail : ℕ) (tide slot from rank queue : List ℕ) (small : slots ≤ 120)
+module _ {E : ℕ → ℕ → Type 0} {slots tides tail : ℕ} {tide slot from rank queue : List ℕ} (small : slots ≤ 120)
     (few-tides : tides ≤ 120)
     (v : Matching E slots tides tide slot) (tr : Tree E slots tides tail tide slot from rank queue)
-    (s t : ℕ) (sl : s < slots) (sr : at rank s < 120) (tl : t < tides) (new : slots ≤ at from t) (e : E s t) (hl : at slot t < slots) where
+    {s t : ℕ} (sl : s < slots) (sr : at rank s < 120) (tl : t < tides) (new : slots ≤ at from t) (e : E s t) (hl : at slot t < slots) where
   -- the holder
   abbrev h : ℕ
   h = at slot t
@@ -149,9 +149,17 @@ module _ (E : ℕ → ℕ → Type 0) (slots tides tail : ℕ) (tide slot from r
             let a = rank-old (at from x) (omega arith) in
             let c = rank-old (at slot x) j in
             rw b (omega arith));
-        joined = λ x xl l. tide-case x l (λ q. let r = room in rw (q, rank-h) (omega arith)) (λ k b. let j = tr .joined x xl k in let c = rank-old (at slot x) j in omega arith);
+        joined = λ x xl l. tide-case x l (λ q. let r = room in rw (q, rank-h) (omega arith))
+            (λ k b.
+            let j = tr .joined x xl k in
+            let c = rank-old (at slot x) j in
+            omega arith);
         held = λ x xl l p. slot-case x l (λ q. rw (q, h-tide) tl) (λ k b. tr .held x xl k (omega arith));
-        through = λ x xl l p. slot-case x l (λ q. rw (q, h-tide, from-t) sl) (λ k b. let f = tr .through x xl k (omega arith) in let g = from-old (at tide x) f in omega arith);
+        through = λ x xl l p. slot-case x l (λ q. rw (q, h-tide, from-t) sl)
+            (λ k b.
+            let f = tr .through x xl k (omega arith) in
+            let g = from-old (at tide x) f in
+            omega arith);
       }
 
   -- what was seen stays seen

@@ -50,9 +50,9 @@ module _ (slot : List ℕ) (s t tides : ℕ) (len : length slot ≡ 120) (tl : t
       go (yes h) = rw (freed-yes slot s t o tides h) (getD-set-other (set slot t s) o y 120 0 n-o ∙ there)
       go (no h) = rw (freed-no slot s t o tides (omega arith)) there
 
-module _ (E : ℕ → ℕ → Type 0) (slots tides : ℕ) (tide slot : List ℕ) (small : slots ≤ 120) (few : tides ≤ 120)
+module _ {E : ℕ → ℕ → Type 0} {slots tides : ℕ} {tide slot : List ℕ} (small : slots ≤ 120) (few : tides ≤ 120)
     (v : Matching E slots tides tide slot)
-    (s t : ℕ) (sl : s < slots) (tl : t < tides) (free : slots ≤ at slot t) (e : E s t) where
+    {s t : ℕ} (sl : s < slots) (tl : t < tides) (free : slots ≤ at slot t) (e : E s t) where
   -- the old tide
   abbrev o : ℕ
   o = at tide s
@@ -150,7 +150,7 @@ module _ (E : ℕ → ℕ → Type 0) (slots tides : ℕ) (tide slot : List ℕ)
   pub swap-here : at tide′ s < tides
   swap-here = rw tide-s tl
 
-  module _ (root : ℕ) (from rank : List ℕ) (w : Path E slots tides root (at rank s + 1) tide from rank) (sr : at rank s < 120) where
+  module _ {root : ℕ} {from rank : List ℕ} (w : Path E slots tides root (at rank s + 1) tide from rank) (sr : at rank s < 120) where
     rank-pos : o < tides → 0 < at rank s
     rank-pos h = go (decLt 0 (at rank s))
       where
@@ -195,9 +195,9 @@ module _ (E : ℕ → ℕ → Type 0) (slots tides : ℕ) (tide slot : List ℕ)
         }
 
 -- a tree gives the path back from each of its slots
-pub tree-path : (E : ℕ → ℕ → Type 0) (slots tides tail d : ℕ) (tide slot from rank queue : List ℕ) → Matching E slots tides tide slot
+pub tree-path : {E : ℕ → ℕ → Type 0} {slots tides tail d : ℕ} {tide slot from rank queue : List ℕ} → Matching E slots tides tide slot
     → Tree E slots tides tail tide slot from rank queue → d ≤ 120 → Path E slots tides (at queue 0) d tide from rank
-tree-path E slots tides tail d tide slot from rank queue v tr h =
+tree-path {tide = tide} {queue = queue} v tr h =
     record {
       free = tr .root;
       ends = λ x xl l z. sym (tr .home x xl l) ∙ ap (at queue) z;

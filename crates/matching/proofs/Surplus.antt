@@ -80,7 +80,9 @@ module _ (b : List ℕ) (setting : ℕ → ℕ) (p : ℕ → Bool) where
         sym (count-classes 8 n (needed b setting p) (λ t. setting t - 1) (λ t l. omega (arith, low t l, high t l)))
         ∙ sum-same 8 (λ j. countBelow n (λ t. needed b setting p t && eqb (setting t - 1) j)) (λ j. countBelow n (own j))
         (λ j l. count-iff n (λ t. needed b setting p t && eqb (setting t - 1) j) (own j)
-        (λ t k h. subst (λ i. T (own i t)) (eqb→eq (setting t - 1) j (T-right (needed b setting p t) (eqb (setting t - 1) j) h)) (T-left (needed b setting p t) (eqb (setting t - 1) j) h))
+        (λ t k h.
+        let q = eqb→eq (setting t - 1) j (T-right (needed b setting p t) (eqb (setting t - 1) j) h) in
+        subst (λ i. T (own i t)) q (T-left (needed b setting p t) (eqb (setting t - 1) j) h))
         (λ t k h. let e = own-setting j t h in
         and-T (needed b setting p t) (eqb (setting t - 1) j) (own-needed j t h) (eq→eqb (setting t - 1) j (omega arith))))
 
@@ -92,7 +94,8 @@ module _ (b : List ℕ) (setting : ℕ → ℕ) (p : ℕ → Bool) where
         (λ t l h. T-right (p t) (needed b setting p t) h) (λ t l h. and-T (p t) (needed b setting p t) (needed-in t h) h))
 
     -- p meets the minima b0 and b
-    module _ (b0 : ℕ) (whole : b0 ≤ countBelow n p) (each : (j : ℕ) → j < 8 → getD b j 0 ≤ countBelow n (ofSetting setting p j)) (fit : sumBelow 8 (λ j. getD b j 0) ≤ b0) where
+    module _ (b0 : ℕ) (whole : b0 ≤ countBelow n p) (each : (j : ℕ) → j < 8 → getD b j 0 ≤ countBelow n (ofSetting setting p j))
+        (fit : sumBelow 8 (λ j. getD b j 0) ≤ b0) where
       pub count-own : (j : ℕ) → j < 8 → countBelow n (own j) ≡ getD b j 0
       count-own j l = omega (arith, count-firsts (getD b j 0) (ofSetting setting p j) n, each j l)
 
@@ -144,6 +147,7 @@ module _ (b : List ℕ) (setting : ℕ → ℕ) (p : ℕ → Bool) where
             count-own j l,
             count-le n (own j) (λ t. kept rest b setting p t && eqb (setting t) (suc j)) (λ t k h.
                 and-T (kept rest b setting p t) (eqb (setting t) (suc j))
-                (and-T (p t) (needed b setting p t || firsts rest (surplus b setting p) t) (own-in j t h) (or-left (needed b setting p t) (firsts rest (surplus b setting p) t) (own-needed j t h)))
+                (and-T (p t) (needed b setting p t || firsts rest (surplus b setting p) t) (own-in j t h)
+                (or-left (needed b setting p t) (firsts rest (surplus b setting p) t) (own-needed j t h)))
                 (eq→eqb (setting t) (suc j) (own-setting j t h))),
           )

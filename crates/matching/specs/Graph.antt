@@ -16,7 +16,7 @@ pub record EdgeAt (allowed settings : List ℕ) (m k t : ℕ) : Type 0 where
   pub may : T (allows allowed t m)
   pub suits : (k ≡ 0) ⊎ (at settings t ≡ k)
 
--- the same of the slot s, by the tables of blocks and kind-high
+-- the same of the slot s, by the tables of blocks and kinds
 abbrev pub Edge : (allowed settings owner kind : List ℕ) (s t : ℕ) → Type 0
 Edge allowed settings owner kind s t = EdgeAt allowed settings (at owner s) (at kind s) t
 
@@ -25,7 +25,7 @@ pub record Decides (P : Type 0) (r : Bool) : Type 0 where
   pub holds : r ≡ true → P
   pub fails : r ≡ false → P → ⊥
 
--- what every function on a graph may assume: the tables are long enough, blocks are below 120, settings and kind-high at most 8
+-- what every function on a graph may assume: the tables are long enough, blocks are below maxTides, settings and kinds at most 8
 pub record SizedGraph (allowed settings owner kind : List ℕ) (slots tides : ℕ) : Type 0 where
   pub few-slots : slots ≤ maxTides
   pub few-tides : tides ≤ maxTides
@@ -34,6 +34,11 @@ pub record SizedGraph (allowed settings owner kind : List ℕ) (slots tides : �
   pub blocks : (s : ℕ) → s < slots → at owner s < maxTides
   pub kind-high : (s : ℕ) → s < slots → at kind s ≤ 8
   pub high : (t : ℕ) → t < tides → at settings t ≤ 8
+
+-- such a graph, and a matching in it
+pub record GraphMatching (allowed settings owner kind : List ℕ) (slots tides : ℕ) (tide slot : List ℕ) : Type 0 where
+  pub sized : SizedGraph allowed settings owner kind slots tides
+  pub matching : Matching (Edge allowed settings owner kind) slots tides tide slot
 
 -- r is true where t is not seen and s can hold it, and false only where t is seen or s cannot hold it
 pub record Wanted (E : ℕ → ℕ → Type 0) (slots s t : ℕ) (from : List ℕ) (r : Bool) : Type 0 where

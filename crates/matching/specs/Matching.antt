@@ -27,7 +27,7 @@ pub record Matching (E : ℕ → ℕ → Type 0) (slots tides : ℕ) (tide slot 
   pub back : (t : ℕ) → t < tides → at slot t < slots → at tide (at slot t) ≡ t
 
 -- a tree of alternating paths from the free slot at the front of queue: from has the slot that a tide
--- was seen from, and rank the place of a slot in queue, 120 where it is not in the tree
+-- was seen from, and rank the place of a slot in queue, maxTides where it is not in the tree
 pub record Tree (E : ℕ → ℕ → Type 0) (slots tides tail : ℕ) (tide slot from rank queue : List ℕ) : Type 0 where
   pub from-long : length from ≡ maxTides
   pub rank-long : length rank ≡ maxTides

@@ -19,5 +19,6 @@ pub record PartialSolution (S : Study) (g : ℕ) (D : ℕ → ℕ) : Type 0 wher
   pub each : (m : ℕ) → 1 ≤ m → m ≤ length (centres (problem S) g) → (j : ℕ) → j < 8
       → getD (S .minima .b) j 0 ≤ countBelow (size S) (λ t. block D m t && eqb (tide S t .setting) (suc j))
 
+-- document 01's remark: in a valid study a partial solution exists at a radius exactly when an assignment does
 abbrev pub PartialSolutionExactly : Type 0
 PartialSolutionExactly = (S : Study) → Valid S → (g : ℕ) → ((D : ℕ → ℕ) × PartialSolution S g D) ↔ T (assignable (problem S) g)

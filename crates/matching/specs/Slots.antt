@@ -24,7 +24,7 @@ slotTest Q owner kind s = Q (at owner s) (at kind s)
 pub record Slots (blocks b0 : ℕ) (b owner kind : List ℕ) : Type 0 where
   pub law : (Q : ℕ → ℕ → Bool) → countBelow (blocks * b0) (slotTest Q owner kind) ≡ sumBelow blocks (blockSum Q b0 b)
 
--- the tables of the slots' blocks and kind-high
+-- the tables of the slots' blocks and kinds
 pub record Tables (owner kind : List ℕ) : Type 0 where
   pub owner-long : length owner ≡ maxTides
   pub kind-long : length kind ≡ maxTides

@@ -7,7 +7,7 @@ ghost use Rattle.study.specs.Limits.{maxTides, tableSize};
 ghost use Rattle.lists.specs.Lists.{at, TailKept};
 ghost use Rattle.matching.specs.Steps.{Owned, BlockOf, ListAnswer};
 
-// The block of the tide t: its slot's, or else the first allowed one; 120 where there is none.
+// The block of the tide t: its slot's, or else the first allowed one; MAX_TIDES where there is none.
 fn block_of(
     allowed: &[u8],
     blocks: usize,

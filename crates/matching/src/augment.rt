@@ -1,5 +1,5 @@
 // A matching that gives every slot a tide, by augmenting paths. tide[s] is the tide that the slot s
-// holds and slot[t] the slot that holds the tide t: 120 where there is none.
+// holds and slot[t] the slot that holds the tide t: MAX_TIDES where there is none.
 use study::MAX_TIDES;
 ghost use mathlib.Core.Path.{_≡_};
 ghost use mathlib.Core.Bool.{true, false};
@@ -7,16 +7,17 @@ ghost use Prim.Native.Nat.{_+_, _<_, _≤_};
 ghost use lib.ListN.{length, set};
 ghost use Rattle.study.specs.Limits.{maxTides, tableSize};
 ghost use Rattle.lists.specs.Lists.{at};
-ghost use Rattle.matching.specs.Matching.{Matching, Tree, Path, Unsaturable, freed};
-ghost use Rattle.matching.specs.Graph.{EdgeAt, Edge, Decides, SizedGraph, Wanted, Scanning, Marked, NoFreeTide, Free, Searched, Augmented, Saturated};
+ghost use Rattle.matching.specs.Matching.{Tree, Path, Unsaturable, freed};
+ghost use Rattle.matching.specs.Graph.{EdgeAt, Edge, Decides, SizedGraph, GraphMatching, Wanted, Scanning};
+ghost use Rattle.matching.specs.Graph.{Marked, NoFreeTide, Free, Searched, Augmented, Saturated};
 
-// The length of the queue after a scan, and the free tide that was met, or 120.
+// The length of the queue after a scan, and the free tide that was met, or MAX_TIDES.
 pub struct Scanned {
     pub tail: usize,
     pub free: usize,
 }
 
-// A free tide and the slot that it was seen from; 120 and 120 where none was met.
+// A free tide and the slot that it was seen from; both MAX_TIDES where none was met.
 pub struct Grown {
     pub slot: usize,
     pub tide: usize,
@@ -54,7 +55,8 @@ fn wanted(
     requires { ⌜ SizedGraph (now allowed) (now settings) (now owner) (now kind) slots tides ⌝ }
     requires { ⌜ s < slots ⌝ }
     requires { ⌜ t < tides ⌝ }
-    ensures { λ r. ⌜ Wanted (Edge (now (allowed .entry)) (now (settings .entry)) (now (owner .entry)) (now (kind .entry))) slots s t (now (from .entry)) r ⌝ }
+    ensures { λ r. ⌜ Wanted (Edge (now (allowed .entry)) (now (settings .entry)) (now (owner .entry)) (now (kind .entry)))
+        slots s t (now (from .entry)) r ⌝ }
 {
     if from[t] < slots {
         return false;
@@ -125,13 +127,14 @@ fn scan(
     s: usize,
     start: usize,
 ) -> Scanned
-    requires { ⌜ SizedGraph (now allowed) (now settings) (now owner) (now kind) slots tides ⌝ }
-    requires { ⌜ s < slots ⌝ }
-    requires { ⌜ at (now rank) s < maxTides ⌝ }
-    requires { ⌜ Matching (Edge (now allowed) (now settings) (now owner) (now kind)) slots tides (now tide) (now slot) ⌝ }
+    requires { ⌜ GraphMatching (now allowed) (now settings) (now owner) (now kind) slots tides (now tide) (now slot) ⌝ }
+    requires { ⌜ (s < slots) × (at (now rank) s < maxTides) ⌝ }
     requires { ⌜ Tree (Edge (now allowed) (now settings) (now owner) (now kind)) slots tides start (now tide) (now slot) (now from) (now rank) (now queue) ⌝ }
-    ensures { λ r. ⌜ Scanning (Edge (now (allowed .entry)) (now (settings .entry)) (now (owner .entry)) (now (kind .entry))) slots tides s start (r .free) (r .tail) (now (tide .entry)) (now (slot .entry)) (now (from .entry)) (now (rank .entry)) (now (queue .entry)) (now (from .exit)) (now (rank .exit)) (now (queue .exit)) ⌝ }
-    ensures { λ r. ⌜ (r .free < tides → Free (Edge (now (allowed .entry)) (now (settings .entry)) (now (owner .entry)) (now (kind .entry))) slots s (r .free) (now (slot .entry))) ⌝ }
+    ensures { λ r. ⌜ Scanning (Edge (now (allowed .entry)) (now (settings .entry)) (now (owner .entry)) (now (kind .entry)))
+        slots tides s start (r .free) (r .tail) (now (tide .entry)) (now (slot .entry))
+        (now (from .entry)) (now (rank .entry)) (now (queue .entry)) (now (from .exit)) (now (rank .exit)) (now (queue .exit)) ⌝ }
+    ensures { λ r. ⌜ (r .free < tides → Free (Edge (now (allowed .entry)) (now (settings .entry)) (now (owner .entry)) (now (kind .entry)))
+        slots s (r .free) (now (slot .entry))) ⌝ }
     ensures { λ r. ⌜ (tides ≤ r .free → r .free ≡ maxTides) ⌝ }
 {
     let mut tail = start;
@@ -174,15 +177,17 @@ fn visit(
     s: usize,
     start: usize,
 ) -> Scanned
-    requires { ⌜ SizedGraph (now allowed) (now settings) (now owner) (now kind) slots tides ⌝ }
-    requires { ⌜ s < slots ⌝ }
-    requires { ⌜ at (now rank) s < maxTides ⌝ }
-    requires { ⌜ Matching (Edge (now allowed) (now settings) (now owner) (now kind)) slots tides (now tide) (now slot) ⌝ }
+    requires { ⌜ GraphMatching (now allowed) (now settings) (now owner) (now kind) slots tides (now tide) (now slot) ⌝ }
+    requires { ⌜ (s < slots) × (at (now rank) s < maxTides) ⌝ }
     requires { ⌜ Tree (Edge (now allowed) (now settings) (now owner) (now kind)) slots tides start (now tide) (now slot) (now from) (now rank) (now queue) ⌝ }
     requires { ⌜ Marked (now allowed) (now settings) slots tides (now mark) (now from) ⌝ }
-    ensures { λ r. ⌜ Scanning (Edge (now (allowed .entry)) (now (settings .entry)) (now (owner .entry)) (now (kind .entry))) slots tides s start (r .free) (r .tail) (now (tide .entry)) (now (slot .entry)) (now (from .entry)) (now (rank .entry)) (now (queue .entry)) (now (from .exit)) (now (rank .exit)) (now (queue .exit)) ⌝ }
-    ensures { λ r. ⌜ (r .free < tides → Free (Edge (now (allowed .entry)) (now (settings .entry)) (now (owner .entry)) (now (kind .entry))) slots s (r .free) (now (slot .entry))) ⌝ }
-    ensures { λ r. ⌜ (tides ≤ r .free → NoFreeTide (now (allowed .entry)) (now (settings .entry)) slots tides (r .free) (now (mark .exit)) (now (from .exit))) ⌝ }
+    ensures { λ r. ⌜ Scanning (Edge (now (allowed .entry)) (now (settings .entry)) (now (owner .entry)) (now (kind .entry)))
+        slots tides s start (r .free) (r .tail) (now (tide .entry)) (now (slot .entry))
+        (now (from .entry)) (now (rank .entry)) (now (queue .entry)) (now (from .exit)) (now (rank .exit)) (now (queue .exit)) ⌝ }
+    ensures { λ r. ⌜ (r .free < tides → Free (Edge (now (allowed .entry)) (now (settings .entry)) (now (owner .entry)) (now (kind .entry)))
+        slots s (r .free) (now (slot .entry))) ⌝ }
+    ensures { λ r. ⌜ (tides ≤ r .free → NoFreeTide (now (allowed .entry)) (now (settings .entry))
+        slots tides (r .free) (now (mark .exit)) (now (from .exit))) ⌝ }
 {
     let any = owner[s] * 9;
     if mark[any] != 0 {
@@ -232,11 +237,11 @@ fn grow(
     queue: &mut [usize; MAX_TIDES],
     mark: &mut [u8; 1080],
 ) -> Grown
-    requires { ⌜ SizedGraph (now allowed) (now settings) (now owner) (now kind) slots tides ⌝ }
-    requires { ⌜ Matching (Edge (now allowed) (now settings) (now owner) (now kind)) slots tides (now tide) (now slot) ⌝ }
+    requires { ⌜ GraphMatching (now allowed) (now settings) (now owner) (now kind) slots tides (now tide) (now slot) ⌝ }
     requires { ⌜ Tree (Edge (now allowed) (now settings) (now owner) (now kind)) slots tides 1 (now tide) (now slot) (now from) (now rank) (now queue) ⌝ }
     requires { ⌜ Marked (now allowed) (now settings) slots tides (now mark) (now from) ⌝ }
-    ensures { λ r. ⌜ Searched (Edge (now (allowed .entry)) (now (settings .entry)) (now (owner .entry)) (now (kind .entry))) slots tides (at (now (queue .entry)) 0) (r .slot) (r .tide) (now (tide .entry)) (now (slot .entry)) (now (from .exit)) (now (rank .exit)) ⌝ }
+    ensures { λ r. ⌜ Searched (Edge (now (allowed .entry)) (now (settings .entry)) (now (owner .entry)) (now (kind .entry)))
+        slots tides (at (now (queue .entry)) 0) (r .slot) (r .tide) (now (tide .entry)) (now (slot .entry)) (now (from .exit)) (now (rank .exit)) ⌝ }
 {
     let mut head = 0;
     let mut tail = 1;
@@ -289,14 +294,12 @@ fn shift(
     s0: usize,
     t0: usize,
 )
-    requires { ⌜ SizedGraph (now allowed) (now settings) (now owner) (now kind) slots tides ⌝ }
-    requires { ⌜ s0 < slots ⌝ }
-    requires { ⌜ t0 < tides ⌝ }
-    requires { ⌜ at (now rank) s0 < maxTides ⌝ }
-    requires { ⌜ Matching (Edge (now allowed) (now settings) (now owner) (now kind)) slots tides (now tide) (now slot) ⌝ }
+    requires { ⌜ GraphMatching (now allowed) (now settings) (now owner) (now kind) slots tides (now tide) (now slot) ⌝ }
+    requires { ⌜ (s0 < slots) × (t0 < tides) × (at (now rank) s0 < maxTides) ⌝ }
     requires { ⌜ Free (Edge (now allowed) (now settings) (now owner) (now kind)) slots s0 t0 (now slot) ⌝ }
     requires { ⌜ Path (Edge (now allowed) (now settings) (now owner) (now kind)) slots tides root (at (now rank) s0 + 1) (now tide) (now from) (now rank) ⌝ }
-    ensures { λ _. ⌜ Augmented (Edge (now (allowed .entry)) (now (settings .entry)) (now (owner .entry)) (now (kind .entry))) slots tides root (now (tide .entry)) (now (tide .exit)) (now (slot .exit)) ⌝ }
+    ensures { λ _. ⌜ Augmented (Edge (now (allowed .entry)) (now (settings .entry)) (now (owner .entry)) (now (kind .entry)))
+        slots tides root (now (tide .entry)) (now (tide .exit)) (now (slot .exit)) ⌝ }
 {
     let mut s = s0;
     let mut t = t0;
@@ -323,12 +326,12 @@ fn augment_from(
     slot: &mut [usize; MAX_TIDES],
     root: usize,
 ) -> bool
-    requires { ⌜ SizedGraph (now allowed) (now settings) (now owner) (now kind) slots tides ⌝ }
-    requires { ⌜ Matching (Edge (now allowed) (now settings) (now owner) (now kind)) slots tides (now tide) (now slot) ⌝ }
-    requires { ⌜ root < slots ⌝ }
-    requires { ⌜ tides ≤ at (now tide) root ⌝ }
-    ensures { λ r. ⌜ (r ≡ true → Augmented (Edge (now (allowed .entry)) (now (settings .entry)) (now (owner .entry)) (now (kind .entry))) slots tides root (now (tide .entry)) (now (tide .exit)) (now (slot .exit))) ⌝ }
-    ensures { λ r. ⌜ (r ≡ false → Unsaturable (Edge (now (allowed .entry)) (now (settings .entry)) (now (owner .entry)) (now (kind .entry))) slots tides) ⌝ }
+    requires { ⌜ GraphMatching (now allowed) (now settings) (now owner) (now kind) slots tides (now tide) (now slot) ⌝ }
+    requires { ⌜ (root < slots) × (tides ≤ at (now tide) root) ⌝ }
+    ensures { λ r. ⌜ (r ≡ true → Augmented (Edge (now (allowed .entry)) (now (settings .entry)) (now (owner .entry)) (now (kind .entry)))
+        slots tides root (now (tide .entry)) (now (tide .exit)) (now (slot .exit))) ⌝ }
+    ensures { λ r. ⌜ (r ≡ false → Unsaturable (Edge (now (allowed .entry)) (now (settings .entry)) (now (owner .entry)) (now (kind .entry)))
+        slots tides) ⌝ }
 {
     let mut from: [usize; MAX_TIDES] = [MAX_TIDES; MAX_TIDES];
     let mut rank: [usize; MAX_TIDES] = [MAX_TIDES; MAX_TIDES];
@@ -384,10 +387,11 @@ pub fn saturate(
     tide: &mut [usize; MAX_TIDES],
     slot: &mut [usize; MAX_TIDES],
 ) -> bool
-    requires { ⌜ SizedGraph (now allowed) (now settings) (now owner) (now kind) slots tides ⌝ }
-    requires { ⌜ Matching (Edge (now allowed) (now settings) (now owner) (now kind)) slots tides (now tide) (now slot) ⌝ }
-    ensures { λ r. ⌜ (r ≡ true → Saturated (Edge (now (allowed .entry)) (now (settings .entry)) (now (owner .entry)) (now (kind .entry))) slots tides slots (now (tide .exit)) (now (slot .exit))) ⌝ }
-    ensures { λ r. ⌜ (r ≡ false → Unsaturable (Edge (now (allowed .entry)) (now (settings .entry)) (now (owner .entry)) (now (kind .entry))) slots tides) ⌝ }
+    requires { ⌜ GraphMatching (now allowed) (now settings) (now owner) (now kind) slots tides (now tide) (now slot) ⌝ }
+    ensures { λ r. ⌜ (r ≡ true → Saturated (Edge (now (allowed .entry)) (now (settings .entry)) (now (owner .entry)) (now (kind .entry)))
+        slots tides slots (now (tide .exit)) (now (slot .exit))) ⌝ }
+    ensures { λ r. ⌜ (r ≡ false → Unsaturable (Edge (now (allowed .entry)) (now (settings .entry)) (now (owner .entry)) (now (kind .entry)))
+        slots tides) ⌝ }
 {
     // How many slots are still to be looked at.
     let mut left = slots;

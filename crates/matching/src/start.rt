@@ -6,8 +6,9 @@ ghost use Prim.Native.Nat.{_<_, _≤_};
 ghost use lib.ListN.{length};
 ghost use Rattle.study.specs.Limits.{maxTides};
 ghost use Rattle.matching.specs.Matching.{Matching};
-ghost use Rattle.matching.specs.Graph.{Edge, SizedGraph};
+ghost use Rattle.matching.specs.Graph.{Edge, GraphMatching};
 
+// A byte as a number that can stand for a place.
 fn wide(x: u8) -> usize {
     x as usize
 }
@@ -28,12 +29,10 @@ fn take_next(
     k: u8,
     t: usize,
 )
-    requires { ⌜ SizedGraph (now allowed) (now settings) (now owner) (now kind) slots n ⌝ }
-    requires { ⌜ Matching (Edge (now allowed) (now settings) (now owner) (now kind)) slots n (now tide) (now slot) ⌝ }
-    requires { ⌜ m < maxTides ⌝ }
-    requires { ⌜ k ≤ 8 ⌝ }
-    requires { ⌜ t < n ⌝ }
-    ensures { λ _. ⌜ Matching (Edge (now (allowed .entry)) (now (settings .entry)) (now (owner .entry)) (now (kind .entry))) slots n (now (tide .exit)) (now (slot .exit)) ⌝ }
+    requires { ⌜ GraphMatching (now allowed) (now settings) (now owner) (now kind) slots n (now tide) (now slot) ⌝ }
+    requires { ⌜ (m < maxTides) × (k ≤ 8) × (t < n) ⌝ }
+    ensures { λ _. ⌜ Matching (Edge (now (allowed .entry)) (now (settings .entry)) (now (owner .entry)) (now (kind .entry)))
+        slots n (now (tide .exit)) (now (slot .exit)) ⌝ }
 {
     let s = wide(next[m * 9 + (k as usize)]);
     if s >= slots {
@@ -69,10 +68,10 @@ pub fn start_matching(
     next: &mut [u8; 1080],
     hint: &[u8],
 )
-    requires { ⌜ SizedGraph (now allowed) (now settings) (now owner) (now kind) slots n ⌝ }
+    requires { ⌜ GraphMatching (now allowed) (now settings) (now owner) (now kind) slots n (now tide) (now slot) ⌝ }
     requires { ⌜ n ≤ length (now hint) ⌝ }
-    requires { ⌜ Matching (Edge (now allowed) (now settings) (now owner) (now kind)) slots n (now tide) (now slot) ⌝ }
-    ensures { λ _. ⌜ Matching (Edge (now (allowed .entry)) (now (settings .entry)) (now (owner .entry)) (now (kind .entry))) slots n (now (tide .exit)) (now (slot .exit)) ⌝ }
+    ensures { λ _. ⌜ Matching (Edge (now (allowed .entry)) (now (settings .entry)) (now (owner .entry)) (now (kind .entry)))
+        slots n (now (tide .exit)) (now (slot .exit)) ⌝ }
 {
     let mut t = 0;
     while t < n {

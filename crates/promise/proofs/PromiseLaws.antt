@@ -1,5 +1,4 @@
--- What a search for an assignment promises, for any test E of which sets of tides are sufficient. Blocks and tides are numbered from 0
--- here; a set of tides is a test of the tide's number, and an assignment gives each tide the number of its block. Assumes nothing.
+-- What a search may assume stays while lengths do. Assumes nothing.
 use Prim.Native.Nat.{ℕ}
 use native.Mathlib.Omega.{arith}
 use mathlib.Core.Path.{_≡_}
@@ -8,8 +7,8 @@ use lib.ListN.{length}
 use Rattle.promise.specs.Promise.{Asked}
 
 -- another table and list of the same lengths
-pub asked-on : {Able : Type 0} {n blocks : ℕ} {old new list list′ : List ℕ} → Asked Able n blocks old list → length new ≡ length old → length list′ ≡ length list
-    → Asked Able n blocks new list′
+pub asked-on : {Able : Type 0} {n blocks : ℕ} {old new list list′ : List ℕ} → Asked Able n blocks old list → length new ≡ length old
+    → length list′ ≡ length list → Asked Able n blocks new list′
 asked-on A e q =
     record {
       few-tides = A .few-tides;
@@ -18,5 +17,3 @@ asked-on A e q =
       list-long = omega (arith, A .list-long);
       able = A .able;
     }
-
--- ---- what is asked of a test

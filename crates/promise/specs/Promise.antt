@@ -1,14 +1,14 @@
 -- What a search for an assignment may assume and what it promises, for any test of which sets of tides are sufficient: all that crates
 -- above know of a search, and all that another one in its place must keep. Blocks and tides are numbered from 0 here; a set of tides is a
 -- test of the tide's number, and an assignment gives each tide the number of its block. Assumes nothing.
-use Prim.Native.Nat.{ℕ, _≤_, _<_, _+_, _*_}
+use Prim.Native.Nat.{ℕ, _≤_, _<_}
 use mathlib.Core.Path.{_≡_}
 use mathlib.Core.List.{List}
 use mathlib.Core.Bool.{Bool, true, false, not}
 use lib.Dec.{T, eqb}
-use lib.ListN.{length, getD, drop}
-use Rattle.lists.specs.Lists.{sumBelow, countBelow}
-use Rattle.study.specs.Limits.{maxTides, tableSize}
+use lib.ListN.{length, getD}
+use Rattle.lists.specs.Lists.{sumBelow, countBelow, TailKept}
+use Rattle.study.specs.Limits.{maxTides, tableSize, cell}
 use Rattle.study.specs.declared.Minima.{Minima}
 use Rattle.study.specs.Study.{meets}
 use Rattle.study.specs.Problem.{block, labels}
@@ -27,9 +27,9 @@ pub record AtLeast (n b : ℕ) (E : Test) : Type 0 where
 
 -- ---- the table of allowed pairs
 
--- tide t may go to block m, by a table in rows of 120: a row for each block, so that a scan of a block runs along memory
+-- tide t may go to block m, by a table in rows of maxTides: a row for each block, so that a scan of a block runs along memory
 unfoldable pub allows : List ℕ → ℕ → ℕ → Bool
-allows allowed t m = not (eqb (getD allowed (m * maxTides + t) 0) 0)
+allows allowed t m = not (eqb (cell allowed m t) 0)
 
 -- the tide t may go to no block below blocks
 abbrev pub Nowhere : (allowed : List ℕ) (t blocks : ℕ) → Type 0
@@ -66,8 +66,8 @@ pub record Promise (n blocks : ℕ) (E : Test) (allowed list list′ : List ℕ)
   pub found : r ≡ true → Assigned n blocks E allowed (labels list′)
   -- on no there is none
   pub none : r ≡ false → (D : ℕ → ℕ) → Assigned n blocks E allowed D → ⊥
-  pub same-length : length list′ ≡ length list
-  pub rest : drop n list′ ≡ drop n list
+  -- the places past the n tides stay
+  pub tail : TailKept n list list′
 
 -- ---- the minima as a test of sets of tides
 

@@ -1,11 +1,11 @@
-// The table of allowed pairs, a row of 120 places for each block.
+// The table of allowed pairs, a row of MAX_TIDES places for each block.
 use study::MAX_TIDES;
 ghost use Prim.Native.Nat.{_<_, _≤_};
 ghost use lib.ListN.{length};
 ghost use Rattle.study.specs.Limits.{maxTides, tableSize};
 ghost use Rattle.promise.specs.Promise.{FirstAllowed};
 
-// The first block that the tide t may go to, or 120 where there is none.
+// The first block that the tide t may go to, or MAX_TIDES where there is none.
 pub fn first_allowed(allowed: &[u8], t: usize, blocks: usize) -> usize
     requires { ⌜ blocks ≤ maxTides ⌝ }
     requires { ⌜ t < maxTides ⌝ }

@@ -9,14 +9,14 @@ use lib.ListN.{length, getD, set, length-set}
 use lib.Seq.{getD-set-same, getD-set-other}
 use Rattle.lists.specs.Lists.{bit}
 use Rattle.lists.proofs.Tests.{split}
-use Rattle.study.specs.Limits.{cell}
+use Rattle.study.specs.Limits.{cell, maxTides}
 use Rattle.radius_search.specs.Table.{entry, RowTo, Table}
 
 pub row-none : (d : List ℕ) (c g m : ℕ) (old : List ℕ) → RowTo d c g m 0 old old
 row-none d c g m old = record { same-length = refl; other = λ y t l e. refl; here = λ t l. absurd (omega arith) }
 
-pub row-more : {d : List ℕ} {c g m i : ℕ} {old new : List ℕ} (v : ℕ) → RowTo d c g m i old new → i < 120 → (m + 1) * 120 ≤ length old → v ≡ bit (leb (cell d c i) g)
-    → RowTo d c g m (i + 1) old (set new (m * 120 + i) v)
+pub row-more : {d : List ℕ} {c g m i : ℕ} {old new : List ℕ} (v : ℕ) → RowTo d c g m i old new → i < 120 → (m + 1) * 120 ≤ length old
+    → v ≡ bit (leb (cell d c i) g) → RowTo d c g m (i + 1) old (set new (m * 120 + i) v)
 row-more {d} {c} {g} {m} {i} {old} {new} v R few long e =
     record {
       same-length = simp length-set (R .same-length);
@@ -24,7 +24,8 @@ row-more {d} {c} {g} {m} {i} {old} {new} v R few long e =
       here = λ t l. ⊎-elim
           (λ k. getD-set-other new (m * 120 + i) (m * 120 + t) v 0 (λ z. omega arith) ∙ R .here t k)
           (λ k. let q : i ≡ t = omega arith in
-          subst (λ z. cell (set new (m * 120 + i) v) m z ≡ bit (leb (cell d c z) g)) q (getD-set-same new (m * 120 + i) v 0 (omega (arith, R .same-length)) ∙ e))
+          subst (λ z. cell (set new (m * 120 + i) v) m z ≡ bit (leb (cell d c z) g)) q
+          (getD-set-same new (m * 120 + i) v 0 (omega (arith, R .same-length)) ∙ e))
           (split t i);
     }
 
@@ -34,7 +35,8 @@ row-done {d} {c} {g} {m} {old = old} {new = new} e R = subst (λ z. RowTo d c g 
 pub table-none : (d cs : List ℕ) (g n : ℕ) (old : List ℕ) → Table d cs g 0 n old old
 table-none d cs g n old = record { same-length = refl; here = λ t m l k. absurd (omega arith) }
 
-pub table-more : {d cs : List ℕ} {g m n : ℕ} {old mid new : List ℕ} → n ≤ 120 → Table d cs g m n old mid → RowTo d (getD cs m 0) g m n mid new → Table d cs g (m + 1) n old new
+pub table-more : {d cs : List ℕ} {g m n : ℕ} {old mid new : List ℕ} → n ≤ maxTides → Table d cs g m n old mid → RowTo d (getD cs m 0) g m n mid new
+    → Table d cs g (m + 1) n old new
 table-more {d} {cs} {g} {m} {n} {old} {mid} {new} few A R =
     record {
       same-length = R .same-length ∙ A .same-length;

@@ -11,15 +11,13 @@ use lib.ListN.{length, getD, set, replicate, length-replicate, getD-replicate, l
 use lib.Seq.{ext-getD, getD-set-same, getD-set-other}
 use borrow.Author.Tests.{eq-eqb, ne-eqb}
 use Rattle.lists.specs.Lists.{every, bit, countBelow}
-use Rattle.lists.proofs.Counts.{sum-suc, count-zero, count-most}
+use Rattle.lists.proofs.Counting.{count-next}
+use Rattle.lists.proofs.Counts.{count-zero, count-most}
 use Rattle.lists.proofs.Tables.{length-tabulate, getD-tabulate}
+use Rattle.study.specs.Limits.{maxTides}
 use Rattle.study.specs.declared.Minima.{Minima}
 use Rattle.study.specs.Study.{meets}
-use Rattle.radius_search.specs.Tally.{tally, Tallied, met}
-
-count-more : (t : ℕ) (p : ℕ → Bool) → countBelow (t + 1) p ≡ countBelow t p + bit (p t)
-unfolding countBelow
-count-more t p = rw (add-one t) (sum-suc t (λ u. bit (p u)))
+use Rattle.radius_search.specs.Tally.{tally, Tallied, TallyRoom, TallyStep, met}
 
 module _ (s : List ℕ) (p : ℕ → Bool) where
   tally-length : (t : ℕ) → length (tally s p t) ≡ 9
@@ -45,7 +43,8 @@ module _ (s : List ℕ) (p : ℕ → Bool) where
   tally-add : (t r : ℕ) → r ≡ getD s t 0 → r < 9 → set (tally s p t) r (getD (tally s p t) r 0 + bit (p t)) ≡ tally s p (t + 1)
   tally-add t r e l =
       ext-getD 0 _ (tally s p (t + 1)) (simp length-set (tally-length t ∙ sym (tally-length (t + 1))))
-      (λ j k. let q : j < 9 = omega (arith, tally-length t, rw length-set at k) in side j q (ℕ-discrete j r) ∙ sym (tally-at (t + 1) j q ∙ count-more t (λ u. p u && eqb (getD s u 0) j)))
+      (λ j k. let q : j < 9 = omega (arith, tally-length t, rw length-set at k) in
+      side j q (ℕ-discrete j r) ∙ sym (tally-at (t + 1) j q ∙ count-next t (λ u. p u && eqb (getD s u 0) j)))
     where
       own : (b : Bool) → bit b ≡ bit (b && eqb (getD s t 0) r)
       own true = ap bit (sym (eq-eqb (getD s t 0) r (sym e)))
@@ -58,18 +57,19 @@ module _ (s : List ℕ) (p : ℕ → Bool) where
       side : (j : ℕ) → j < 9 → Dec (j ≡ r) → getD (set (tally s p t) r (getD (tally s p t) r 0 + bit (p t))) j 0
           ≡ countBelow t (λ u. p u && eqb (getD s u 0) j) + bit (p t && eqb (getD s t 0) j)
       side j q (yes f) =
-          rw f (getD-set-same (tally s p t) r (getD (tally s p t) r 0 + bit (p t)) 0 (omega (arith, tally-length t)) ∙ ap₂ (λ a b. a + b) (tally-at t r l) (own (p t)))
+          rw f (getD-set-same (tally s p t) r (getD (tally s p t) r 0 + bit (p t)) 0 (omega (arith, tally-length t))
+          ∙ ap₂ (λ a b. a + b) (tally-at t r l) (own (p t)))
       side j q (no f) =
           getD-set-other (tally s p t) r j (getD (tally s p t) r 0 + bit (p t)) 0 f
           ∙ tally-at t j q
           ∙ let z = other j (p t) f in omega arith
 
 module _ {s : List ℕ} {p : ℕ → Bool} where
-  pub tallied-more : {t found : ℕ} {counts : List ℕ} (x r : ℕ) → Tallied s p t found counts → x ≡ bit (p t) → r ≡ getD s t 0 → r < 9
+  tallied-more : {t found : ℕ} {counts : List ℕ} (x r : ℕ) → Tallied s p t found counts → x ≡ bit (p t) → r ≡ getD s t 0 → r < 9
       → Tallied s p (t + 1) (found + x) (set counts r (getD counts r 0 + x))
   tallied-more {t} x r A e f l =
       record {
-        found-is = ap₂ (λ a b. a + b) (A .found-is) e ∙ sym (count-more t p);
+        found-is = ap₂ (λ a b. a + b) (A .found-is) e ∙ sym (count-next t p);
         counts-are = rw (A .counts-are, e) (tally-add s p t r f l);
       }
 
@@ -85,6 +85,25 @@ module _ {s : List ℕ} {p : ℕ → Bool} where
 
   pub tallied-small : {t found : ℕ} {counts : List ℕ} → Tallied s p t found counts → (j : ℕ) → j < 9 → getD counts j 0 ≤ t
   tallied-small {t} A j l = rw (A .counts-are) (omega (arith, tally-at s p t j l, count-most t (λ u. p u && eqb (getD s u 0) j)))
+
+-- ---- one more tide, as a step of a loop
+
+-- where tides are few and have one of the settings, the next can be counted
+pub tally-room : {s : List ℕ} {p : ℕ → Bool} {t one found : ℕ} {counts : List ℕ} → t < length s → getD s t 0 ≤ 8 → t ≤ maxTides → one ≤ 1
+    → Tallied s p t found counts → TallyRoom s t one found counts
+tally-room l h k o A =
+    record {
+      inside = l;
+      setting-high = h;
+      long = tallied-long A;
+      small = λ j q. omega (arith, tallied-small A j q);
+      few = omega (arith, tallied-few A);
+      once = o;
+    }
+
+pub tally-step : {s counts : List ℕ} {t one found : ℕ} (r : ℕ) → r ≡ getD s t 0 → getD s t 0 ≤ 8
+    → TallyStep s t one found counts (found + one) (set counts r (getD counts r 0 + one))
+tally-step {one = one} r e h = record { more = λ p A q. tallied-more one r A q e (omega arith) }
 
 -- ---- the minima, from the counts
 

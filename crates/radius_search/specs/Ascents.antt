@@ -42,6 +42,7 @@ pub record Ascent (d : List ℕ) (n : ℕ) (E : Test) (cs : List ℕ) (count sta
   pub table : r < limit → Table d cs r count n old allowed
   pub found : r < limit → Assigned n count E allowed (labels list)
 
+-- g is the least radius with an assignment; centres and table are those of g, and list is an assignment there
 pub record Least (d : List ℕ) (n : ℕ) (E : Test) (g count : ℕ) (cs old allowed list : List ℕ) : Type 0 where
   pub centres : CentresAt d n g count cs
   pub table : Table d cs g count n old allowed

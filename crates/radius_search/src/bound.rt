@@ -1,16 +1,17 @@
 // Balls, and a bound below which no radius has an assignment: the first tide is always a centre, so its ball must be sufficient.
 use crate::counts::counts_meet;
-use crate::counts::wide;
-use study::Minima;
-use study::MAX_TIDES;
+use crate::counts::tally_one;
 use study::MAX_DISTANCE;
+use study::MAX_TIDES;
+use study::Minima;
 ghost use mathlib.Core.Path.{_≡_};
 ghost use Prim.Native.Nat.{_<_, _≤_};
 ghost use lib.Dec.{leb};
 ghost use lib.ListN.{replicate};
 ghost use Rattle.lists.specs.Lists.{bit};
-ghost use Rattle.promise.specs.Promise.{meeting, Able};
-ghost use Rattle.radius_theory.specs.Arrays.{SizedArrays, ball};
+ghost use Rattle.promise.specs.Promise.{meeting};
+ghost use Rattle.radius_theory.specs.Arrays.{ball};
+ghost use Rattle.radius_search.specs.Inputs.{SizedInput};
 ghost use Rattle.radius_search.specs.Bounds.{Bounded};
 ghost use Rattle.radius_search.specs.Tally.{Tallied};
 
@@ -34,7 +35,7 @@ fn count_ball(
     g: u32,
     counts: &mut [usize; 9],
 ) -> usize
-    requires { ⌜ SizedArrays (Able minima n (now settings)) (now distances) n ⌝ }
+    requires { ⌜ SizedInput (now distances) (now settings) n minima ⌝ }
     requires { ⌜ c < n ⌝ }
     requires { ⌜ now counts ≡ replicate 9 0 ⌝ }
     ensures { λ r. ⌜ Tallied (now (settings .entry)) (ball (now (distances .entry)) c g) n r (now (counts .exit)) ⌝ }
@@ -43,9 +44,7 @@ fn count_ball(
     let mut t = 0;
     while t < n {
         let one = within_radius(distances[c * MAX_TIDES + t], g);
-        let s = wide(settings[t]);
-        counts[s] = counts[s] + one;
-        found = found + one;
+        found = tally_one(settings, t, one, found, counts);
         t += 1;
     }
     found
@@ -60,7 +59,7 @@ pub fn ball_meets(
     c: usize,
     g: u32,
 ) -> bool
-    requires { ⌜ SizedArrays (Able minima n (now settings)) (now distances) n ⌝ }
+    requires { ⌜ SizedInput (now distances) (now settings) n minima ⌝ }
     requires { ⌜ c < n ⌝ }
     ensures { λ r. ⌜ r ≡ meeting minima n (now (settings .entry)) (ball (now (distances .entry)) c g) ⌝ }
 {
@@ -71,7 +70,7 @@ pub fn ball_meets(
 
 // A radius below which none has an assignment.
 pub fn lower_bound(distances: &[u32], settings: &[u8], n: usize, minima: Minima) -> u32
-    requires { ⌜ SizedArrays (Able minima n (now settings)) (now distances) n ⌝ }
+    requires { ⌜ SizedInput (now distances) (now settings) n minima ⌝ }
     requires { ⌜ 0 < n ⌝ }
     ensures { λ r. ⌜ Bounded (now (distances .entry)) n (meeting minima n (now (settings .entry))) r ⌝ }
 {

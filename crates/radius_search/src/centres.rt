@@ -1,13 +1,11 @@
 // The centres at a radius.
 use study::MAX_TIDES;
 ghost use mathlib.Core.Path.{_≡_};
-ghost use Prim.Native.Nat.{ℕ, _*_, _<_, _≤_};
-ghost use lib.Dec.{ltb};
-ghost use lib.ListN.{length, getD, take};
-ghost use Rattle.lists.specs.Lists.{allOf};
+ghost use Prim.Native.Nat.{_<_};
+ghost use lib.ListN.{length};
 ghost use Rattle.study.specs.Limits.{maxTides};
-ghost use Rattle.radius_theory.specs.Arrays.{within};
-ghost use Rattle.radius_search.specs.Front.{CentresAt};
+ghost use Rattle.radius_search.specs.Front.{CentresAt, FarFrom};
+ghost use Rattle.radius_search.specs.Inputs.{DistanceRows, TidesIn};
 
 // Whether tide t is farther than g from each of the first count centres.
 fn far_from(
@@ -18,9 +16,10 @@ fn far_from(
     g: u32,
     t: usize,
 ) -> bool
-    requires { ⌜ (n ≤ maxTides) × (n * maxTides ≤ length (now distances)) × (length (now centres) ≡ maxTides) × (count ≤ maxTides) × (t < n) ⌝ }
-    requires { ⌜ ((m : ℕ) → m < count → getD (now centres) m 0 < n) ⌝ }
-    ensures { λ r. ⌜ r ≡ allOf (λ c. ltb g (within (now (distances .entry)) n c t)) (take count (now (centres .entry))) ⌝ }
+    requires { ⌜ DistanceRows (now distances) n ⌝ }
+    requires { ⌜ TidesIn (now centres) count n ⌝ }
+    requires { ⌜ (length (now centres) ≡ maxTides) × (t < n) ⌝ }
+    ensures { λ r. ⌜ FarFrom (now (distances .entry)) n g t count (now (centres .entry)) r ⌝ }
 {
     let mut m = 0;
     while m < count {
@@ -34,7 +33,8 @@ fn far_from(
 
 // Writes the centres at g to the front of the table, and tells how many there are.
 pub fn find_centres(distances: &[u32], n: usize, g: u32, centres: &mut [usize; MAX_TIDES]) -> usize
-    requires { ⌜ (n ≤ maxTides) × (n * maxTides ≤ length (now distances)) × (length (now centres) ≡ maxTides) ⌝ }
+    requires { ⌜ DistanceRows (now distances) n ⌝ }
+    requires { ⌜ length (now centres) ≡ maxTides ⌝ }
     ensures { λ r. ⌜ CentresAt (now (distances .entry)) n g r (now (centres .exit)) ⌝ }
 {
     let mut count = 0;

@@ -2,12 +2,30 @@
 use study::Minima;
 ghost use mathlib.Core.Path.{_≡_};
 ghost use lib.ListN.{length};
-ghost use Rattle.radius_search.specs.Tally.{met};
+ghost use Rattle.radius_search.specs.Tally.{TallyRoom, TallyStep, met};
 
+// A byte as a number that can stand for a place.
 pub fn wide(x: u8) -> usize
     ensures { λ r. ⌜ r ≡ x ⌝ }
 {
     x as usize
+}
+
+// Counts tide t where one is 1, by its setting and among those found, and changes nothing where it is 0: a loop over tides has no branch.
+// Hands back how many are found.
+pub fn tally_one(
+    settings: &[u8],
+    t: usize,
+    one: usize,
+    found: usize,
+    counts: &mut [usize; 9],
+) -> usize
+    requires { ⌜ TallyRoom (now settings) t one found (now counts) ⌝ }
+    ensures { λ r. ⌜ TallyStep (now (settings .entry)) t one found (now (counts .entry)) r (now (counts .exit)) ⌝ }
+{
+    let s = wide(settings[t]);
+    counts[s] = counts[s] + one;
+    found + one
 }
 
 // Whether so many tides, of which each setting has so many, meet the minima. Place 0 of the counts is unused.

@@ -12,15 +12,14 @@ use crate::next::first_from;
 use crate::next::next_in_pairs;
 use crate::table::allow;
 use matching::search;
-use study::Minima;
 use study::MAX_TIDES;
+use study::Minima;
 ghost use mathlib.Core.Path.{_≡_};
-ghost use Prim.Native.Nat.{_-_, _<_, _≤_};
+ghost use Prim.Native.Nat.{_-_, _<_};
 ghost use lib.ListN.{length};
-ghost use Rattle.study.specs.Limits.{maxTides, tableSize};
-ghost use Rattle.promise.specs.Promise.{meeting, Able};
-ghost use Rattle.radius_theory.specs.Arrays.{arrayProblem, ValidArrays, SizedArrays};
+ghost use Rattle.promise.specs.Promise.{meeting};
 ghost use Rattle.radius_theory.specs.Radii.{Lowest, Ahead};
+ghost use Rattle.radius_search.specs.Inputs.{posed, SizedInput, ValidInput, Input, Room, Lent};
 ghost use Rattle.radius_search.specs.Front.{CentresAt};
 ghost use Rattle.lists.specs.Lists.{TailKept};
 ghost use Rattle.radius_search.specs.Ascents.{Steady, Some, RadiusTried, Bisected, Ascent, Least};
@@ -37,11 +36,11 @@ fn assignable(
     allowed: &mut [u8],
     list: &mut [u8],
 ) -> bool
-    requires { ⌜ SizedArrays (Able minima n (now settings)) (now distances) n ⌝ }
-    requires { ⌜ ValidArrays (now distances) n (meeting minima n (now settings)) ⌝ }
+    requires { ⌜ Input (now distances) (now settings) n minima ⌝ }
     requires { ⌜ CentresAt (now distances) n g count (now centres) ⌝ }
-    requires { ⌜ (tableSize ≤ length (now allowed)) × (n ≤ length (now list)) ⌝ }
-    ensures { λ r. ⌜ RadiusTried (now (distances .entry)) n (meeting minima n (now (settings .entry))) (now (centres .entry)) count g (now (allowed .entry)) (now (allowed .exit)) (now (list .exit)) r ⌝ }
+    requires { ⌜ Room n (now allowed) (now list) ⌝ }
+    ensures { λ r. ⌜ RadiusTried (now (distances .entry)) n (meeting minima n (now (settings .entry)))
+        (now (centres .entry)) count g (now (allowed .entry)) (now (allowed .exit)) (now (list .exit)) r ⌝ }
     ensures { λ _. ⌜ TailKept n (now (list .entry)) (now (list .exit)) ⌝ }
 {
     allow(distances, n, centres, count, g, allowed);
@@ -62,11 +61,10 @@ fn bisect(
     allowed: &mut [u8],
     list: &mut [u8],
 ) -> u32
-    requires { ⌜ SizedArrays (Able minima n (now settings)) (now distances) n ⌝ }
-    requires { ⌜ ValidArrays (now distances) n (meeting minima n (now settings)) ⌝ }
+    requires { ⌜ Input (now distances) (now settings) n minima ⌝ }
     requires { ⌜ Steady (now distances) n start limit count (now centres) ⌝ }
-    requires { ⌜ Some (arrayProblem (now distances) n (meeting minima n (now settings))) (limit - 1) ⌝ }
-    requires { ⌜ (start < limit) × (tableSize ≤ length (now allowed)) × (n ≤ length (now list)) ⌝ }
+    requires { ⌜ (start < limit) × Some (posed (now distances) (now settings) n minima) (limit - 1) ⌝ }
+    requires { ⌜ Room n (now allowed) (now list) ⌝ }
     ensures { λ r. ⌜ Bisected (now (distances .entry)) n (meeting minima n (now (settings .entry))) start limit r ⌝ }
     ensures { λ _. ⌜ length (now (allowed .exit)) ≡ length (now (allowed .entry)) ⌝ }
     ensures { λ _. ⌜ TailKept n (now (list .entry)) (now (list .exit)) ⌝ }
@@ -107,12 +105,13 @@ fn ascend(
     allowed: &mut [u8],
     list: &mut [u8],
 ) -> u32
-    requires { ⌜ SizedArrays (Able minima n (now settings)) (now distances) n ⌝ }
-    requires { ⌜ ValidArrays (now distances) n (meeting minima n (now settings)) ⌝ }
+    requires { ⌜ Input (now distances) (now settings) n minima ⌝ }
     requires { ⌜ Steady (now distances) n start limit count (now centres) ⌝ }
-    requires { ⌜ Lowest (arrayProblem (now distances) n (meeting minima n (now settings))) start × Ahead (arrayProblem (now distances) n (meeting minima n (now settings))) limit ⌝ }
-    requires { ⌜ (0 < n) × (start < limit) × (tableSize ≤ length (now allowed)) × (n ≤ length (now list)) ⌝ }
-    ensures { λ r. ⌜ Ascent (now (distances .entry)) n (meeting minima n (now (settings .entry))) (now (centres .entry)) count start limit r (now (allowed .entry)) (now (allowed .exit)) (now (list .exit)) ⌝ }
+    requires { ⌜ (0 < n) × (start < limit) ⌝ }
+    requires { ⌜ Lowest (posed (now distances) (now settings) n minima) start × Ahead (posed (now distances) (now settings) n minima) limit ⌝ }
+    requires { ⌜ Room n (now allowed) (now list) ⌝ }
+    ensures { λ r. ⌜ Ascent (now (distances .entry)) n (meeting minima n (now (settings .entry)))
+        (now (centres .entry)) count start limit r (now (allowed .entry)) (now (allowed .exit)) (now (list .exit)) ⌝ }
     ensures { λ _. ⌜ TailKept n (now (list .entry)) (now (list .exit)) ⌝ }
 {
     if !assignable(
@@ -155,6 +154,7 @@ fn ascend(
     g
 }
 
+// A radius, and how many centres it has.
 pub struct LeastRadius {
     pub radius: u32,
     pub count: usize,
@@ -170,10 +170,11 @@ pub fn least_radius(
     allowed: &mut [u8],
     list: &mut [u8],
 ) -> LeastRadius
-    requires { ⌜ SizedArrays (Able minima n (now settings)) (now distances) n ⌝ }
-    requires { ⌜ ValidArrays (now distances) n (meeting minima n (now settings)) ⌝ }
-    requires { ⌜ (0 < n) × (length (now centres) ≡ maxTides) × (tableSize ≤ length (now allowed)) × (n ≤ length (now list)) ⌝ }
-    ensures { λ r. ⌜ Least (now (distances .entry)) n (meeting minima n (now (settings .entry))) (r .radius) (r .count) (now (centres .exit)) (now (allowed .entry)) (now (allowed .exit)) (now (list .exit)) ⌝ }
+    requires { ⌜ SizedInput (now distances) (now settings) n minima ⌝ }
+    requires { ⌜ ValidInput (now distances) (now settings) n minima ⌝ }
+    requires { ⌜ Lent n (now centres) (now allowed) (now list) ⌝ }
+    ensures { λ r. ⌜ Least (now (distances .entry)) n (meeting minima n (now (settings .entry)))
+        (r .radius) (r .count) (now (centres .exit)) (now (allowed .entry)) (now (allowed .exit)) (now (list .exit)) ⌝ }
     ensures { λ _. ⌜ TailKept n (now (list .entry)) (now (list .exit)) ⌝ }
 {
     let b0 = minima.b0 as usize;

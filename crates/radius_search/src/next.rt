@@ -1,10 +1,14 @@
 // The next radius to look at: the least above g of some of the distances.
+use study::MAX_DISTANCE;
 use study::MAX_TIDES;
 ghost use mathlib.Core.Path.{_≡_};
-ghost use Prim.Native.Nat.{ℕ, _*_, _<_, _≤_};
-ghost use lib.ListN.{length, getD};
-ghost use Rattle.study.specs.Limits.{maxTides};
+ghost use Prim.Native.Nat.{ℕ, _<_};
+ghost use Rattle.radius_theory.specs.Radii.{noRadius};
+ghost use Rattle.radius_search.specs.Inputs.{DistanceRows, TidesIn};
 ghost use Rattle.radius_search.specs.Next.{Next, InRow, InLater, InPairs, InAll, FirstFrom};
+
+// One more than the greatest distance: no radius is so great.
+const NO_RADIUS: u32 = MAX_DISTANCE + 1;
 
 // The lesser of best and x, where x is above g.
 fn closer(x: u32, g: u32, best: u32) -> u32
@@ -21,7 +25,8 @@ fn closer(x: u32, g: u32, best: u32) -> u32
 
 // Over the distances of tide c.
 fn next_in_row(distances: &[u32], n: usize, c: usize, g: u32, start: u32) -> u32
-    requires { ⌜ (n ≤ maxTides) × (c < n) × (n * maxTides ≤ length (now distances)) ⌝ }
+    requires { ⌜ DistanceRows (now distances) n ⌝ }
+    requires { ⌜ c < n ⌝ }
     ensures { λ r. ⌜ Next (InRow (now (distances .entry)) c n) g start r ⌝ }
 {
     let mut best = start;
@@ -43,8 +48,9 @@ fn next_later(
     g: u32,
     start: u32,
 ) -> u32
-    requires { ⌜ (n ≤ maxTides) × (n * maxTides ≤ length (now distances)) × (count ≤ maxTides) × (i < count) ⌝ }
-    requires { ⌜ ((m : ℕ) → m < count → getD (now tides) m 0 < n) ⌝ }
+    requires { ⌜ DistanceRows (now distances) n ⌝ }
+    requires { ⌜ TidesIn (now tides) count n ⌝ }
+    requires { ⌜ i < count ⌝ }
     ensures { λ r. ⌜ Next (InLater (now (distances .entry)) (now (tides .entry)) i count) g start r ⌝ }
 {
     let c = tides[i];
@@ -58,12 +64,18 @@ fn next_later(
 }
 
 // Over the distances between any two tides of the table.
-pub fn next_in_pairs(distances: &[u32], n: usize, tides: &[usize; MAX_TIDES], count: usize, g: u32) -> u32
-    requires { ⌜ (n ≤ maxTides) × (n * maxTides ≤ length (now distances)) × (count ≤ maxTides) ⌝ }
-    requires { ⌜ ((m : ℕ) → m < count → getD (now tides) m 0 < n) ⌝ }
-    ensures { λ r. ⌜ Next (InPairs (now (distances .entry)) (now (tides .entry)) count count) g 1048576 r ⌝ }
+pub fn next_in_pairs(
+    distances: &[u32],
+    n: usize,
+    tides: &[usize; MAX_TIDES],
+    count: usize,
+    g: u32,
+) -> u32
+    requires { ⌜ DistanceRows (now distances) n ⌝ }
+    requires { ⌜ TidesIn (now tides) count n ⌝ }
+    ensures { λ r. ⌜ Next (InPairs (now (distances .entry)) (now (tides .entry)) count count) g noRadius r ⌝ }
 {
-    let mut best: u32 = 1048576;
+    let mut best = NO_RADIUS;
     let mut i = 0;
     while i < count {
         best = next_later(distances, n, tides, count, i, g, best);
@@ -74,10 +86,10 @@ pub fn next_in_pairs(distances: &[u32], n: usize, tides: &[usize; MAX_TIDES], co
 
 // Over all distances.
 fn next_of_all(distances: &[u32], n: usize, g: u32) -> u32
-    requires { ⌜ (n ≤ maxTides) × (n * maxTides ≤ length (now distances)) ⌝ }
-    ensures { λ r. ⌜ Next (InAll (now (distances .entry)) n) g 1048576 r ⌝ }
+    requires { ⌜ DistanceRows (now distances) n ⌝ }
+    ensures { λ r. ⌜ Next (InAll (now (distances .entry)) n) g noRadius r ⌝ }
 {
-    let mut best: u32 = 1048576;
+    let mut best = NO_RADIUS;
     let mut c = 0;
     while c < n {
         best = next_in_row(distances, n, c, g, best);
@@ -86,9 +98,9 @@ fn next_of_all(distances: &[u32], n: usize, g: u32) -> u32
     best
 }
 
-// The least candidate from g on, or 1048576 where there is none.
+// The least candidate from g on, or NO_RADIUS where there is none.
 pub fn first_from(distances: &[u32], n: usize, g: u32) -> u32
-    requires { ⌜ (n ≤ maxTides) × (n * maxTides ≤ length (now distances)) ⌝ }
+    requires { ⌜ DistanceRows (now distances) n ⌝ }
     ensures { λ r. ⌜ FirstFrom (now (distances .entry)) n g r ⌝ }
 {
     if g == 0 {

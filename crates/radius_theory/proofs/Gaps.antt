@@ -44,7 +44,9 @@ module _ (P : Problem) (g : ℕ) where
 
   among-centres : (t : ℕ) → t ≤ P .size → {c : ℕ} → c among centresAmong (P .dist) g t → c among centres P g
   unfolding centres
-  among-centres t l {c} m = let e : t + (P .size - t) ≡ P .size = omega arith in subst (λ z. c among centresAmong (P .dist) g z) e (among-more t (P .size - t) m)
+  among-centres t l {c} m =
+      let e : t + (P .size - t) ≡ P .size = omega arith in
+      subst (λ z. c among centresAmong (P .dist) g z) e (among-more t (P .size - t) m)
 
   -- two centres, by their numbers as tides, are farther than g apart
   pub apart-mem : ((i j : ℕ) → P .dist i j ≡ P .dist j i) → (c t : ℕ) → c among centres P g → t among centres P g → c < t → g < P .dist c t

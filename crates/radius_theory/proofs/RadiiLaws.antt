@@ -11,7 +11,7 @@ use Rattle.lists.specs.Lists.{_among_, iota, tabulate}
 use Rattle.lists.proofs.Tests.{split}
 use Rattle.lists.proofs.Members.{mem-flatMap, flatMap-mem, mem-range, range-mem}
 use Rattle.lists.proofs.Tables.{mem-tabulate, tabulate-mem}
-use Rattle.study.specs.Limits.{cell}
+use Rattle.study.specs.Limits.{cell, maxDistance}
 use Rattle.study.specs.Problem.{Problem, centres, centreOf, assignments, candidates, radius}
 use Rattle.study.specs.Theorems.{Assignment}
 use Rattle.study.proofs.ProblemLaws.{assignable-by, first-assignment, is-radius}
@@ -64,7 +64,7 @@ module _ {d : List ℕ} {n : ℕ} {E : Test} {P : Problem} (Q : Represents d n E
       let a : q .0 < n = omega (arith, q .1) in
       inr (q .0, r .0, a, b, q .2 ∙ Q .dist (q .0) (r .0) a b)
 
-  pub candidate-small : (h : ℕ) → h among candidates P → h ≤ 1048575
+  pub candidate-small : (h : ℕ) → h among candidates P → h ≤ maxDistance
   candidate-small h m = ⊎-elim (λ e. omega arith) (λ q. omega (arith, q .4, Q .small (q .0) (q .1) (q .2) (q .3))) (candidate-is h m)
 
   -- ---- from one candidate to the next

@@ -13,7 +13,7 @@ use study::TABLE_SIZE;
 ghost use mathlib.Core.Path.{_≡_};
 ghost use Prim.Native.Nat.{_≤_};
 ghost use Rattle.study.specs.Refusals.{numbered};
-ghost use Rattle.validity.specs.Memory.{stateOf};
+ghost use Rattle.validity.specs.Memory.{entryState};
 ghost use Rattle.sheet_text.specs.Text.{refusedText, laidOut};
 ghost use Rattle.sheet_of_file.specs.Sheet.{sheetOf};
 ghost use Rattle.sheet_of_file.specs.Sheet.{blockedText};
@@ -42,7 +42,7 @@ fn refused_sheet(why: Refusal) -> Text
 }
 
 fn blocked_sheet(dataset: Dataset, distances: &[u32], settings: &[u8]) -> Text
-    ensures { λ r. ⌜ (r .length ≤ 2837) × (r ≡ laidOut (blockedText (stateOf dataset (now (distances .entry)) (now (settings .entry))))) ⌝ }
+    ensures { λ r. ⌜ (r .length ≤ 2837) × (r ≡ laidOut (blockedText (entryState dataset distances settings))) ⌝ }
 {
     let mut list = [0u8; MAX_TIDES];
     let blocked = block_by_value(dataset, distances, settings, &mut list);

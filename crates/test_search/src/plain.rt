@@ -1,6 +1,6 @@
 // Enumeration of every list.
-use study::Minima;
 use study::MAX_TIDES;
+use study::Minima;
 use study::TABLE_SIZE;
 ghost use Prim.Native.Nat.{_<_, _≤_};
 
@@ -30,6 +30,7 @@ fn all_allowed(n: usize, blocks: usize, allowed: &[u8; TABLE_SIZE], list: &[u8; 
     true
 }
 
+// A byte as a number that can stand for a place.
 fn wide(x: u8) -> usize
     ensures { λ r. ⌜ r < 256 ⌝ }
 {
@@ -49,6 +50,7 @@ fn members(n: usize, settings: &[u8; 6], list: &[u8; 8], m: u8, k: u8) -> usize
     count
 }
 
+// 1 where both hold, else 0.
 fn one(a: bool, b: bool) -> usize
     ensures { λ r. ⌜ r ≤ 1 ⌝ }
 {
@@ -77,7 +79,12 @@ fn meets(q: Question, settings: &[u8; 6], list: &[u8; 8], m: u8) -> bool
 }
 
 // Whether the first n places of list are an assignment.
-pub fn is_assignment(q: Question, settings: &[u8; 6], allowed: &[u8; TABLE_SIZE], list: &[u8; 8]) -> bool
+pub fn is_assignment(
+    q: Question,
+    settings: &[u8; 6],
+    allowed: &[u8; TABLE_SIZE],
+    list: &[u8; 8],
+) -> bool
     requires { ⌜ q .n ≤ 6 ⌝ }
     requires { ⌜ q .blocks ≤ 3 ⌝ }
 {

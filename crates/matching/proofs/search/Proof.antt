@@ -1,4 +1,4 @@
--- `search` meets its contract: more slots than tides is the fourth end. Assumes nothing.
+-- More slots than tides: there is no assignment. Else the slots are laid out and matched. There is no loop. Assumes nothing.
 use native.Mathlib.Omega.{arith}
 use borrow.Author.Needs.{needs}
 use Rattle.matching.proofs.Answers.{too-few}
@@ -7,10 +7,10 @@ use Rattle.matching.proofs.search.Statement.{statement}
 use Rattle.matching.proofs.search.Tie as tie
 
 mul-if1 : tie.Need-mul-if1
-mul-if1 c = let l = slots-bound _ _ _ _ _ _ (c .before .before .before .before .pre) in omega arith
+mul-if1 c = let l = slots-bound (c .before .before .before .before .pre) in omega arith
 
 returns : tie.Need-returns
-returns c = too-few _ _ _ _ _ _ (omega arith)
+returns c = too-few _ _ (omega arith)
 
 returns-2 : tie.Need-returns-2
 returns-2 c = search needs

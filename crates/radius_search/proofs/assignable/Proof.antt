@@ -1,7 +1,8 @@
--- One radius: its table, and the search in it. Assumes nothing.
+-- One radius: the table of allowed pairs is that of the radius, so what the search promises of the table it promises of the radius. There
+-- is no loop. Assumes nothing.
 use native.Mathlib.Omega.{arith}
 use Rattle.radius_search.proofs.AscentLaws.{tried}
-use Rattle.radius_search.proofs.FrontLaws.{front-few, front-below}
+use Rattle.radius_search.proofs.FrontLaws.{front-few, centres-in, rows-of}
 use borrow.Author.Needs.{needs}
 use Rattle.radius_search.proofs.assignable.Statement.{statement}
 use Rattle.radius_search.proofs.assignable.Tie as tie
@@ -9,18 +10,19 @@ use Rattle.radius_search.proofs.assignable.Tie as tie
 allow-requires : tie.Need-allow-requires
 allow-requires c κs =
     let pre = c .before .before .before .before .before .pre in
-    let centres = pre .1 .1 .0 in
-    ((pre .0 .few, pre .0 .distances-long, pre .1 .1 .1 .0, front-few (pre .0 .few) centres), front-below centres)
+    let z = pre .0 .sized in
+    (rows-of z, (centres-in (z .few) (pre .1 .0), pre .1 .1 .allowed-long))
 
 search-requires : tie.Need-search-requires
 search-requires c κs =
-    let pre = c .before .before .before .before .before .before .before .before .before .before .pre in
-    let z = pre .0 in
+    let at-allow = c .before .before .before .before in
+    let pre = at-allow .before .before .before .before .before .before .pre in
+    let z = pre .0 .sized in
     record {
       few-tides = z .few;
-      few-blocks = front-few (z .few) (pre .1 .1 .0);
-      allowed-long = omega (arith, pre .1 .1 .1 .0, c .before .before .before .before .allow .ensures .same-length);
-      list-long = pre .1 .1 .1 .1;
+      few-blocks = front-few (z .few) (pre .1 .0);
+      allowed-long = omega (arith, pre .1 .1 .allowed-long, at-allow .allow .ensures .same-length);
+      list-long = pre .1 .1 .list-long;
       able = z .able;
     }
 
@@ -29,9 +31,11 @@ same-length c = search needs
 
 returns : tie.Need-returns
 returns c =
-    let pre = c .before .before .before .before .before .before .before .before .before .before .before .before .before .pre in
-    let answer = c .before .before .search .ensures in
-    (tried (pre .1 .0) _ _ _ (pre .1 .1 .0) _ _ _ _ _ (c .before .before .before .before .before .before .before .allow .ensures) answer, record { same-length = answer .same-length; rest = answer .rest })
+    let at-search = c .before .before in
+    let at-allow = at-search .before .before .before .before .before in
+    let pre = at-allow .before .before .before .before .before .before .pre in
+    let answer = at-search .search .ensures in
+    (tried (pre .0 .valid) (pre .1 .0) (at-allow .allow .ensures) answer, answer .tail)
 
 pub assignable-spec : {M : Type 1} → statement M
 assignable-spec =

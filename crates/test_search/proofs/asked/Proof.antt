@@ -1,4 +1,4 @@
--- `asked` may ask `search`. Assumes nothing.
+-- The drawn table is one that `search` may be asked. Assumes nothing.
 use Rattle.test_search.proofs.Asking.{posed-asked}
 use borrow.Author.Needs.{needs}
 use Rattle.test_search.proofs.asked.Statement.{statement}

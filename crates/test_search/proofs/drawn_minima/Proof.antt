@@ -6,7 +6,8 @@ use Rattle.test_search.proofs.drawn_minima.Tie as tie
 
 returns : tie.Need-returns
 returns c =
-    modest _ _ _ _ (c .before .before .before .before .draw .ensures) (c .before .before .before .draw2 .ensures) (c .before .draw3 .ensures) (c .draw4 .ensures)
+    let at-second = c .before .before .before in
+    modest _ _ _ _ (at-second .before .draw .ensures) (at-second .draw2 .ensures) (c .before .draw3 .ensures) (c .draw4 .ensures)
 
 pub drawn-minima-spec : {M : Type 1} → statement M
 drawn-minima-spec =

@@ -1,4 +1,4 @@
--- `fill` is safe and ends. Assumes nothing.
+-- The bytes keep their length; the places left fall. Nothing is said of what is drawn. Assumes nothing.
 use native.Mathlib.Omega.{arith}
 use mathlib.Core.Path.{_≡_, refl}
 use Prim.Native.Nat.{_-_}

@@ -1,4 +1,4 @@
--- `main` is safe and ends. Assumes nothing.
+-- At most 4,000 trials; those left fall. Assumes nothing.
 use native.Mathlib.Omega.{arith}
 use Prim.Native.Nat.{_-_, _≤_}
 use Rattle.test_search.proofs.main.Statement.{statement}

@@ -7,14 +7,16 @@ use Rattle.test_search.proofs.trial.Tie as tie
 asked-requires : tie.Need-asked-requires
 asked-requires c κs =
     let tested = c .before .before .before in
-    let posed = tested .before .before .before .before .before .before .before .before .before .before .before .before .before .before .before .drawn .ensures in
+    let at-fill = tested .before .before .before .before .before .before .before in
+    let posed = at-fill .before .before .before .before .before .before .before .before .drawn .ensures in
     let right = tested .before .valid .ensures (not-false _ (tested .if1 .left)) in
     (posed, record { six = search needs; rows = search needs; eight = search needs; valid = right })
 
 asked-again-requires : tie.Need-asked-again-requires
 asked-again-requires c κs =
     let tested = c .before .before .before .before .before .before .before .before .before in
-    let posed = tested .before .before .before .before .before .before .before .before .before .before .before .before .before .before .before .drawn .ensures in
+    let at-fill = tested .before .before .before .before .before .before .before in
+    let posed = at-fill .before .before .before .before .before .before .before .before .drawn .ensures in
     let right = tested .before .valid .ensures (not-false _ (tested .if1 .left)) in
     (posed, record { six = search needs; rows = search needs; eight = search needs; valid = right })
 

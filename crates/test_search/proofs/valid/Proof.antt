@@ -1,4 +1,4 @@
--- `valid` meets its contract: the settings passed are 1 to 8. Assumes nothing.
+-- The settings of the tides below t are 1 to 8; 6 - t falls. Assumes nothing.
 use native.Mathlib.Omega.{arith}
 use mathlib.Core.Bool.{false≢true}
 use Prim.Native.Nat.{ℕ, _-_, _<_, _≤_}

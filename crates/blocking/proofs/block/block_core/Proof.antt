@@ -1,4 +1,4 @@
--- A refusal, or what is computed. Assumes nothing.
+-- A refusal leaves the list and has no rows; else all is as computed. There is no loop. Assumes nothing.
 use borrow.Author.Needs.{needs}
 use Rattle.blocking.proofs.BlockLaws.{block-accepted, block-refusal, no-rows, block-list-stays}
 use mathlib.Core.Path.{refl}
@@ -12,7 +12,8 @@ returns c =
     (block-refusal _ _ _ e q, (no-rows _ _ _ e q _ refl, block-list-stays _ _ _ e q))
 
 compute-requires : tie.Need-compute-requires
-compute-requires c κs = block-accepted _ _ _ (c .before .enum-told .given .1) (c .before .before .before .block-answer .ensures)
+compute-requires c κs =
+    block-accepted _ _ _ (c .before .enum-told .given .1) (c .before .before .before .block-answer .ensures)
 
 returns-2 : tie.Need-returns-2
 returns-2 c = search needs

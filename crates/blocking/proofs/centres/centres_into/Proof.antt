@@ -5,7 +5,9 @@ use Rattle.blocking.proofs.centres.centres_into.Statement.{statement}
 use Rattle.blocking.proofs.centres.centres_into.Tie as tie
 
 returns : tie.Need-returns
-returns c = let r = centres-refused _ _ _ (c .enum-told2 .given .1) (c .before .before .centres-answer .ensures) in (c .before .before .centres-answer .ensures, r)
+returns c =
+    let answer = c .before .before .centres-answer .ensures in
+    (answer, centres-refused _ _ _ (c .enum-told2 .given .1) answer)
 
 fill-front-requires : tie.Need-fill-front-requires
 fill-front-requires c κs = centres-accepted _ _ (c .before .enum-told .given .1) (c .before .before .before .centres-answer .ensures)

@@ -1,4 +1,4 @@
--- From the rows of the core. Assumes nothing.
+-- What the core tells of its rows is what Block answers and leaves. There is no loop. Assumes nothing.
 use borrow.Author.Needs.{needs}
 use native.Mathlib.Omega.{arith}
 use Rattle.blocking.proofs.BlockLaws.{accepted-sized, accepted-valid-arrays, block-value, block-rows, block-list}
@@ -6,7 +6,9 @@ use Rattle.blocking.proofs.computing.compute.Statement.{statement}
 use Rattle.blocking.proofs.computing.compute.Tie as tie
 
 block-rows-requires : tie.Need-block-rows-requires
-block-rows-requires c κs = let p = c .before .before .before .before .pre in (accepted-sized _ _ _ p, (accepted-valid-arrays _ _ _ p, (p .some-tide, p .list-room)))
+block-rows-requires c κs =
+    let p = c .before .before .before .before .pre in
+    (accepted-sized _ _ _ p, (accepted-valid-arrays _ _ _ p, (p .some-tide, p .list-room)))
 
 put-centres-requires : tie.Need-put-centres-requires
 put-centres-requires c κs =
@@ -16,8 +18,9 @@ put-centres-requires c κs =
 
 returns : tie.Need-returns
 returns c =
-    let p = c .before .before .before .before .before .before .before .before .before .before .before .before .before .before .pre in
-    let R = c .before .before .before .before .before .before .before .before .before .block-rows .ensures in
+    let at-rows = c .before .before .before .before .before .before .before .before .before in
+    let p = at-rows .before .before .before .before .before .pre in
+    let R = at-rows .block-rows .ensures in
     (block-value _ _ _ p (R .0), (block-rows _ _ _ p (R .0) _ (c .before .before .before .put-centres .ensures), block-list _ _ _ p (R .1)))
 
 pub compute-spec : {M : Type 1} → statement M

@@ -1,4 +1,4 @@
--- The centres found, as tide numbers. Assumes nothing.
+-- The first i places of the list hold the tide numbers of the first i centres, and the others stay; count - i falls. Assumes nothing.
 use native.Mathlib.Omega.{arith}
 use Rattle.lists.proofs.Tables.{length-overwrite, overwrite-none, overwrite-step, overwrite-done}
 use Rattle.lists.specs.Lists.{overwrite}
@@ -30,10 +30,14 @@ slice-write-list c =
     omega arith
 
 loop-again : tie.Need-loop-again Inv-loop μ-loop
-loop-again c = (omega arith, overwrite-step (λ x. getD (c .before .before .before .args .centres .now) x 0 + 1) _ _ (c .before .before .loop .inv .1) refl (omega arith))
+loop-again c =
+    let centres = c .before .before .before .args .centres .now in
+    (omega arith, overwrite-step (λ x. getD centres x 0 + 1) _ _ (c .before .before .loop .inv .1) refl (omega arith))
 
 same-length : tie.Need-same-length Inv-loop μ-loop
-same-length c = ap length (c .before .loop .inv .1) ∙ length-overwrite (λ x. getD (c .before .before .args .centres .now) x 0 + 1) _ (c .before .loop .i) (omega arith)
+same-length c =
+    let centres = c .before .before .args .centres .now in
+    ap length (c .before .loop .inv .1) ∙ length-overwrite (λ x. getD centres x 0 + 1) _ (c .before .loop .i) (omega arith)
 
 returns : tie.Need-returns Inv-loop μ-loop
 returns c = overwrite-done (λ x. getD (c .before .before .args .centres .now) x 0 + 1) _ (omega arith) (c .before .loop .inv .1)

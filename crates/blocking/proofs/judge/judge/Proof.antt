@@ -1,4 +1,4 @@
--- A refusal, or one law for each way out. Assumes nothing.
+-- One law for each way out: a refusal, a number out of range, a block that falls short, and yes. Assumes nothing.
 use borrow.Author.Needs.{needs}
 use native.Mathlib.Omega.{arith}
 use borrow.Author.Tests.{not-true, not-false}
@@ -10,25 +10,42 @@ returns : tie.Need-returns
 returns c = judge-refused _ _ (c .before .answer .given .1) (c .before .before .before .judge-answer .ensures)
 
 numbers-valid-requires : tie.Need-numbers-valid-requires
-numbers-valid-requires c κs = judged-arrays _ _ (judge-accepted _ _ (c .enum-told .given .1) (c .before .before .judge-answer .ensures)) .list-long
+numbers-valid-requires c κs =
+    let A = judge-accepted _ _ (c .enum-told .given .1) (c .before .before .judge-answer .ensures) in
+    judged-arrays _ _ A .list-long
 
 returns-2 : tie.Need-returns-2
-returns-2 c = judge-number _ _ (judge-accepted _ _ (c .before .before .enum-told .given .1) (c .before .before .before .before .judge-answer .ensures)) (c .before .numbers-valid .ensures) (not-true _ (c .if1 .taken))
+returns-2 c =
+    let A = judge-accepted _ _ (c .before .before .enum-told .given .1) (c .before .before .before .before .judge-answer .ensures) in
+    judge-number _ _ A (c .before .numbers-valid .ensures) (not-true _ (c .if1 .taken))
 
 blocks-meet-requires : tie.Need-blocks-meet-requires
-blocks-meet-requires c κs = judged-arrays _ _ (judge-accepted _ _ (c .before .before .enum-told .given .1) (c .before .before .before .before .judge-answer .ensures))
+blocks-meet-requires c κs =
+    let A = judge-accepted _ _ (c .before .before .enum-told .given .1) (c .before .before .before .before .judge-answer .ensures) in
+    judged-arrays _ _ A
 
 returns-3 : tie.Need-returns-3
-returns-3 c = judge-few _ _ (judge-accepted _ _ (c .before .before .before .before .enum-told .given .1) (c .before .before .before .before .before .before .judge-answer .ensures)) (c .before .before .before .numbers-valid .ensures) (not-false _ (c .before .before .if1 .left)) (c .before .blocks-meet .ensures) (not-true _ (c .if2 .taken))
+returns-3 c =
+    let at-answer = c .before .before .before .before in
+    let A = judge-accepted _ _ (at-answer .enum-told .given .1) (at-answer .before .before .judge-answer .ensures) in
+    let valid = not-false _ (c .before .before .if1 .left) in
+    judge-few _ _ A (c .before .before .before .numbers-valid .ensures) valid (c .before .blocks-meet .ensures) (not-true _ (c .if2 .taken))
 
 widest-requires : tie.Need-widest-requires
 widest-requires c κs =
-    let p = (judge-accepted _ _ (c .before .before .before .before .enum-told .given .1) (c .before .before .before .before .before .before .judge-answer .ensures)) in
-    let l = judged-arrays _ _ p in
-    (l .few, omega (arith, l .few, p .passed .long .distances), l .list-long)
+    let at-answer = c .before .before .before .before in
+    let A = judge-accepted _ _ (at-answer .enum-told .given .1) (at-answer .before .before .judge-answer .ensures) in
+    let l = judged-arrays _ _ A in
+    (l .few, omega (arith, l .few, A .passed .long .distances), l .list-long)
 
 returns-4 : tie.Need-returns-4
-returns-4 c = judge-yes _ _ (judge-accepted _ _ (c .before .before .before .before .before .enum-told .given .1) (c .before .before .before .before .before .before .before .judge-answer .ensures)) (c .before .before .before .before .numbers-valid .ensures) (not-false _ (c .before .before .before .if1 .left)) (c .before .before .blocks-meet .ensures) (not-false _ (c .before .if2 .left)) (c .widest .ensures)
+returns-4 c =
+    let at-valid = c .before .before .before in
+    let at-answer = at-valid .before .before in
+    let A = judge-accepted _ _ (at-answer .enum-told .given .1) (at-answer .before .before .judge-answer .ensures) in
+    let valid = not-false _ (at-valid .if1 .left) in
+    let meet = not-false _ (c .before .if2 .left) in
+    judge-yes _ _ A (at-valid .before .numbers-valid .ensures) valid (c .before .before .blocks-meet .ensures) meet (c .widest .ensures)
 
 pub judge-spec : {M : Type 1} → statement M
 judge-spec =

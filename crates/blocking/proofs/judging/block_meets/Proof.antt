@@ -1,4 +1,4 @@
--- By its counts. Assumes nothing.
+-- The counts are those of the tides under the number, and they meet the minima where those tides do. Assumes nothing.
 use borrow.Author.Needs.{needs}
 use mathlib.Core.Path.{_∙_}
 use Rattle.radius_search.proofs.TallyLaws.{tallied-long, met-meets}

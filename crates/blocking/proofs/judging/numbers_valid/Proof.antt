@@ -1,4 +1,4 @@
--- Number after number. Assumes nothing.
+-- The numbers of the tides below t are 1 to 255; n - t falls. Assumes nothing.
 use borrow.Author.Needs.{needs}
 use native.Mathlib.Omega.{arith}
 use Prim.Native.Nat.{_≤_, _-_}
@@ -23,14 +23,18 @@ returns : tie.Need-returns Inv-loop μ-loop
 unfolding labels
 returns c =
     let args = c .before .before .before .before .before .before .args in
-    sym (every-fails (λ u. between 1 255 (labels (args .list .now) u)) (args .n) (c .before .before .before .before .loop .t) (c .before .before .before .loop-test .taken) (test-fails (c .before .valid-number .ensures) (c .if1 .taken)))
+    let t = c .before .before .before .before .loop .t in
+    let bad = test-fails (c .before .valid-number .ensures) (c .if1 .taken) in
+    sym (every-fails (λ u. between 1 255 (labels (args .list .now) u)) (args .n) t (c .before .before .before .loop-test .taken) bad)
 
 loop-again : tie.Need-loop-again Inv-loop μ-loop
 unfolding labels
 loop-again c = (omega arith, every-more _ _ (c .before .before .before .before .loop .inv .1) (test-passes (c .before .valid-number .ensures) (c .if1 .left)))
 
 returns-2 : tie.Need-returns-2 Inv-loop μ-loop
-returns-2 c = sym (every-done _ (c .before .loop .t) (c .before .before .before .args .n) (c .before .loop .inv .0) (c .loop-test .left) (c .before .loop .inv .1))
+returns-2 c =
+    let turn = c .before .loop in
+    sym (every-done _ (turn .t) (c .before .before .before .args .n) (turn .inv .0) (c .loop-test .left) (turn .inv .1))
 
 pub numbers-valid-spec : {M : Type 1} → statement M
 numbers-valid-spec =

@@ -1,4 +1,4 @@
--- One test. Assumes nothing.
+-- One case for each outcome of the test. Assumes nothing.
 use native.Mathlib.Omega.{arith}
 use borrow.Author.Tests.{eq-eqb, ne-eqb}
 use Rattle.blocking.proofs.judging.same.Statement.{statement}

@@ -6,7 +6,7 @@ use Rattle.blocking_core.proofs.FirstLaws.{Fixed, fixed-start, fixed-mo
 use Rattle.promise.proofs.PromiseLaws.{asked-on}
 use Rattle.promise.specs.Promise.{meeting}
 use Rattle.lists.specs.Lists.{TailKept}
-use Rattle.radius_search.proofs.AscentLaws.{kept-same, kept-on}
+use Rattle.lists.proofs.Tables.{tail-same, tail-trans}
 use Prim.Native.Nat.{_≤_, _-_}
 use Rattle.blocking_core.proofs.first.first_assignment.Statement.{statement}
 use Rattle.blocking_core.proofs.first.first_assignment.Tie as tie
@@ -19,7 +19,7 @@ abbrev μ-loop : tie.MeasureT-loop
 μ-loop n blocks minima settings allowed₀ list₀ t₀ allowed list t = n - t
 
 loop-holds : tie.Need-loop-holds Inv-loop μ-loop
-loop-holds c = (omega arith, kept-same _ _, fixed-start (c .before .before .before .pre .1))
+loop-holds c = (omega arith, tail-same _ _, fixed-start (c .before .before .before .pre .1))
 
 choose-block-requires : tie.Need-choose-block-requires Inv-loop μ-loop
 choose-block-requires c κs =
@@ -39,7 +39,7 @@ loop-again c =
     let at-choice = c .before .before .before .before in
     let now = at-choice .before .before .before .before .loop .inv in
     let chosen = at-choice .choose-block .ensures in
-    (omega arith, kept-on (now .1) (chosen .1), fixed-more (now .2) (chosen .0))
+    (omega arith, tail-trans (now .1) (chosen .1), fixed-more (now .2) (chosen .0))
 
 same-length : tie.Need-same-length Inv-loop μ-loop
 same-length c = c .before .loop .inv .2 .same-length

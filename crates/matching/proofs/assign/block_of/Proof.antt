@@ -1,4 +1,4 @@
--- `block_of` meets its contract. Assumes nothing.
+-- The block of the tide's slot where it has one, else the first allowed. Assumes nothing.
 use native.Mathlib.Omega.{arith}
 use mathlib.Core.Path.{refl}
 use borrow.Author.Needs.{needs}

@@ -1,4 +1,4 @@
--- `write_list` meets its contract. Each turn writes one tide's block. Assumes nothing.
+-- The list is written for the tides below t, and its places from n on stay; n - t falls. Assumes nothing.
 use native.Mathlib.Omega.{arith}
 use Prim.Native.Nat.{_-_, _≤_}
 use Rattle.matching.proofs.Writing.{WrittenTo, write-start, write-more, write-end, write-none}
@@ -12,7 +12,7 @@ abbrev μ-loop : tie.MeasureT-loop
 μ-loop allowed n blocks owner slots slot list₀ t₀ list t = n - t
 
 loop-holds : tie.Need-loop-holds Inv-loop μ-loop
-loop-holds c = (omega arith, write-start _ _ _ _ _ _ _)
+loop-holds c = (omega arith, write-start)
 
 block-of-requires : tie.Need-block-of-requires Inv-loop μ-loop
 block-of-requires c κs =
@@ -26,7 +26,7 @@ same-length : tie.Need-same-length Inv-loop μ-loop
 same-length c = c .before .before .before .loop .inv .1 .rest .same-length
 
 returns : tie.Need-returns Inv-loop μ-loop
-returns c = write-none _ _ _ _ _ _ _ _ _ (c .before .before .before .loop .inv .1) (c .before .before .loop-test .taken) (c .before .block-of .ensures .none (c .if1 .taken))
+returns c = write-none (c .before .before .before .loop .inv .1) (c .before .before .loop-test .taken) (c .before .block-of .ensures .none (c .if1 .taken))
 
 cast-list : tie.Need-cast-list Inv-loop μ-loop
 cast-list c =
@@ -53,13 +53,14 @@ loop-less c = let l = c .before .before .loop-test .taken in omega arith
 loop-again : tie.Need-loop-again Inv-loop μ-loop
 loop-again c =
     let l = c .before .before .loop-test .taken in
-    (omega arith, write-more _ _ _ _ _ _ _ _ _ (c .before .before .before .loop .inv .1) _ l (c .before .before .before .before .before .before .pre .1 .1 .1 .1 .0) (c .if1 .left) (c .before .block-of .ensures))
+    let long = c .before .before .before .before .before .before .pre .1 .1 .1 .1 .0 in
+    (omega arith, write-more (c .before .before .before .loop .inv .1) l long (c .if1 .left) (c .before .block-of .ensures))
 
 same-length-2 : tie.Need-same-length-2 Inv-loop μ-loop
 same-length-2 c = c .before .loop .inv .1 .rest .same-length
 
 returns-2 : tie.Need-returns-2 Inv-loop μ-loop
-returns-2 c = let i = c .before .loop .inv in write-end _ _ _ _ _ _ _ _ _ (i .1) (c .loop-test .left) (i .0)
+returns-2 c = let i = c .before .loop .inv in write-end (i .1) (c .loop-test .left) (i .0)
 
 pub write-list-spec : {M : Type 1} → statement M
 write-list-spec =

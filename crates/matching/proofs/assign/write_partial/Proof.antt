@@ -1,7 +1,7 @@
--- `write_partial` meets its contract: it writes only places of the first n tides. Assumes nothing.
+-- The places from n on stay, since only places of the tides below t are written; n - t falls. Assumes nothing.
 use native.Mathlib.Omega.{arith}
 use Prim.Native.Nat.{_-_, _≤_}
-use Rattle.matching.proofs.Writing.{rest-start, rest-set}
+use Rattle.lists.proofs.Tables.{tail-same, tail-set}
 use Rattle.lists.specs.Lists.{TailKept}
 use Rattle.matching.proofs.assign.write_partial.Statement.{statement}
 use Rattle.matching.proofs.assign.write_partial.Tie as tie
@@ -13,7 +13,7 @@ abbrev μ-loop : tie.MeasureT-loop
 μ-loop n owner slots slot list₀ t₀ list t = n - t
 
 loop-holds : tie.Need-loop-holds Inv-loop μ-loop
-loop-holds c = (omega arith, rest-start _ _)
+loop-holds c = (omega arith, tail-same _ _)
 
 cast-list : tie.Need-cast-list Inv-loop μ-loop
 cast-list c =
@@ -24,7 +24,7 @@ slice-write-list : tie.Need-slice-write-list Inv-loop μ-loop
 slice-write-list c = omega (arith, c .before .before .before .before .loop .inv .1 .same-length)
 
 loop-again : tie.Need-loop-again Inv-loop μ-loop
-loop-again c = (omega arith, rest-set _ _ _ _ _ (c .before .before .before .loop-test .taken) (c .before .before .before .before .loop .inv .1))
+loop-again c = (omega arith, tail-set _ _ (c .before .before .before .loop-test .taken) (c .before .before .before .before .loop .inv .1))
 
 loop-again-2 : tie.Need-loop-again-2 Inv-loop μ-loop
 loop-again-2 c = (omega arith, c .before .before .before .loop .inv .1)

@@ -1,4 +1,5 @@
--- `augment_from` meets its contract: the tree of the root alone is grown, and its path to a free tide shifted. Assumes nothing.
+-- The tree of the root alone is grown; where it meets a free tide, the path to it is shifted, and where it meets none, no matching gives every
+-- slot a tide. There is no loop. Assumes nothing.
 use mathlib.Core.Bool.{true≢false, false≢true}
 use borrow.Author.Needs.{needs}
 use Rattle.matching.proofs.Turns.{alone, blank-marked}
@@ -8,17 +9,19 @@ use Rattle.matching.proofs.augment.augment_from.Tie as tie
 grow-requires : tie.Need-grow-requires
 grow-requires c κs =
     let p = c .before .before .before .before .before .before .before .before .pre in
-    (p .0, (p .1 .0, (alone _ _ _ _ _ _ (p .0 .few-slots) (p .0 .few-tides) (p .1 .1 .0) (p .1 .1 .1), blank-marked _ _ _ _ _)))
+    let z = p .0 .sized in
+    (p .0, (alone (z .few-slots) (z .few-tides) (p .1 .0) (p .1 .1), blank-marked))
 
 returns : tie.Need-returns
 returns c = (λ e. absurd (false≢true e), λ _. c .before .grow .ensures .none (c .if1 .taken))
 
 shift-requires : tie.Need-shift-requires
 shift-requires c κs =
-    let p = c .before .before .before .before .before .before .before .before .before .before .before .before .before .before .pre in
-    let e = c .before .before .before .before .before .grow .ensures in
-    let l = c .before .before .before .before .if1 .left in
-    (p .0, (e .below l, (l, (e .in-tree l, (p .1 .0, (e .found l, e .path l))))))
+    let at-test = c .before .before .before .before in
+    let p = at-test .before .before .before .before .before .before .before .before .before .before .pre in
+    let e = at-test .before .grow .ensures in
+    let l = at-test .if1 .left in
+    (p .0, ((e .below l, l, e .in-tree l), (e .found l, e .path l)))
 
 returns-2 : tie.Need-returns-2
 returns-2 c = (λ _. c .shift .ensures, λ e. absurd (true≢false e))

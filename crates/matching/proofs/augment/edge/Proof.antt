@@ -1,4 +1,4 @@
--- `edge` meets its contract: one test for each part of an edge. Assumes nothing.
+-- One test for each part of an edge. Assumes nothing.
 use mathlib.Core.Bool.{true≢false, false≢true}
 use mathlib.Core.Logic.{inl, inr, ⊎-elim}
 use native.Mathlib.Omega.{arith}
@@ -15,7 +15,11 @@ returns-2 : tie.Need-returns-2
 returns-2 c = record { holds = λ _. record { may = allows-yes _ _ _ (c .before .if1 .left); suits = inl (omega arith) }; fails = λ e. absurd (true≢false e) }
 
 returns-3 : tie.Need-returns-3
-returns-3 c = record { holds = λ e. record { may = allows-yes _ _ _ (c .before .before .if1 .left); suits = inr (eqb-true _ _ e) }; fails = λ e p. ⊎-elim (c .before .if2 .left) (eqb-false _ _ e) (p .suits) }
+returns-3 c =
+    record {
+      holds = λ e. record { may = allows-yes _ _ _ (c .before .before .if1 .left); suits = inr (eqb-true _ _ e) };
+      fails = λ e p. ⊎-elim (c .before .if2 .left) (eqb-false _ _ e) (p .suits);
+    }
 
 pub edge-spec : {M : Type 1} → statement M
 edge-spec =

@@ -1,4 +1,5 @@
--- `grow` meets its contract. Each turn scans one slot of the alternating tree; the measure is the slots left. Assumes nothing.
+-- The slots of rank below head are scanned: every tide that they can hold is seen, and none of those is free; slots - head falls, since the
+-- queue never holds more than the slots. Assumes nothing.
 use native.Mathlib.Omega.{arith}
 use mathlib.Core.Path.{refl}
 use Prim.Native.Nat.{_-_, _<_}
@@ -9,7 +10,8 @@ use Rattle.matching.proofs.augment.grow.Statement.{statement}
 use Rattle.matching.proofs.augment.grow.Tie as tie
 
 abbrev Inv-loop : tie.InvT-loop
-Inv-loop allowed settings owner kind slots tides tide slot from₀ rank₀ queue₀ mark₀ head₀ tail₀ from rank queue mark head tail = Growing (Edge allowed settings owner kind) slots tides (at queue₀ 0) head tail tide slot from rank queue × Marked allowed settings slots tides mark from
+Inv-loop allowed settings owner kind slots tides tide slot from₀ rank₀ queue₀ mark₀ head₀ tail₀ from rank queue mark head tail =
+    Growing (Edge allowed settings owner kind) slots tides (at queue₀ 0) head tail tide slot from rank queue × Marked allowed settings slots tides mark from
 
 abbrev μ-loop : tie.MeasureT-loop
 μ-loop allowed settings owner kind slots tides tide slot from₀ rank₀ queue₀ mark₀ head₀ tail₀ from rank queue mark head tail = slots - head
@@ -17,61 +19,71 @@ abbrev μ-loop : tie.MeasureT-loop
 loop-holds : tie.Need-loop-holds Inv-loop μ-loop
 loop-holds c =
     let p = c .before .before .pre in
-    (grow-start _ _ _ _ _ _ (p .0 .few-slots) (p .0 .few-tides) (p .1 .0) _ _ _ (p .1 .1 .0) refl, p .1 .1 .1)
+    let z = p .0 .sized in
+    (grow-start (z .few-slots) (z .few-tides) (p .0 .matching) (p .1 .0) refl, p .1 .1)
 
 mul-s : tie.Need-mul-s Inv-loop μ-loop
 mul-s c =
-    let z = c .before .before .before .before .pre .0 .few-slots in
+    let z = c .before .before .before .before .pre .0 .sized .few-slots in
     let f = c .before .loop .inv .0 .tree .few in
     omega arith
 
 element-copy-out-s : tie.Need-element-copy-out-s Inv-loop μ-loop
 element-copy-out-s c =
-    let z = c .before .before .before .before .pre .0 .few-slots in
+    let z = c .before .before .before .before .pre .0 .sized .few-slots in
     let f = c .before .loop .inv .0 .tree .few in
     omega arith
 
 visit-requires : tie.Need-visit-requires Inv-loop μ-loop
 visit-requires c κs =
-    let p = c .before .before .before .before .before .before .before .before .before .pre in
-    let i = c .before .before .before .before .before .before .loop .inv in
-    let h : c .before .before .before .before .before .before .loop .head < c .before .before .before .before .before .before .loop .tail = omega arith in
-    (p .0, (i .0 .tree .entry _ h, (grow-in-tree _ _ _ _ _ _ (p .0 .few-slots) (p .0 .few-tides) (p .1 .0) _ _ _ _ _ (i .0) h, (p .1 .0, (i .0 .tree, i .1)))))
+    let at-loop = c .before .before .before .before .before .before in
+    let p = at-loop .before .before .before .pre in
+    let z = p .0 .sized in
+    let i = at-loop .loop .inv in
+    let h : at-loop .loop .head < at-loop .loop .tail = omega arith in
+    let in-tree = grow-in-tree (z .few-slots) (z .few-tides) (p .0 .matching) (i .0) h in
+    (p .0, ((i .0 .tree .entry _ h, in-tree), (i .0 .tree, i .1)))
 
 returns : tie.Need-returns Inv-loop μ-loop
 returns c =
-    let p = c .before .before .before .before .before .before .before .before .before .before .before .before .pre in
-    let i = c .before .before .before .before .before .before .before .before .before .loop .inv in
-    let h : c .before .before .before .before .before .before .before .before .before .loop .head < c .before .before .before .before .before .before .before .before .before .loop .tail = omega arith in
+    let at-loop = c .before .before .before .before .before .before .before .before .before in
+    let p = at-loop .before .before .before .pre in
+    let z = p .0 .sized in
+    let h : at-loop .loop .head < at-loop .loop .tail = omega arith in
     let e = c .before .before .visit .ensures in
-    grow-found _ _ _ _ _ _ (p .0 .few-slots) (p .0 .few-tides) (p .1 .0) _ _ _ _ _ (i .0) h _ _ _ _ _ (e .0) (c .if1 .taken) (e .1 .0 (c .if1 .taken))
+    let free = c .if1 .taken in
+    grow-found (z .few-slots) (z .few-tides) (p .0 .matching) (at-loop .loop .inv .0) h (e .0) free (e .1 .0 free)
 
 add-head : tie.Need-add-head Inv-loop μ-loop
 add-head c =
-    let z = c .before .before .before .before .before .before .before .before .before .before .before .before .pre .0 .few-slots in
-    let f = c .before .before .before .before .before .before .before .before .before .loop .inv .0 .tree .few in
-    let h : c .before .before .before .before .before .before .before .before .before .loop .head < c .before .before .before .before .before .before .before .before .before .loop .tail = omega arith in
+    let at-loop = c .before .before .before .before .before .before .before .before .before in
+    let z = at-loop .before .before .before .pre .0 .sized .few-slots in
+    let f = at-loop .loop .inv .0 .tree .few in
+    let h : at-loop .loop .head < at-loop .loop .tail = omega arith in
     omega arith
 
 loop-less : tie.Need-loop-less Inv-loop μ-loop
 loop-less c =
-    let f = c .before .before .before .before .before .before .before .before .before .loop .inv .0 .tree .few in
-    let h : c .before .before .before .before .before .before .before .before .before .loop .head < c .before .before .before .before .before .before .before .before .before .loop .tail = omega arith in
+    let at-loop = c .before .before .before .before .before .before .before .before .before in
+    let f = at-loop .loop .inv .0 .tree .few in
+    let h : at-loop .loop .head < at-loop .loop .tail = omega arith in
     omega arith
 
 loop-again : tie.Need-loop-again Inv-loop μ-loop
 loop-again c =
-    let p = c .before .before .before .before .before .before .before .before .before .before .before .before .pre in
-    let i = c .before .before .before .before .before .before .before .before .before .loop .inv in
-    let h : c .before .before .before .before .before .before .before .before .before .loop .head < c .before .before .before .before .before .before .before .before .before .loop .tail = omega arith in
+    let at-loop = c .before .before .before .before .before .before .before .before .before in
+    let p = at-loop .before .before .before .pre in
+    let z = p .0 .sized in
+    let h : at-loop .loop .head < at-loop .loop .tail = omega arith in
     let e = c .before .before .visit .ensures in
     let q = e .1 .1 (c .if1 .left) in
-    (grow-again _ _ _ _ _ _ (p .0 .few-slots) (p .0 .few-tides) (p .1 .0) _ _ _ _ _ (i .0) h _ _ _ _ _ (e .0) (q .end), q .marked)
+    (grow-again (z .few-slots) (z .few-tides) (p .0 .matching) (at-loop .loop .inv .0) h (e .0) (q .end), q .marked)
 
 returns-2 : tie.Need-returns-2 Inv-loop μ-loop
 returns-2 c =
     let p = c .before .before .before .before .pre in
-    grow-none _ _ _ _ _ _ (p .0 .few-slots) (p .0 .few-tides) (p .1 .0) _ _ _ _ _ (c .before .loop .inv .0) _ _ (p .0 .few-tides) (omega arith)
+    let z = p .0 .sized in
+    grow-none (z .few-slots) (z .few-tides) (p .0 .matching) (c .before .loop .inv .0) (z .few-tides) (omega arith)
 
 pub grow-spec : {M : Type 1} → statement M
 grow-spec =

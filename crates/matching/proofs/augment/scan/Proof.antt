@@ -1,4 +1,4 @@
--- `scan` meets its contract. Each turn sees one tide more, or meets a free one; the measure is the tides left. Assumes nothing.
+-- Every tide below t that the slot can hold is seen, and none of those seen here is free; tides - t falls. Assumes nothing.
 use mathlib.Core.Path.{refl, _∙_}
 use Prim.Native.Nat.{_-_, _≤_}
 use mathlib.Core.Logic.{⊎-elim}
@@ -19,55 +19,68 @@ abbrev μ-loop : tie.MeasureT-loop
 loop-holds : tie.Need-loop-holds Inv-loop μ-loop
 loop-holds c =
     let p = c .before .before .pre in
-    (omega arith, scan-start _ _ _ _ _ (p .0 .few-slots) (p .0 .few-tides) (p .1 .1 .1 .0) _ _ (p .1 .0) _ _ _ (p .1 .1 .1 .1) (p .1 .1 .0))
+    let z = p .0 .sized in
+    (omega arith, scan-start (z .few-slots) (z .few-tides) (p .0 .matching) (p .1 .0 .0) (p .1 .1) (p .1 .0 .1))
 
 wanted-requires : tie.Need-wanted-requires Inv-loop μ-loop
 wanted-requires c κs =
     let p = c .before .before .before .before .before .pre in
-    (p .0, (p .1 .0, c .before .loop-test .taken))
+    (p .0 .sized, (p .1 .0 .0, c .before .loop-test .taken))
 
 mul-h : tie.Need-mul-h Inv-loop μ-loop
-mul-h c = let few = c .before .before .before .before .before .before .before .pre .0 .few-tides in omega arith
+mul-h c = let few = c .before .before .before .before .before .before .before .pre .0 .sized .few-tides in omega arith
 
 element-copy-out-h : tie.Need-element-copy-out-h Inv-loop μ-loop
 element-copy-out-h c =
-    let few = c .before .before .before .before .before .before .before .pre .0 .few-tides in
+    let few = c .before .before .before .before .before .before .before .pre .0 .sized .few-tides in
     omega arith
 
 returns : tie.Need-returns Inv-loop μ-loop
 returns c =
     let taken = c .before .before .if1 .taken in
     let w = c .before .before .before .wanted .ensures in
-    (c .before .before .before .before .before .before .loop .inv .1, (λ _. record { edge = w .edge taken; free = c .if2 .taken }, λ h. absurd (omega arith)))
+    let i = c .before .before .before .before .before .before .loop .inv .1 in
+    (i, (λ _. record { edge = w .edge taken; free = c .if2 .taken }, λ h. absurd (omega arith)))
 
 push-requires : tie.Need-push-requires Inv-loop μ-loop
 push-requires c κs =
-    let p = c .before .before .before .before .before .before .before .before .before .before .before .before .pre in
+    let at-wanted = c .before .before .before .before .before .before in
+    let at-loop = at-wanted .before .before .before in
+    let p = at-loop .before .before .before .pre in
+    let z = p .0 .sized in
     let taken = c .before .before .before .before .before .if1 .taken in
-    let w = c .before .before .before .before .before .before .wanted .ensures in
-    let r = scan-room _ _ _ _ _ (p .0 .few-slots) (p .0 .few-tides) (p .1 .1 .1 .0) _ _ (p .1 .0) _ _ _ _ _ _ _ _ (c .before .before .before .before .before .before .before .before .before .loop .inv .1) (c .before .before .before .before .before .before .before .before .loop-test .taken) (w .new taken) (w .edge taken) (c .before .before .before .if2 .left) in
-    let z = p .0 in
-    omega (arith, z .few-slots, z .few-tides, c .before .before .before .before .before .before .before .before .loop-test .taken, c .before .before .before .if2 .left)
+    let w = at-wanted .wanted .ensures in
+    let tl = at-wanted .before .before .loop-test .taken in
+    let hl = c .before .before .before .if2 .left in
+    let r = scan-room (z .few-slots) (z .few-tides) (p .0 .matching) (p .1 .0 .0) (at-loop .loop .inv .1) tl (w .new taken) (w .edge taken) hl in
+    omega (arith, z .few-slots, z .few-tides, tl, hl)
 
 add-tail : tie.Need-add-tail Inv-loop μ-loop
 add-tail c =
-    let z = c .before .before .before .before .before .before .before .before .before .before .before .before .before .pre .0 .few-slots in
-    let f = c .before .before .before .before .before .before .before .before .before .before .loop .inv .1 .tree .few in
+    let at-loop = c .before .before .before .before .before .before .before .before .before .before in
+    let z = at-loop .before .before .before .pre .0 .sized .few-slots in
+    let f = at-loop .loop .inv .1 .tree .few in
     omega arith
 
 add-t : tie.Need-add-t Inv-loop μ-loop
-add-t c = let few = c .before .before .before .before .before .before .before .pre .0 .few-tides in omega arith
+add-t c = let few = c .before .before .before .before .before .before .before .pre .0 .sized .few-tides in omega arith
 
 loop-again : tie.Need-loop-again Inv-loop μ-loop
 loop-again c =
     let p = c .before .before .before .before .before .before .before .pre in
+    let z = p .0 .sized in
+    let m = p .0 .matching in
+    let sl = p .1 .0 .0 in
     let e = c .before .wanted .ensures in
     let i = c .before .before .before .before .loop .inv .1 in
     let tl = c .before .before .before .loop-test .taken in (
       omega arith,
       ⊎-elim
-          (λ w. scan-push _ _ _ _ _ (p .0 .few-slots) (p .0 .few-tides) (p .1 .1 .1 .0) _ _ (p .1 .0) _ _ _ _ _ _ _ _ i tl (e .new (w .0 .taken)) (e .edge (w .0 .taken)) (w .2 .left) _ _ _ _ (w .7 ∙ w .6 .ensures .0) (w .8 ∙ w .6 .ensures .1 .0) (w .9 ∙ w .6 .ensures .1 .1) (w .10))
-          (λ w. scan-skip _ _ _ _ _ (p .0 .few-slots) (p .0 .few-tides) (p .1 .1 .1 .0) _ _ (p .1 .0) _ _ _ _ _ _ _ _ i (e .not (w .0 .left)) _ _ _ _ (w .1) (w .2) (w .3) (w .4))
+          (λ w.
+          let push = w .6 .ensures in
+          scan-push (z .few-slots) (z .few-tides) m sl i tl (e .new (w .0 .taken)) (e .edge (w .0 .taken)) (w .2 .left)
+          (w .7 ∙ push .0) (w .8 ∙ push .1 .0) (w .9 ∙ push .1 .1) (w .10))
+          (λ w. scan-skip (z .few-slots) (z .few-tides) m sl i (e .not (w .0 .left)) (w .1) (w .2) (w .3) (w .4))
           (c .if1 .came),
     )
 
@@ -75,8 +88,9 @@ returns-2 : tie.Need-returns-2 Inv-loop μ-loop
 returns-2 c =
     let i = c .before .loop .inv .1 in
     let p = c .before .before .before .before .pre in
-    let few = p .0 .few-tides in
-    (scan-end _ _ _ _ _ (p .0 .few-slots) (p .0 .few-tides) (p .1 .1 .1 .0) _ _ (p .1 .0) _ _ _ _ _ _ _ _ i _ (c .loop-test .left), (λ h. absurd (omega arith), λ _. refl))
+    let small = p .0 .sized .few-slots in
+    let few = p .0 .sized .few-tides in
+    (scan-end small few (p .0 .matching) (p .1 .0 .0) i (c .loop-test .left), (λ h. absurd (omega arith), λ _. refl))
 
 pub scan-spec : {M : Type 1} → statement M
 scan-spec =

@@ -1,4 +1,4 @@
--- `swap` meets its contract: the two stores are what `freed` says. Assumes nothing.
+-- The stores are what `freed` says, by whether the slot held a tide. Assumes nothing.
 use mathlib.Core.Path.{refl, sym}
 use borrow.Author.Needs.{needs}
 use Rattle.matching.proofs.Shift.{freed-yes, freed-no}

@@ -1,4 +1,4 @@
--- `wanted` meets its contract. Assumes nothing.
+-- One test whether the tide is seen, one whether the slot can hold it. Assumes nothing.
 use mathlib.Core.Bool.{false≢true}
 use native.Mathlib.Omega.{arith}
 use borrow.Author.Needs.{needs}

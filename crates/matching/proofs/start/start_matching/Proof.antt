@@ -1,4 +1,4 @@
--- `start_matching` meets its contract: each turn leaves a matching. Assumes nothing.
+-- The tables are a matching; n - t falls. Assumes nothing.
 use native.Mathlib.Omega.{arith}
 use Prim.Native.Nat.{_-_}
 use Rattle.matching.specs.Graph.{Edge}
@@ -13,24 +13,28 @@ abbrev μ-loop : tie.MeasureT-loop
 μ-loop allowed settings owner kind slots n tide₀ slot₀ next₀ hint t₀ tide slot next t = n - t
 
 loop-holds : tie.Need-loop-holds Inv-loop μ-loop
-loop-holds c = c .before .before .before .pre .1 .1
+loop-holds c = c .before .before .before .pre .0 .matching
 
 shared-slice-read-take-next : tie.Need-shared-slice-read-take-next Inv-loop μ-loop
 shared-slice-read-take-next c =
-    let p = c .before .before .before .before .before .before .before .before .before .before .before .before .pre .0 .settings-long in
+    let at-loop = c .before .before .before .before .before .before .before .before in
+    let long = at-loop .before .before .before .before .pre .0 .sized .settings-long in
     omega arith
 
 take-next-requires : tie.Need-take-next-requires Inv-loop μ-loop
 take-next-requires c κs =
-    let p = c .before .before .before .before .before .before .before .before .before .before .before .before .pre in
+    let at-loop = c .before .before .before .before .before .before .before .before in
+    let z = at-loop .before .before .before .before .pre .0 .sized in
     let l = c .before .before .before .before .before .before .before .loop-test .taken in
-    (p .0, (c .before .before .before .before .before .before .before .before .loop .inv, (c .before .before .before .before .if1 .taken, (p .0 .high _ l, l))))
+    (record { sized = z; matching = at-loop .loop .inv }, (c .before .before .before .before .if1 .taken, z .high _ l, l))
 
 take-next-requires-2 : tie.Need-take-next-requires-2 Inv-loop μ-loop
 take-next-requires-2 c κs =
-    let p = c .before .before .before .before .before .before .before .before .before .before .before .before .before .before .before .before .pre in
-    let l = c .before .before .before .before .before .before .before .before .before .before .before .loop-test .taken in
-    (p .0, (c .before .before .before .take-next .ensures, (c .before .before .before .before .before .before .before .before .if1 .taken, (omega arith, l))))
+    let at-first = c .before .before .before in
+    let at-loop = at-first .before .before .before .before .before .before .before .before .before in
+    let z = at-loop .before .before .before .before .pre .0 .sized in
+    let l = at-first .before .before .before .before .before .before .before .before .loop-test .taken in
+    (record { sized = z; matching = at-first .take-next .ensures }, (at-first .before .before .before .before .before .if1 .taken, omega arith, l))
 
 loop-again : tie.Need-loop-again Inv-loop μ-loop
 loop-again c = c .take-next2 .ensures

@@ -1,4 +1,4 @@
--- `take_next` meets its contract: it leaves the matching, or gives the slot a free tide that it can hold. Assumes nothing.
+-- The matching is left as it is, or the slot gets a free tide that it can hold. Assumes nothing.
 use native.Mathlib.Omega.{arith}
 use borrow.Author.Tests.{not-false}
 use borrow.Author.Needs.{needs}
@@ -8,9 +8,14 @@ use Rattle.matching.proofs.start.take_next.Tie as tie
 
 returns-6 : tie.Need-returns-6
 returns-6 c =
-    let p = c .before .before .before .before .before .before .before .before .before .before .before .before .before .before .before .before .before .before .pre in
+    let at-edge = c .before .before .before .before in
+    let at-free = at-edge .before .before .before .before .before .before .before in
+    let at-slot = at-free .before .before in
+    let p = at-slot .before .before .before .before .before .pre in
+    let z = p .0 .sized in
     let e = c .swap .ensures in
-    given _ _ _ _ _ (p .0 .few-slots) (p .0 .few-tides) (p .1 .0) _ _ (omega arith) (p .1 .1 .1 .1) (omega arith) (c .before .before .before .before .edge .ensures .holds (not-false _ (c .before .before .before .if5 .left))) _ _ (e .1 .0) (e .1 .1)
+    let holds = at-edge .edge .ensures .holds (not-false _ (c .before .before .before .if5 .left)) in
+    given (z .few-slots) (z .few-tides) (p .0 .matching) (at-slot .if1 .left) (p .1 .2) (at-free .if2 .left) holds (e .1 .0) (e .1 .1)
 
 pub take-next-spec : {M : Type 1} → statement M
 take-next-spec =

@@ -1,4 +1,4 @@
--- `first_allowed` meets its contract: the tide may go to no block passed. Assumes nothing.
+-- The tide may go to no block below m; blocks - m falls. Assumes nothing.
 use native.Mathlib.Omega.{arith}
 use Prim.Native.Nat.{_-_, _≤_}
 use borrow.Author.Count.{below-more}

@@ -1,4 +1,4 @@
--- By its counts. Assumes nothing.
+-- The counts are those of the ball, and they meet the minima where the ball does. Assumes nothing.
 use borrow.Author.Needs.{needs}
 use mathlib.Core.Path.{_∙_}
 use Rattle.promise.specs.Promise.{meeting}

@@ -1,7 +1,8 @@
--- The bound, by bisection. Assumes nothing.
+-- Bisection: no radius below low has an assignment, since the first tide's ball of low - 1 falls short; high - low falls. Assumes nothing.
 use native.Mathlib.Omega.{arith}
 use Rattle.radius_search.specs.Bounds.{Bounded}
 use Rattle.radius_search.proofs.BoundLaws.{bounded-zero, bounded-more}
+use Rattle.study.specs.Limits.{maxDistance}
 use Rattle.promise.specs.Promise.{meeting}
 use mathlib.Core.Path.{sym, _∙_}
 use Prim.Native.Nat.{_≤_, _-_}
@@ -9,7 +10,7 @@ use Rattle.radius_search.proofs.bound.lower_bound.Statement.{statement}
 use Rattle.radius_search.proofs.bound.lower_bound.Tie as tie
 
 abbrev Inv-loop : tie.InvT-loop
-Inv-loop distances settings n minima low₀ high₀ low high = (low ≤ high) × (high ≤ 1048575) × Bounded distances n (meeting minima n settings) low
+Inv-loop distances settings n minima low₀ high₀ low high = (low ≤ high) × (high ≤ maxDistance) × Bounded distances n (meeting minima n settings) low
 
 abbrev μ-loop : tie.MeasureT-loop
 μ-loop distances settings n minima low₀ high₀ low high = high - low
@@ -24,7 +25,9 @@ loop-again : tie.Need-loop-again Inv-loop μ-loop
 loop-again c = (omega arith, omega arith, c .before .before .before .loop .inv .2)
 
 loop-again-2 : tie.Need-loop-again-2 Inv-loop μ-loop
-loop-again-2 c = (omega arith, omega arith, bounded-more _ _ _ _ (c .before .before .before .before .before .before .pre .1) (sym (c .before .ball-meets .ensures) ∙ c .if1 .left))
+loop-again-2 c =
+    let short = sym (c .before .ball-meets .ensures) ∙ c .if1 .left in
+    (omega arith, omega arith, bounded-more _ _ _ _ (c .before .before .before .before .before .before .pre .1) short)
 
 returns : tie.Need-returns Inv-loop μ-loop
 returns c = c .before .loop .inv .2

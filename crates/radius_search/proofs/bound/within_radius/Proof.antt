@@ -1,4 +1,4 @@
--- One test. Assumes nothing.
+-- One case for each outcome of the test. Assumes nothing.
 use native.Mathlib.Omega.{arith}
 use borrow.Author.Tests.{le-leb, lt-leb}
 use Rattle.radius_search.proofs.bound.within_radius.Statement.{statement}

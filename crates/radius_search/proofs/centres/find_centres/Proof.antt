@@ -1,73 +1,47 @@
--- The centres among the first tides, one tide after the other. Assumes nothing.
+-- The front of the table holds the centres among the tides below t, as many as count; n - t falls. Assumes nothing.
 use native.Mathlib.Omega.{arith}
-use Rattle.radius_search.specs.Front.{Front}
-use Rattle.radius_search.proofs.FrontLaws.{centres-few, centres-below, centres-start, centres-hit, centres-miss}
-use Rattle.radius_theory.specs.Arrays.{within}
-use Rattle.study.specs.Problem.{centresAmong}
-use mathlib.Core.Path.{_≡_, sym, _∙_, subst}
+use Rattle.radius_search.proofs.FrontLaws.{CentresTo, to-start, to-fits, to-tides, to-hit, to-miss, to-done}
+use mathlib.Core.Path.{_≡_}
 use Prim.Native.Nat.{_≤_, _-_}
 use Rattle.radius_search.proofs.centres.find_centres.Statement.{statement}
 use Rattle.radius_search.proofs.centres.find_centres.Tie as tie
 
 abbrev Inv-loop : tie.InvT-loop
-Inv-loop distances n g centres₀ count₀ t₀ centres count t = (t ≤ n) × Front centres count (centresAmong (within distances n) g t)
+Inv-loop distances n g centres₀ count₀ t₀ centres count t = (t ≤ n) × CentresTo distances n g t count centres
 
 abbrev μ-loop : tie.MeasureT-loop
 μ-loop distances n g centres₀ count₀ t₀ centres count t = n - t
 
 loop-holds : tie.Need-loop-holds Inv-loop μ-loop
-loop-holds c = (omega arith, centres-start (within (c .before .args .distances .now) (c .before .args .n)) (c .before .args .g) _ (c .before .pre .2))
+loop-holds c = (omega arith, to-start _ _ _ (c .before .pre .1))
 
 far-from-requires : tie.Need-far-from-requires Inv-loop μ-loop
 far-from-requires c κs =
-    let args = c .before .before .before .before .args in
-    let turn = c .before .before .loop in
     let pre = c .before .before .before .before .pre in
-    let F = turn .inv .1 in
-    let q = centres-few (within (args .distances .now) (args .n)) (args .g) (turn .t) in
-    ((pre .0, pre .1, F .size, omega (arith, F .long), c .before .loop-test .taken), λ m l. let h = centres-below (within (args .distances .now) (args .n)) (args .g) (turn .t) F m l in omega arith)
+    let i = c .before .before .loop .inv in
+    (pre .0, (to-tides (i .1) (i .0) (pre .0 .few), (i .1 .front .size, c .before .loop-test .taken)))
 
 mul-centres : tie.Need-mul-centres Inv-loop μ-loop
-mul-centres c =
-    let args = c .before .before .before .before .before .before .args in
-    let turn = c .before .before .before .before .loop in
-    let F = turn .inv .1 in
-    let q = centres-few (within (args .distances .now) (args .n)) (args .g) (turn .t) in
-    omega (arith, F .long)
+mul-centres c = omega (arith, to-fits (c .before .before .before .before .loop .inv .1))
 
 element-write-centres : tie.Need-element-write-centres Inv-loop μ-loop
-element-write-centres c =
-    let args = c .before .before .before .before .before .before .args in
-    let turn = c .before .before .before .before .loop in
-    let F = turn .inv .1 in
-    let q = centres-few (within (args .distances .now) (args .n)) (args .g) (turn .t) in
-    omega (arith, F .long)
+element-write-centres c = omega (arith, to-fits (c .before .before .before .before .loop .inv .1))
 
 add-count : tie.Need-add-count Inv-loop μ-loop
-add-count c =
-    let args = c .before .before .before .before .before .before .args in
-    let turn = c .before .before .before .before .loop in
-    let F = turn .inv .1 in
-    let q = centres-few (within (args .distances .now) (args .n)) (args .g) (turn .t) in
-    omega (arith, F .long)
+add-count c = omega (arith, to-fits (c .before .before .before .before .loop .inv .1))
 
 loop-again : tie.Need-loop-again Inv-loop μ-loop
 loop-again c =
-    let args = c .before .before .before .before .before .before .args in
-    let turn = c .before .before .before .before .loop in
-    (omega arith, centres-hit (within (args .distances .now) (args .n)) (args .g) (turn .t) (turn .inv .1) (sym (c .if1 .taken) ∙ c .before .far-from .ensures) (omega arith))
+    (omega arith, to-hit (c .before .before .before .before .loop .inv .1) (c .before .far-from .ensures) (c .if1 .taken) (omega arith))
 
 loop-again-2 : tie.Need-loop-again-2 Inv-loop μ-loop
 loop-again-2 c =
-    let args = c .before .before .before .before .before .before .args in
-    let turn = c .before .before .before .before .loop in
-    (omega arith, centres-miss (within (args .distances .now) (args .n)) (args .g) (turn .t) (turn .inv .1) (sym (c .if1 .left) ∙ c .before .far-from .ensures))
+    (omega arith, to-miss (c .before .before .before .before .loop .inv .1) (c .before .far-from .ensures) (c .if1 .left))
 
 returns : tie.Need-returns Inv-loop μ-loop
 returns c =
-    let args = c .before .before .before .args in
-    let e : c .before .loop .t ≡ args .n = omega arith in
-    record { front = subst (λ z. Front (c .before .loop .centres) (c .before .loop .count) (centresAmong (within (args .distances .now) (args .n)) (args .g) z)) e (c .before .loop .inv .1) }
+    let e : c .before .loop .t ≡ c .before .before .before .args .n = omega arith in
+    to-done (c .before .loop .inv .1) e
 
 pub find-centres-spec : {M : Type 1} → statement M
 find-centres-spec =

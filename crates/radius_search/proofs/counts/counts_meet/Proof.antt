@@ -1,4 +1,4 @@
--- Setting after setting. Assumes nothing.
+-- The counts of the first j settings meet their minima; 8 - j falls. Assumes nothing.
 use borrow.Author.Needs.{needs}
 use native.Mathlib.Omega.{arith}
 use Prim.Native.Nat.{_+_, _≤_, _-_}
@@ -29,10 +29,13 @@ returns-2 : tie.Need-returns-2 Inv-loop μ-loop
 unfolding met
 returns-2 c =
     let args = c .before .before .before .before .before .before .before .before .args in
-    let turn = c .before .before .before .before .loop in
+    let b = args .minima .b in
+    let counts = args .counts .now in
+    let j = c .before .before .before .before .loop .j in
     let e = c .before .wide2 .ensures in
     let h = c .before .before .before .before .before .before .before .wide .ensures in
-    rw (le-leb (args .minima .b0) (args .found) (omega arith), every-fails (enough (args .minima .b) (args .counts .now)) 8 (turn .j) (c .before .before .before .loop-test .taken) (lt-leb (getD (args .minima .b) (turn .j) 0) (getD (args .counts .now) (turn .j + 1) 0) (omega arith)))
+    let short = lt-leb (getD b j 0) (getD counts (j + 1) 0) (omega arith) in
+    rw (le-leb (args .minima .b0) (args .found) (omega arith), every-fails (enough b counts) 8 j (c .before .before .before .loop-test .taken) short)
 
 loop-again : tie.Need-loop-again Inv-loop μ-loop
 loop-again c =
@@ -46,7 +49,9 @@ unfolding met
 returns-3 c =
     let args = c .before .before .before .before .before .args in
     let h = c .before .before .before .before .wide .ensures in
-    rw (le-leb (args .minima .b0) (args .found) (omega arith), every-done (enough (args .minima .b) (args .counts .now)) (c .before .loop .j) 8 (c .before .loop .inv .0) (c .loop-test .left) (c .before .loop .inv .1))
+    let i = c .before .loop .inv in
+    let all = every-done (enough (args .minima .b) (args .counts .now)) (c .before .loop .j) 8 (i .0) (c .loop-test .left) (i .1) in
+    rw (le-leb (args .minima .b0) (args .found) (omega arith), all)
 
 pub counts-meet-spec : {M : Type 1} → statement M
 counts-meet-spec =

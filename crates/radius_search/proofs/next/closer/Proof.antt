@@ -1,4 +1,4 @@
--- The lesser of the best and a number above g. Assumes nothing.
+-- One case for each way out: x is not above g, x is the lesser, best is. Assumes nothing.
 use native.Mathlib.Omega.{arith}
 use mathlib.Core.Logic.{inl, inr}
 use mathlib.Core.Path.{refl}

@@ -1,4 +1,4 @@
--- The next radius of one tide's row. Assumes nothing.
+-- best is the next radius over the distances from tide c to the tides below t; n - t falls. Assumes nothing.
 use borrow.Author.Needs.{needs}
 use native.Mathlib.Omega.{arith}
 use Rattle.radius_search.specs.Next.{Next, InRow}
@@ -21,13 +21,14 @@ loop-again : tie.Need-loop-again Inv-loop μ-loop
 loop-again c =
     let args = c .before .before .before .before .before .args in
     let turn = c .before .before .before .loop in
-    (omega arith, row-step (args .distances .now) (args .g) (args .start) (turn .best) (c .closer .result) (args .c) (turn .t) (turn .inv .1) (c .closer .ensures))
+    (omega arith, row-step (args .distances .now) (args .c) (turn .t) (turn .inv .1) (c .closer .ensures))
 
 returns : tie.Need-returns Inv-loop μ-loop
 returns c =
     let args = c .before .before .before .args in
-    let e : c .before .loop .t ≡ args .n = omega arith in
-    subst (λ z. Next (InRow (args .distances .now) (args .c) z) (args .g) (args .start) (c .before .loop .best)) e (c .before .loop .inv .1)
+    let turn = c .before .loop in
+    let e : turn .t ≡ args .n = omega arith in
+    subst (λ z. Next (InRow (args .distances .now) (args .c) z) (args .g) (args .start) (turn .best)) e (turn .inv .1)
 
 pub next-in-row-spec : {M : Type 1} → statement M
 next-in-row-spec =

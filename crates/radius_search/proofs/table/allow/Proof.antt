@@ -1,4 +1,4 @@
--- The table, row after row. Assumes nothing.
+-- The rows of the first m blocks are right; count - m falls. Assumes nothing.
 use native.Mathlib.Omega.{arith}
 use Rattle.radius_search.specs.Table.{Table}
 use Rattle.radius_search.proofs.TableLaws.{table-none, table-more, table-done}
@@ -20,10 +20,14 @@ allow-block-requires : tie.Need-allow-block-requires Inv-loop μ-loop
 allow-block-requires c κs =
     let pre = c .before .before .before .before .before .before .pre in
     let q = c .before .before .before .loop .inv .1 .same-length in
-    (pre .0 .0, pre .0 .1, omega arith, pre .1 (c .before .before .before .loop .m) (c .before .before .loop-test .taken), omega arith)
+    let f = pre .1 .0 .few in
+    let l = pre .1 .1 in
+    (pre .0, (pre .1 .0 .below _ (c .before .before .loop-test .taken), omega arith, omega arith))
 
 loop-again : tie.Need-loop-again Inv-loop μ-loop
-loop-again c = (omega arith, table-more (c .before .before .before .before .before .before .before .before .before .pre .0 .0) (c .before .before .before .before .before .before .loop .inv .1) (c .before .before .allow-block .ensures))
+loop-again c =
+    let at-loop = c .before .before .before .before .before .before in
+    (omega arith, table-more (at-loop .before .before .before .pre .0 .few) (at-loop .loop .inv .1) (c .before .before .allow-block .ensures))
 
 same-length : tie.Need-same-length Inv-loop μ-loop
 same-length c = c .before .loop .inv .1 .same-length

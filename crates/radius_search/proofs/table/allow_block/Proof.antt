@@ -1,4 +1,4 @@
--- A row of the table. Assumes nothing.
+-- Row m is right up to tide t, and the other rows stay; n - t falls. Assumes nothing.
 use borrow.Author.Needs.{needs}
 use native.Mathlib.Omega.{arith}
 use Rattle.radius_search.specs.Table.{RowTo}

@@ -1,4 +1,4 @@
--- An entry of the table. Assumes nothing.
+-- One case for each outcome of the test. Assumes nothing.
 use native.Mathlib.Omega.{arith}
 use Rattle.lists.specs.Lists.{bit}
 use borrow.Author.Tests.{le-leb, lt-leb}

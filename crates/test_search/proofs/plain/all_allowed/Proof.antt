@@ -1,4 +1,4 @@
--- `all_allowed` is safe and ends. Assumes nothing.
+-- t is at most n; n - t falls. Assumes nothing.
 use native.Mathlib.Omega.{arith}
 use Prim.Native.Nat.{_-_, _≤_}
 use Rattle.test_search.proofs.plain.all_allowed.Statement.{statement}

@@ -1,4 +1,4 @@
--- `exists` is safe and ends. Assumes nothing.
+-- At most 729 lists are tried; those left fall. Assumes nothing.
 use native.Mathlib.Omega.{arith}
 use Prim.Native.Nat.{_-_, _≤_}
 use Rattle.test_search.proofs.plain.exists.Statement.{statement}

@@ -1,4 +1,4 @@
--- `members` is safe and ends. Assumes nothing.
+-- The count is at most t, and t at most n; n - t falls. Assumes nothing.
 use native.Mathlib.Omega.{arith}
 use Prim.Native.Nat.{_-_, _≤_}
 use Rattle.test_search.proofs.plain.members.Statement.{statement}
