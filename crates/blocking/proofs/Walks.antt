@@ -26,7 +26,8 @@ use ghost.Atoms.{Atoms, sem}
 use sound.WpLaws.{FmC, WpFn-mono}
 use contract.Monad.{fact}
 use contract.Running.{Running, GhostRules, givenOf, tables, tablesOf}
-use types.Kit.{Given, Item, ‵, raw, _⊛_, later, some, ⋆, nth, push, ⊢++, Goal, Post, post, runs, lands, prop, frees, Seq, Step, step, _$_, move, drop, use1, split, pick, await, suffices}
+use types.Kit.{Given, Item, ‵, raw, _⊛_, later, some, ⋆, nth, push, ⊢++, Goal, Post, post, runs, lands, prop, frees, Seq, Step, step, _$_, move, drop, use1}
+use types.Kit.{split, pick, await, suffices}
 use types.Run.{Opd, Opds, load, from, stop, look, first, branches, skips, jumps, free1, free0}
 use denote.Signature.{typeAt}
 use denote.Steps.{heard}

@@ -2,7 +2,7 @@
 use Prim.Native.Nat.{ℕ}
 use mathlib.Core.List.{List, [], _++_}
 use lib.ListN.{length, drop}
-use Rattle.lists.specs.Lists.{overwrite}
+use Rattle.lists.specs.Lists.{overwrite, over}
 use Rattle.study.specs.declared.BlockRecord.{BlockRecord}
 use Rattle.study.specs.Problem.{blocking}
 use Rattle.study.specs.Study.{size, problem}
@@ -23,7 +23,7 @@ centresFront s g list = settled (centresAnswer s list) (centreNumbers (studyOf s
 
 -- the whole list: the rest of it stays
 unfoldable pub centresLeaves : State → ℕ → List ℕ → List ℕ
-centresLeaves s g list = centresFront s g list ++ drop (length (centresFront s g list)) list
+centresLeaves s g list = over (centresFront s g list) list
 
 -- ---- Block, lent a list and records; of each only the length counts for the answer
 

@@ -18,11 +18,14 @@ use Rattle.study.specs.declared.Answer.{Answer}
 use Rattle.study.specs.declared.Answer.the-variants.{Done, Refused}
 use Rattle.study.specs.Study.{Study, Contents, size, tide, distance, validMinima}
 use Rattle.study.specs.Refusals.{Numbered, number, seven, numbered, Verdict, accepted, refused, verdictOf, settled, Reason, firstOf, freshReasons, heldReasons}
-use Rattle.study.specs.Calls.{openReasons, opened, opening, minimaReasons, withMinima, settingMinima, Pair, violations, enterReasons, entered, entering, withdrawReasons, withdrawn, withdrawing}
+use Rattle.study.specs.Calls.{openReasons, opened, opening, minimaReasons, withMinima, settingMinima, Pair, violations, enterReasons, entered, entering}
+use Rattle.study.specs.Calls.{withdrawReasons, withdrawn, withdrawing}
 use Rattle.study.specs.Theorems.{ValidContents}
 use Rattle.study.proofs.CallLaws.{enters, entered-size, withdraws, withdrawn-size}
-use Rattle.validity.specs.Memory.{State, stateOf, short, isDataset, studyOf, contentsOf, setK, setSize, setMinima, setCount, recordOf, distancesOf, settingsOf, stored}
-use Rattle.dataset.specs.Answers.{freshAnswer, freshLeaves, heldAnswer, heldLeaves, openAnswer, openLeaves, minimaAnswer, minimaLeaves, enterAnswer, enterLeaves, withdrawAnswer, withdrawLeaves}
+use Rattle.validity.specs.Memory.{State, stateOf, short, isDataset, studyOf, contentsOf, setK, setSize, setMinima, setCount, recordOf, distancesOf}
+use Rattle.validity.specs.Memory.{settingsOf, stored}
+use Rattle.dataset.specs.Answers.{freshAnswer, freshLeaves, heldAnswer, heldLeaves, openAnswer, openLeaves, minimaAnswer, minimaLeaves, enterAnswer}
+use Rattle.dataset.specs.Answers.{enterLeaves, withdrawAnswer, withdrawLeaves}
 use Rattle.validity.proofs.ValidityLaws.{isDataset-T, valid-contents, study-size, study-distance}
 use Rattle.validity.proofs.LayoutLaws.{long, own-layout}
 use Rattle.triangle.specs.Pairs.{violationOf}
@@ -81,7 +84,8 @@ module _ (s : State) where
       by false false p q h = absurd (never (number 21) h)
 
   -- what refuses before the call's own reasons refuses the call
-  pub held-refused : (own : Contents → List Reason) {a : Answer} {x : Refusal} → a ≡ Refused x → verdictOf a ≡ heldAnswer s (λ _. []) → verdictOf a ≡ heldAnswer s own
+  pub held-refused : (own : Contents → List Reason) {a : Answer} {x : Refusal} → a ≡ Refused x → verdictOf a ≡ heldAnswer s (λ _. [])
+      → verdictOf a ≡ heldAnswer s own
   unfolding heldAnswer heldReasons freshReasons firstOf
   held-refused own {a} {x} e f = f ∙ by (short s) (isDataset s) (sym (ap verdictOf e) ∙ f)
     where
@@ -216,7 +220,8 @@ module _ (s : State) (setting : ℕ) (row : List ℕ) where
           unfolding enterReasons firstOf studyOf
           enter-6 f = enter-own (refused (number 6)) (rw (past-22, past-4, kind, f))
 
-          module _ (row-fits : every (length row) in-range ≡ true) {r : Violation} (e : r ≡ violationOf (violations (cell (s .distances)) (length row) new)) where
+          module _ (row-fits : every (length row) in-range ≡ true) {r : Violation}
+              (e : r ≡ violationOf (violations (cell (s .distances)) (length row) new)) where
             abbrev broken : List Pair
             broken = violations (distance S) (size S) new
 

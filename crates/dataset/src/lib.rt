@@ -14,7 +14,8 @@ ghost use mathlib.Core.Path.{_≡_};
 ghost use mathlib.Core.List.{[]};
 ghost use Rattle.study.specs.Refusals.{verdictOf};
 ghost use Rattle.validity.specs.Memory.{stateOf, entryState, exitState};
-ghost use Rattle.dataset.specs.Answers.{heldAnswer, openAnswer, openLeaves, minimaAnswer, minimaLeaves, enterAnswer, enterLeaves, withdrawAnswer, withdrawLeaves};
+ghost use Rattle.dataset.specs.Answers.{heldAnswer, openAnswer, openLeaves, minimaAnswer, minimaLeaves, enterAnswer, enterLeaves, withdrawAnswer};
+ghost use Rattle.dataset.specs.Answers.{withdrawLeaves};
 ghost use Rattle.dataset.specs.Accepted.{Passed, EnterAccepted, WithdrawAccepted};
 
 // The dataset becomes empty, whatever it was.

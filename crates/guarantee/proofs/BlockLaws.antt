@@ -164,4 +164,11 @@ module _ (H : Contents) (ok : ValidContents H) where
     unfolding figures
     block-canonical =
         subst (λ G. CanonicalBlock S G list₀ list records₀ records) figures-are
-        (record { radius = refl; blocks = refl; widest = refl; list-is = sym list-is; records-are = sym records-are; canonical = canonical S (ok .study) ample })
+        (record {
+          radius = refl;
+          blocks = refl;
+          widest = refl;
+          list-is = sym list-is;
+          records-are = sym records-are;
+          canonical = canonical S (ok .study) ample;
+        })

@@ -4,7 +4,8 @@ use mathlib.Core.List.{flatMap}
 use Rattle.lists.specs.Lists.{every, sumBelow, countBelow, tabulate}
 use Rattle.study.specs.Study.{noTide, tide, distance, meets, sufficient}
 use Rattle.study.specs.Refusals.{firstOf, freshReasons, heldReasons}
-use Rattle.study.specs.Calls.{openReasons, minimaReasons, triangle, violations, enterReasons, entered, entering, withdrawReasons, withdrawn, shortened, withdrawing, centresReasons, blockReasons, judgeReasons}
+use Rattle.study.specs.Calls.{openReasons, minimaReasons, triangle, violations, enterReasons, entered, entering, withdrawReasons, withdrawn, shortened}
+use Rattle.study.specs.Calls.{withdrawing, centresReasons, blockReasons, judgeReasons}
 use Rattle.file_format.specs.Bits.{binary, allBits, pack, packed}
 use Rattle.file_format.specs.File.{tideFields, fields, fileOf, headReasons, readReasons}
 use Rattle.study_file.specs.Answers.{writeReasons}
@@ -13,12 +14,14 @@ use Rattle.guarantee.specs.History.{reasonsAfter, verdict, changed, step
 use Rattle.guarantee.specs.Cases.{order, InOrder, OneRun}
 
 pub in-order : InOrder
-unfolding order verdict reasonsAfter heldReasons freshReasons updating inquiring readReasons headReasons openReasons minimaReasons enterReasons withdrawReasons centresReasons
+unfolding order verdict reasonsAfter heldReasons freshReasons updating inquiring readReasons headReasons openReasons minimaReasons
+    enterReasons withdrawReasons centresReasons
     blockReasons judgeReasons writeReasons firstOf noTide sufficient meets violations triangle distance tide fileOf fields tideFields packed pack
     allBits binary countBelow sumBelow every tabulate flatMap
 in-order = refl
 
 pub one-run : OneRun
-unfolding following step verdict reasonsAfter heldReasons freshReasons changed updating enterReasons entering entered withdrawReasons withdrawing withdrawn shortened firstOf
+unfolding following step verdict reasonsAfter heldReasons freshReasons changed updating enterReasons entering entered
+    withdrawReasons withdrawing withdrawn shortened firstOf
     violations triangle distance tide noTide every flatMap
 one-run = refl

@@ -9,6 +9,7 @@ use lib.Dec.{T, ltb}
 use lib.Arith.{le→nltb}
 use lib.ListN.{length, take, drop}
 use lib.Seq.{take-append-seam}
+use Rattle.lists.specs.Lists.{over}
 use Rattle.lists.proofs.Tests.{T-true, true-T, T-false}
 use Rattle.study.specs.Problem.{blocking}
 use Rattle.study.specs.Study.{Study, Contents, size, problem}
@@ -18,12 +19,14 @@ use Rattle.file_format.specs.File.{fileOf, decoded, readReasons}
 use Rattle.file_format.specs.Theorems.{Bytes}
 use Rattle.validity.specs.Memory.{State, short, isDataset, studyOf, contentsOf, stored}
 use Rattle.validity.proofs.Proofs.{for-datasets}
-use Rattle.dataset.specs.Answers.{freshAnswer, freshLeaves, heldAnswer, heldLeaves, openAnswer, openLeaves, minimaAnswer, minimaLeaves, enterAnswer, enterLeaves, withdrawAnswer, withdrawLeaves}
+use Rattle.dataset.specs.Answers.{freshAnswer, freshLeaves, heldAnswer, heldLeaves, openAnswer, openLeaves, minimaAnswer, minimaLeaves, enterAnswer}
+use Rattle.dataset.specs.Answers.{enterLeaves, withdrawAnswer, withdrawLeaves}
 use Rattle.dataset.proofs.AnswerLaws.{HeldAccepted, fresh-own, accepted-held, held-own}
 use Rattle.study_file.specs.Answers.{readAnswer, readLeaves, writeReasons, writeAnswer, writeReply, writeLeaves}
 use Rattle.study_file.proofs.Proofs.{for-files}
 use Rattle.blocking.specs.Answers.{centresAnswer, centresFront, centresLeaves, blockAnswer, blockReply, blockList, blockRecords, judgeAnswer, judgeReply}
-use Rattle.guarantee.specs.Runs.{updating, find-centres, make-blocks, judge-list, write-file, Output, inquiring, figureNumbers, judgementNumbers, Call, call-open, call-read, call-change, call-ask, Query, reasons, answer, made, after, lent, told, output}
+use Rattle.guarantee.specs.Runs.{updating, find-centres, make-blocks, judge-list, write-file, Output, inquiring, figureNumbers, judgementNumbers, Call}
+use Rattle.guarantee.specs.Runs.{call-open, call-read, call-change, call-ask, Query, reasons, answer, made, after, lent, told, output}
 use Rattle.guarantee.specs.Theorems.{replyNumbers, AsContracts, FilesAndDatasets}
 
 -- ---- demand 1
@@ -68,7 +71,7 @@ module _ (s : State) where
       let front = centreNumbers S g in
       let Q = inquiring (find-centres g list) in
       let tells = Q .tells (contentsOf s) in (
-        part-settled (λ (o : Output). o .lists) v tells (Q .lent) ∙ sym (part-settled (λ (l : List ℕ). (l ++ drop (length l) list) ∷ []) v front []),
+        part-settled (λ (o : Output). o .lists) v tells (Q .lent) ∙ sym (part-settled (λ (l : List ℕ). over l list ∷ []) v front []),
         part-settled (λ (o : Output). o .numbers) v tells (Q .lent) ∙ counted v front,
       )
     where
@@ -108,7 +111,7 @@ module _ (s : State) where
             let file = fileOf (contentsOf s) in (
               refl,
               part-settled (λ (o : Output). o .numbers) v tells (Q .lent) ∙ numbers-settled (λ n. n ∷ []) v (length file),
-              part-settled (λ (o : Output). o .lists) v tells (Q .lent) ∙ sym (part-settled (λ l. l ∷ []) v (file ++ drop (length file) bytes) bytes),
+              part-settled (λ (o : Output). o .lists) v tells (Q .lent) ∙ sym (part-settled (λ l. l ∷ []) v (over file bytes) bytes),
             );
       }
 
@@ -137,7 +140,7 @@ module _ (s : State) (bytes : List ℕ) (n : ℕ) (e : writeReply s (length byte
   file-is : take n (writeLeaves s bytes) ≡ written
   unfolding writeLeaves
   file-is =
-      ap₂ (λ (k : ℕ) v. take k (settled v (written ++ drop (length written) bytes) bytes)) (sym (accepts .1)) (accepts .0)
+      ap₂ (λ (k : ℕ) v. take k (settled v (over written bytes) bytes)) (sym (accepts .1)) (accepts .0)
       ∙ take-append-seam written (drop (length written) bytes)
 
   same : readLeaves s (take n (writeLeaves s bytes)) ≡ s
@@ -176,7 +179,8 @@ module _ (over : State) (file bytes : List ℕ) (b : Bytes file) (e : readAnswer
   unfolding writeReply writeLeaves
   written-again = (
     ap (λ v. replied v (length (fileOf (contentsOf read)))) writes ∙ ap (λ (l : List ℕ). value (length l)) own-file,
-    ap₂ (λ v (l : List ℕ). take (length file) (settled v (l ++ drop (length l) bytes) bytes)) writes own-file ∙ take-append-seam file (drop (length file) bytes),
+    ap₂ (λ v (l : List ℕ). take (length file) (settled v (over l bytes) bytes)) writes own-file
+        ∙ take-append-seam file (drop (length file) bytes),
   )
 
 pub files-and-datasets : FilesAndDatasets

@@ -18,8 +18,10 @@ use Rattle.validity.specs.Memory.{State, short, isDataset, contentsOf, stored}
 use Rattle.dataset.specs.Answers.{freshAnswer, heldAnswer}
 use Rattle.validity.proofs.Proofs.{for-datasets}
 use Rattle.dataset.proofs.AnswerLaws.{fresh-own, accepted-held}
-use Rattle.guarantee.specs.Runs.{Change, set-minima, enter, withdraw, updating, Inquiry, inquiring, Call, call-open, call-read, call-change, call-ask, reasons, answer, made, after, lent, told, output, Response, response, run}
-use Rattle.guarantee.specs.History.{held, onHeld, reasonsAfter, verdict, changing, changed, step, following, contentsAfter, tellsOf, toldAfter, outputs, learnt}
+use Rattle.guarantee.specs.Runs.{Change, set-minima, enter, withdraw, updating, Inquiry, inquiring, Call, call-open, call-read, call-change, call-ask}
+use Rattle.guarantee.specs.Runs.{reasons, answer, made, after, lent, told, output, Response, response, run}
+use Rattle.guarantee.specs.History.{held, onHeld, reasonsAfter, verdict, changing, changed, step, following, contentsAfter, tellsOf, toldAfter, outputs}
+use Rattle.guarantee.specs.History.{learnt}
 
 -- ---- what is held
 

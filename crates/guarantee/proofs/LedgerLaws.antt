@@ -19,12 +19,14 @@ use Rattle.study.specs.declared.Minima.{Minima}
 use Rattle.study.specs.Study.{Tide, Study, Contents, size, noTide, tide, distance}
 use Rattle.study.specs.Refusals.{Verdict, accepted, refused, settled, Reason, firstOf}
 use Rattle.study.specs.Calls.{opened, opening, withMinima, settingMinima, entered, entering, withdrawn, withdrawing, skip}
-use Rattle.study.proofs.CallLaws.{entered-size, entered-old, entered-new, entered-held, entered-row, old-or-new, skip-is, withdrawn-setting, withdrawn-distance, withdrawn-size, skip-inside, withdraws}
+use Rattle.study.proofs.CallLaws.{entered-size, entered-old, entered-new, entered-held, entered-row, old-or-new, skip-is, withdrawn-setting}
+use Rattle.study.proofs.CallLaws.{withdrawn-distance, withdrawn-size, skip-inside, withdraws}
 use Rattle.file_format.specs.File.{decoded}
 use Rattle.validity.specs.Memory.{State, short}
 use Rattle.guarantee.specs.Runs.{Change, set-minima, enter, withdraw, updating, Call, call-open, call-read, call-change, call-ask, answer, run}
 use Rattle.guarantee.specs.History.{held, onHeld, reasonsAfter, verdict, changing, changed, step, following, contentsAfter}
-use Rattle.guarantee.specs.Ledger.{Arrival, Ledger, noArrival, named, nameOf, fileLedger, emptyLedger, withArrival, withGone, noting, noted, noteAll, begun, ledgerAfter, Exactly}
+use Rattle.guarantee.specs.Ledger.{Arrival, Ledger, noArrival, named, nameOf, fileLedger, emptyLedger, withArrival, withGone, noting, noted, noteAll}
+use Rattle.guarantee.specs.Ledger.{begun, ledgerAfter, Exactly}
 use Rattle.guarantee.specs.Theorems.{Anew}
 use Rattle.guarantee.proofs.Follows.{past-ladder, holds, answers}
 use Rattle.guarantee.proofs.Names.{stays, arrived, remaining-count, name-nth, nth-name}

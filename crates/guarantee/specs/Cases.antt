@@ -10,7 +10,8 @@ use Rattle.study.specs.declared.Minima.{Minima}
 use Rattle.study.specs.declared.BlockRecord.{BlockRecord}
 use Rattle.study.specs.Study.{Tide, Contents, noTide}
 use Rattle.study.specs.Refusals.{number, seven, Verdict, accepted, refused}
-use Rattle.guarantee.specs.Runs.{set-minima, enter, withdraw, find-centres, make-blocks, judge-list, write-file, Call, call-open, call-read, call-change, call-ask}
+use Rattle.guarantee.specs.Runs.{set-minima, enter, withdraw, find-centres, make-blocks, judge-list, write-file, Call, call-open, call-read}
+use Rattle.guarantee.specs.Runs.{call-change, call-ask}
 use Rattle.guarantee.specs.History.{verdict, following}
 
 -- b0, and the same b for each setting

@@ -4,13 +4,14 @@
 use Prim.Native.Nat.{ℕ}
 use mathlib.Core.List.{List, [], _∷_, _++_}
 use lib.ListN.{length, drop}
-use Rattle.lists.specs.Lists.{overwrite}
+use Rattle.lists.specs.Lists.{overwrite, over}
 use Rattle.study.specs.declared.Minima.{Minima}
 use Rattle.study.specs.declared.BlockRecord.{BlockRecord}
 use Rattle.study.specs.Problem.{blocking}
 use Rattle.study.specs.Study.{Contents, size, problem}
 use Rattle.study.specs.Refusals.{Verdict, settled, Reason, firstOf, freshReasons, heldReasons}
-use Rattle.study.specs.Calls.{openReasons, opening, minimaReasons, settingMinima, enterReasons, entering, withdrawReasons, withdrawing, centresReasons, centreNumbers, blockReasons, Figures, figures, blockRecord, judgeReasons, Judgement, approval, disapproval, judgement}
+use Rattle.study.specs.Calls.{openReasons, opening, minimaReasons, settingMinima, enterReasons, entering, withdrawReasons, withdrawing, centresReasons}
+use Rattle.study.specs.Calls.{centreNumbers, blockReasons, Figures, figures, blockRecord, judgeReasons, Judgement, approval, disapproval, judgement}
 use Rattle.file_format.specs.File.{fileOf, decoded, readReasons}
 use Rattle.validity.specs.Memory.{State, short, isDataset, contentsOf, stored}
 use Rattle.study_file.specs.Answers.{writeReasons}
@@ -82,7 +83,7 @@ inquiring (find-centres g list) =
       lent = record { numbers = []; lists = list ∷ []; records = [] };
       tells = λ H. let front = centreNumbers (H .study) g in record {
         numbers = length front ∷ [];
-        lists = (front ++ drop (length front) list) ∷ [];
+        lists = over front list ∷ [];
         records = [];
       };
     }
@@ -108,7 +109,7 @@ inquiring (write-file bytes) =
       lent = record { numbers = []; lists = bytes ∷ []; records = [] };
       tells = λ H. let file = fileOf H in record {
         numbers = length file ∷ [];
-        lists = (file ++ drop (length file) bytes) ∷ [];
+        lists = over file bytes ∷ [];
         records = [];
       };
     }

@@ -22,7 +22,8 @@ use Rattle.validity.specs.Memory.{State, short, isDataset, contentsOf}
 use Rattle.dataset.specs.Answers.{openAnswer, openLeaves, minimaAnswer, minimaLeaves, enterAnswer, enterLeaves, withdrawAnswer, withdrawLeaves}
 use Rattle.study_file.specs.Answers.{readAnswer, readLeaves, writeAnswer, writeReply, writeLeaves}
 use Rattle.blocking.specs.Answers.{centresAnswer, centresFront, centresLeaves, blockAnswer, blockReply, blockList, blockRecords, judgeAnswer, judgeReply}
-use Rattle.guarantee.specs.Runs.{set-minima, enter, withdraw, find-centres, make-blocks, judge-list, write-file, Query, figureNumbers, judgementNumbers, Call, call-open, call-read, call-change, call-ask, reasons, answer, after, lent, output, Response, response, run}
+use Rattle.guarantee.specs.Runs.{set-minima, enter, withdraw, find-centres, make-blocks, judge-list, write-file, Query, figureNumbers, judgementNumbers}
+use Rattle.guarantee.specs.Runs.{Call, call-open, call-read, call-change, call-ask, reasons, answer, after, lent, output, Response, response, run}
 use Rattle.guarantee.specs.History.{held, contentsAfter, studyAfter, learnt}
 use Rattle.guarantee.specs.Ledger.{Ledger, emptyLedger, fileLedger, noteAll, ledgerAfter, Exactly}
 

@@ -81,7 +81,8 @@ module _ (q : ℕ → Bool) where
   nth-is (suc n) i h =
       ⊎-elim
       (λ t. let r = nth-is n i (ltb→lt i (countBelow n q) t) in
-      subst (Nth (suc n) i) (sym (cond-yes (ltb i (countBelow n q)) (nth n i) n t)) (record { below = omega (arith, r .below); pass = r .pass; rank = r .rank }))
+      subst (Nth (suc n) i) (sym (cond-yes (ltb i (countBelow n q)) (nth n i) n t))
+      (record { below = omega (arith, r .below); pass = r .pass; rank = r .rank }))
       (λ t. subst (Nth (suc n) i) (sym (cond-no (ltb i (countBelow n q)) (nth n i) n t)) (last (nltb→le i (countBelow n q) t) (test (q n))))
       (test (ltb i (countBelow n q)))
     where
@@ -106,7 +107,8 @@ module _ (k : ℕ) (q : ℕ → Bool) where
     where
       one-more : (b : Bool) (c x : ℕ) → x ≡ min k c → x + bit (b && ltb c k) ≡ min k (c + bit b)
       one-more true c x e =
-          ⊎-elim (λ t. omega (arith, ltb→lt c k t, ap bit (T-true (ltb c k) t))) (λ t. omega (arith, nltb→le c k t, ap bit (T-false (ltb c k) t))) (test (ltb c k))
+          ⊎-elim (λ t. omega (arith, ltb→lt c k t, ap bit (T-true (ltb c k) t)))
+          (λ t. omega (arith, nltb→le c k t, ap bit (T-false (ltb c k) t))) (test (ltb c k))
       one-more false c x e = omega arith
 
 -- ---- counts by classes
@@ -123,7 +125,8 @@ count-by zero p q = refl
 count-by (suc n) p q = omega (arith, count-by n p q, bit-by (p n) (q n))
 
 -- where f puts each number into one of k classes, the classes together are all that pass
-pub count-classes : (k n : ℕ) (q : ℕ → Bool) (f : ℕ → ℕ) → ((t : ℕ) → t < n → f t < k) → sumBelow k (λ j. countBelow n (λ t. q t && eqb (f t) j)) ≡ countBelow n q
+pub count-classes : (k n : ℕ) (q : ℕ → Bool) (f : ℕ → ℕ) → ((t : ℕ) → t < n → f t < k)
+    → sumBelow k (λ j. countBelow n (λ t. q t && eqb (f t) j)) ≡ countBelow n q
 count-classes k zero q f h = omega (arith, count-zero q, sum-none k (λ j. countBelow 0 (λ t. q t && eqb (f t) j)) (λ j l. count-zero (λ t. q t && eqb (f t) j)))
 count-classes k (suc n) q f h = turn (count-classes k n q f (λ t l. h t (omega arith))) (test (q n))
   where
@@ -138,7 +141,8 @@ count-classes k (suc n) q f h = turn (count-classes k n q f (λ t l. h t (omega 
         omega (
           arith,
           count-hit n q t,
-          sum-bump k (part n) (part (suc n)) (f n) 1 (h n (omega arith)) (count-hit n (λ u. q u && eqb (f u) (f n)) (and-T (q n) (eqb (f n) (f n)) t (eqb-refl (f n))))
+          sum-bump k (part n) (part (suc n)) (f n) 1 (h n (omega arith))
+          (count-hit n (λ u. q u && eqb (f u) (f n)) (and-T (q n) (eqb (f n) (f n)) t (eqb-refl (f n))))
               (λ j l e. other j (λ s. e (sym (eqb→eq (f n) j (T-right (q n) (eqb (f n) j) s))))),
         )
     turn ih (inr t) =

@@ -137,7 +137,8 @@ count-into (suc k) n p q h into pass apart =
     (λ s l u. without-other q (h k) (h s) (λ e. absurd (omega (arith, apart s k (omega arith) (omega arith) u t e))) (pass s (omega arith) u))
     (λ s u l m. apart s u (omega arith) (omega arith)) in
     omega (arith, count-hit k p t, count-without n q (h k) (into k e t) (pass k e t)))
-    (λ t. omega (arith, count-miss k p t, count-into k n p q h (λ s l. into s (omega arith)) (λ s l. pass s (omega arith)) (λ s u l m. apart s u (omega arith) (omega arith))))
+    (λ t. let fewer = count-into k n p q h (λ s l. into s (omega arith)) (λ s l. pass s (omega arith)) (λ s u l m. apart s u (omega arith) (omega arith)) in
+    omega (arith, count-miss k p t, fewer))
     (test (p k))
 
 -- different numbers below n, one for each number below k: k is at most n

@@ -130,7 +130,11 @@ module _ (rest : List (List ℕ)) where
   by-choice ih q d x ys [] m k t = no-member m
   by-choice ih q d x ys (c ∷ cs) m k t =
       subst (λ l. Least (c ∷ cs) (headD l d) (x ∷ ys)) (sym parts)
-      (⊎-elim found (λ s. ⊎-elim (passed s (λ n. by-choice ih q d x ys cs n k t)) (λ f. subst (λ l. Least (c ∷ cs) l (x ∷ ys)) (sym (head-here c mine others d f)) (at-once c x cs (headD mine []) ys s)) (test (isEmpty mine))) (test (eqb c x)))
+      (⊎-elim found
+      (λ s. ⊎-elim (passed s (λ n. by-choice ih q d x ys cs n k t))
+      (λ f. subst (λ l. Least (c ∷ cs) l (x ∷ ys)) (sym (head-here c mine others d f)) (at-once c x cs (headD mine []) ys s))
+      (test (isEmpty mine)))
+      (test (eqb c x)))
     where
       mine : List (List ℕ)
       mine = filter (λ ys. q (c ∷ ys)) (tuples rest)

@@ -15,7 +15,8 @@ use Rattle.lists.proofs.Members.{getD-mem, place, find, find-le, find-pass}
 use Rattle.lists.proofs.Tables.{length-tabulate, getD-tabulate}
 use Rattle.study.specs.Problem.{Problem, centres, centreOf, block, labels, assignable, candidates, radius, blocking, greatestDiameter, Feasible}
 use Rattle.study.specs.Theorems.{Symmetric, Lawful, Reordered, Assignment}
-use Rattle.study.proofs.ProblemLaws.{centre-below, cover, apart, greatestDiameter-le, greatestDiameter-ge, greatestDiameter-candidate, assignable-by, assigned-centre, first-assignment, IsRadius, radius-is}
+use Rattle.study.proofs.ProblemLaws.{centre-below, cover, apart, greatestDiameter-le, greatestDiameter-ge, greatestDiameter-candidate, assignable-by}
+use Rattle.study.proofs.ProblemLaws.{assigned-centre, first-assignment, IsRadius, radius-is}
 
 -- ---- an assignment at the greatest diameter of a feasible partition
 

@@ -15,7 +15,8 @@ use Rattle.lists.proofs.Tests.{T-true, T-false, not-not, test, split, between-T
 use Rattle.study.specs.declared.Minima.{Minima}
 use Rattle.study.specs.Study.{Tide, Study, Contents, size, noTide, tide, distance, validMinima, TriangleInequality, Valid}
 use Rattle.study.specs.Refusals.{accepted, refused, Reason, firstOf}
-use Rattle.study.specs.Calls.{openReasons, opened, opening, minimaReasons, withMinima, settingMinima, violations, enterReasons, entered, entering, withdrawReasons, removeAt, shortened, withdrawn, withdrawing, skip}
+use Rattle.study.specs.Calls.{openReasons, opened, opening, minimaReasons, withMinima, settingMinima, violations, enterReasons, entered, entering}
+use Rattle.study.specs.Calls.{withdrawReasons, removeAt, shortened, withdrawn, withdrawing, skip}
 use Rattle.study.specs.Theorems.{ValidContents}
 use Rattle.study.proofs.StudyLaws.{validMinima-T, distance-both-ways, distance-itself}
 use Rattle.study.specs.Triangle.{Triangle}
@@ -160,7 +161,8 @@ enters S s row e =
       setting-high = b .1;
       distance-high = λ i l.
           leb→le (getD row i 0) 1048575
-          (every-at (length row) (λ i. leb (getD row i 0) 1048575) (not-not (every (length row) (λ i. leb (getD row i 0) 1048575)) (h .1 .1 .1 .0)) i (omega arith));
+          (every-at (length row) (λ i. leb (getD row i 0) 1048575)
+          (not-not (every (length row) (λ i. leb (getD row i 0) 1048575)) (h .1 .1 .1 .0)) i (omega arith));
       obeyed = not-not (isEmpty (violations (distance S) (size S) (λ i. getD row i 0))) (h .1 .1 .1 .1 .0);
     }
 

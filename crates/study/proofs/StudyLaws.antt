@@ -87,7 +87,10 @@ module _ (k : ℕ) (M : Minima) where
         },
     λ f. each-of tests (
       between-T 1 120 (M .b0) .1 (f .low, f .high),
-      (eq→eqb (length (M .b)) 8 (f .eight), (le→leb (sumBelow 8 (λ j. getD (M .b) j 0)) (M .b0) (f .sum), (every-of 8 zero? (λ j h. zero-of j (λ l. f .above j l h)), tt))),
+      (
+        eq→eqb (length (M .b)) 8 (f .eight),
+        (le→leb (sumBelow 8 (λ j. getD (M .b) j 0)) (M .b0) (f .sum), (every-of 8 zero? (λ j h. zero-of j (λ l. f .above j l h)), tt)),
+      ),
     ),
   )
 

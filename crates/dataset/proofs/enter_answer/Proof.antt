@@ -1,4 +1,4 @@
--- `enter_answer` meets its contract: one law of Ways for each way out. Assumes nothing.
+-- `enter_answer` meets its contract: one law for each way out. Assumes nothing.
 use native.Mathlib.Omega.{arith}
 use borrow.Author.Needs.{needs}
 use Rattle.dataset.proofs.AnswerLaws.{enter-22, enter-4, enter-5, enter-6, enter-7, enter-done}
@@ -24,9 +24,10 @@ returns-4 c =
 
 returns-5 : tie.Need-returns-5
 returns-5 c =
-    let k = c .before .before in
-    let e = k .before .before .before in
-    enter-6 _ _ _ (e .before .before .before .before .pre) (e .if1 .left) (k .before .before .if2 .left) (between-in 1 _ _ (k .before .if3 .left) (k .if4 .left))
+    let at-setting = c .before .before in
+    let at-room = at-setting .before .before .before in
+    let setting = between-in 1 _ _ (at-setting .before .if3 .left) (at-setting .if4 .left) in
+    enter-6 _ _ _ (at-room .before .before .before .before .pre) (at-room .if1 .left) (at-setting .before .before .if2 .left) setting
     (test-fails (c .before .row-in-range .ensures) (c .if5 .taken))
 
 first-violation-requires : tie.Need-first-violation-requires
@@ -34,17 +35,25 @@ first-violation-requires c κs = (c .before .before .before .before .before .bef
 
 returns-6 : tie.Need-returns-6
 returns-6 c =
-    let k = c .before .before .before .before .before .before in
-    let e = k .before .before .before in
-    enter-7 _ _ _ (e .before .before .before .before .pre) (e .if1 .left) (k .before .before .if2 .left) (between-in 1 _ _ (k .before .if3 .left) (k .if4 .left))
-    (test-passes (c .before .before .before .before .before .row-in-range .ensures) (c .before .before .before .before .if5 .left)) (c .before .before .before .first-violation .ensures) _ _ (c .before .found .given .1)
+    let at-search = c .before .before .before in
+    let at-range = at-search .before .before in
+    let at-setting = at-range .before in
+    let at-room = at-setting .before .before .before in
+    let setting = between-in 1 _ _ (at-setting .before .if3 .left) (at-setting .if4 .left) in
+    let range = test-passes (at-range .row-in-range .ensures) (at-search .before .if5 .left) in
+    enter-7 _ _ _ (at-room .before .before .before .before .pre) (at-room .if1 .left) (at-setting .before .before .if2 .left) setting range
+    (at-search .first-violation .ensures) _ _ (c .before .found .given .1)
 
 returns-7 : tie.Need-returns-7
 returns-7 c =
-    let k = c .before .before .before .before .before in
-    let e = k .before .before .before in
-    enter-done _ _ _ (e .before .before .before .before .pre) (e .if1 .left) (k .before .before .if2 .left) (between-in 1 _ _ (k .before .if3 .left) (k .if4 .left))
-    (test-passes (c .before .before .before .before .row-in-range .ensures) (c .before .before .before .if5 .left)) (c .before .before .first-violation .ensures) (c .enum-told .given .1)
+    let at-search = c .before .before in
+    let at-range = at-search .before .before in
+    let at-setting = at-range .before in
+    let at-room = at-setting .before .before .before in
+    let setting = between-in 1 _ _ (at-setting .before .if3 .left) (at-setting .if4 .left) in
+    let range = test-passes (at-range .row-in-range .ensures) (at-search .before .if5 .left) in
+    enter-done _ _ _ (at-room .before .before .before .before .pre) (at-room .if1 .left) (at-setting .before .before .if2 .left) setting range
+    (at-search .first-violation .ensures) (c .enum-told .given .1)
 
 pub enter-answer-spec : {M : Type 1} → statement M
 enter-answer-spec =

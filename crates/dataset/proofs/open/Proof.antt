@@ -34,7 +34,8 @@ returns-4 c =
     let distances-cleared = settings-cleared .before .before .before .before in
     let k-tested = distances-cleared .before .before in
     let tested = k-tested .before .before in
-    opened-state _ _ (short-test _ (tested .before .is-short .ensures .0) (tested .if1 .left)) (between-in 1 8 _ (k-tested .before .if2 .left) (k-tested .if3 .left))
+    let fits = short-test _ (tested .before .is-short .ensures .0) (tested .if1 .left) in
+    opened-state _ _ fits (between-in 1 8 _ (k-tested .before .if2 .left) (k-tested .if3 .left))
     (distances-cleared .clear-distances .ensures) (settings-cleared .clear-settings .ensures)
 
 pub open-spec : {M : Type 1} → statement M

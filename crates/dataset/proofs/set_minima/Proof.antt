@@ -1,4 +1,4 @@
--- `set_minima` meets its contract: one law of Ways for each way out. Assumes nothing.
+-- `set_minima` meets its contract: one law for each way out. Assumes nothing.
 use mathlib.Core.Path.{ap, _∙_}
 use borrow.Author.Needs.{needs}
 use Rattle.study.specs.Refusals.{verdictOf}
@@ -22,7 +22,8 @@ returns-2 c =
 returns-3 : tie.Need-returns-3
 returns-3 c =
     let e = c .before .before in
-    let w = minima-done _ _ (passed _ (e .enum-told .given .1) (e .before .before .check .ensures)) (test-passes (c .before .valid-minima .ensures) (c .if1 .left)) in
+    let held = passed _ (e .enum-told .given .1) (e .before .before .check .ensures) in
+    let w = minima-done _ _ held (test-passes (c .before .valid-minima .ensures) (c .if1 .left)) in
     (ap verdictOf (e .enum-told .given .1) ∙ w .0, w .1)
 
 pub set-minima-spec : {M : Type 1} → statement M

@@ -1,4 +1,4 @@
--- `withdraw_answer` meets its contract: one law of Ways for each way out. Assumes nothing.
+-- `withdraw_answer` meets its contract: one law for each way out. Assumes nothing.
 use Rattle.dataset.proofs.AnswerLaws.{withdraw-23, withdraw-26, withdraw-done}
 use Rattle.lists.proofs.Scans.{between-in, between-low, between-high}
 use Rattle.dataset.proofs.withdraw_answer.Statement.{statement}

@@ -1,6 +1,7 @@
 -- `blocking::storing::put_records` meets its contract: a walk of its MIR, by hand, with a loop. The borrow is opened before the
 -- loop and closed after it; between the two the first i places hold the rows' records.
 -- A turn passes the rows by value to `row_at`: they are plain data, so what they own is made anew for each call. Assumes nothing.
+use denote.Triple.Walked.{says, needs, Stays, stay-none, stay-slice, walkOf, goes-none, goes-slice, Walks, ends-at, walked, AllGo}
 use mathlib.Core.Path.{_≡_, refl, sym, ap, subst}
 use Prim.Native.Nat.{ℕ, zero-le, _+_, _-_, _*_, _<_, _≤_, _^_}
 use native.Mathlib.Nat.{le-antisymm, lt-of-lt-of-le}
@@ -40,7 +41,6 @@ use denote.Steps.{owned, peeks, heard, nothing}
 use denote.Struct.Laws as LL
 use denote.Triple.Statement.{Contract, Triple}
 use denote.Triple.Entry.{onEntry}
-use denote.Triple.Walked.{says, needs, Stays, stay-none, stay-slice, walkOf, goes-none, goes-slice, Walks, ends-at, walked, AllGo}
 use denote.Exit.{yes}
 use denote.Signature.{plain}
 use Rattle.blocking.specs.Rows.{rowAt}

@@ -7,7 +7,8 @@ use Rattle.test_exhaustive.proofs.small.Small.enter_all.Statement.{stat
 use Rattle.test_exhaustive.proofs.small.Small.enter_all.Tie as tie
 
 abbrev Inv-loop : tie.InvT-loop
-Inv-loop self distances₀ settings₀ n next₀ t₀ distances settings next t = (t ≤ n) × (length distances ≡ length distances₀) × (length settings ≡ length settings₀)
+Inv-loop self distances₀ settings₀ n next₀ t₀ distances settings next t =
+    (t ≤ n) × (length distances ≡ length distances₀) × (length settings ≡ length settings₀)
 
 abbrev μ-loop : tie.MeasureT-loop
 μ-loop self distances₀ settings₀ n next₀ t₀ distances settings next t = n - t
