@@ -46,7 +46,7 @@ fn block_answer(
         return first;
     };
     let n = dataset.n;
-    // every tide is at most 1,048,575 from the first
+    // every tide is at most MAX_DISTANCE from the first
     if !ball_meets(distances, settings, n, dataset.minima, 0, MAX_DISTANCE) {
         return Answer::Refused(Refusal::TooFewTides);
     }

@@ -1,4 +1,4 @@
--- The table of allowed pairs, a row of 120 for each block: tide t may go to block m whose centre is at most g away. Assumes nothing.
+-- The table of allowed pairs, a row of maxTides for each block: tide t may go to block m whose centre is at most g away. Assumes nothing.
 use Prim.Native.Nat.{ℕ, _<_}
 use mathlib.Core.Path.{_≡_}
 use mathlib.Core.List.{List}

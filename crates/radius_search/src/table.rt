@@ -1,4 +1,4 @@
-// Which tide may go to which block: a row of 120 places for each block.
+// Which tide may go to which block: a row of MAX_TIDES places for each block.
 use study::MAX_TIDES;
 ghost use mathlib.Core.Path.{_≡_};
 ghost use Prim.Native.Nat.{_<_, _≤_};

@@ -10,7 +10,7 @@ use Rattle.study.specs.Problem.{Problem}
 use Rattle.study.specs.Theorems.{Lawful}
 use Rattle.promise.specs.Promise.{Test}
 
--- the distance of two of the first n tides, from distances in rows of 120; 0 beyond them
+-- the distance of two of the first n tides, from distances in rows of maxTides; 0 beyond them
 unfoldable pub within : List ℕ → ℕ → ℕ → ℕ → ℕ
 within d n i j = cond (ltb i n && ltb j n) (cell d i j) 0
 

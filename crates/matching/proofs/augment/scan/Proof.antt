@@ -31,9 +31,7 @@ mul-h : tie.Need-mul-h Inv-loop μ-loop
 mul-h c = let few = c .before .before .before .before .before .before .before .pre .0 .sized .few-tides in omega arith
 
 element-copy-out-h : tie.Need-element-copy-out-h Inv-loop μ-loop
-element-copy-out-h c =
-    let few = c .before .before .before .before .before .before .before .pre .0 .sized .few-tides in
-    omega arith
+element-copy-out-h c = let few = c .before .before .before .before .before .before .before .pre .0 .sized .few-tides in omega arith
 
 returns : tie.Need-returns Inv-loop μ-loop
 returns c =

@@ -43,9 +43,7 @@ mul-s : tie.Need-mul-s Inv-loop μ-loop
 mul-s c = let few = c .before .before .before .before .before .before .before .pre .0 .sized .few-tides in omega arith
 
 element-copy-out-s : tie.Need-element-copy-out-s Inv-loop μ-loop
-element-copy-out-s c =
-    let few = c .before .before .before .before .before .before .before .pre .0 .sized .few-tides in
-    omega arith
+element-copy-out-s c = let few = c .before .before .before .before .before .before .before .pre .0 .sized .few-tides in omega arith
 
 loop-less : tie.Need-loop-less Inv-loop μ-loop
 loop-less c =
