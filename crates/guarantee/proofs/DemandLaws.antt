@@ -146,33 +146,33 @@ module _ (s : State) (bytes : List ℕ) (n : ℕ) (e : writeReply s (length byte
   same : readLeaves s (take n (writeLeaves s bytes)) ≡ s
   same = ap (readLeaves s) file-is ∙ for-files .again s a-dataset (good .not-short)
 
-  read-back : (over : State) → short over ≡ false
-      → let read = readLeaves over (take n (writeLeaves s bytes)) in T (isDataset read) × (contentsOf read ≡ contentsOf s)
-  read-back over long =
+  read-back : (onto : State) → short onto ≡ false
+      → let read = readLeaves onto (take n (writeLeaves s bytes)) in T (isDataset read) × (contentsOf read ≡ contentsOf s)
+  read-back onto long =
       let valid = for-datasets .valid s a-dataset in
-      let laid = ap (readLeaves over) file-is ∙ for-files .gives s over a-dataset long in (
-        subst (λ z. T (isDataset z)) (sym laid) (for-datasets .laid-out (contentsOf s) over valid),
-        ap contentsOf laid ∙ for-datasets .read-back (contentsOf s) over valid,
+      let laid = ap (readLeaves onto) file-is ∙ for-files .gives s onto a-dataset long in (
+        subst (λ z. T (isDataset z)) (sym laid) (for-datasets .laid-out (contentsOf s) onto valid),
+        ap contentsOf laid ∙ for-datasets .read-back (contentsOf s) onto valid,
       )
 
 -- Read is accepted, and there is room for the file
-module _ (over : State) (file bytes : List ℕ) (b : Bytes file) (e : readAnswer over file ≡ accepted) (room : length file ≤ length bytes) where
+module _ (onto : State) (file bytes : List ℕ) (b : Bytes file) (e : readAnswer onto file ≡ accepted) (room : length file ≤ length bytes) where
   abbrev read : State
-  read = readLeaves over file
+  read = readLeaves onto file
 
   not-short : short read ≡ false
   unfolding readAnswer readLeaves freshLeaves
   not-short =
-      let long = fresh-own over (readReasons file) e .0 in
-      ap (λ v. short (settled v (stored (decoded file) over) over)) e ∙ for-datasets .as-long (decoded file) over long ∙ long
+      let long = fresh-own onto (readReasons file) e .0 in
+      ap (λ v. short (settled v (stored (decoded file) onto) onto)) e ∙ for-datasets .as-long (decoded file) onto long ∙ long
 
   own-file : fileOf (contentsOf read) ≡ file
-  own-file = for-files .only over file b e
+  own-file = for-files .only onto file b e
 
   writes : writeAnswer read (length bytes) ≡ accepted
   unfolding writeAnswer writeReasons firstOf
   writes =
-      sym (held-own read (λ H. writeReasons H (length bytes)) not-short (T-true (isDataset read) (for-files .dataset over file e)))
+      sym (held-own read (λ H. writeReasons H (length bytes)) not-short (T-true (isDataset read) (for-files .dataset onto file e)))
       ∙ rw (T-false (ltb (length bytes) (length (fileOf (contentsOf read)))) (le→nltb _ _ (subst (λ l. length l ≤ length bytes) (sym own-file) room)))
 
   written-again : (writeReply read (length bytes) ≡ value (length file)) × (take (length file) (writeLeaves read bytes) ≡ file)
@@ -185,4 +185,4 @@ module _ (over : State) (file bytes : List ℕ) (b : Bytes file) (e : readAnswer
 
 pub files-and-datasets : FilesAndDatasets
 files-and-datasets =
-    record { same = same; read-back = λ s over bytes n e. read-back s bytes n e over; written-again = written-again }
+    record { same = same; read-back = λ s onto bytes n e. read-back s bytes n e onto; written-again = written-again }
