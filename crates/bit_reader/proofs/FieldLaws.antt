@@ -46,17 +46,17 @@ module _ (s : List ℕ) (at w : ℕ) (ask : Askable at w) where
 -- ---- what was read
 
 -- the number in a field inside the bytes
-pub record Got (s : List ℕ) (at w v : ℕ) : Type 0 where
+pub record FieldGot (s : List ℕ) (at w v : ℕ) : Type 0 where
   pub is : v ≡ bitsAt s at w
   pub small : v < 2 ^ w
   pub inside : at + w ≤ 8 * length s
 
 module _ {s : List ℕ} {at w : ℕ} where
   -- what was read where there was no end
-  pub got : {f : FieldValue} {v : ℕ} → f ≡ fieldAt s at w → f ≡ FieldValues.Value v → Got s at w v
+  pub got : {f : FieldValue} {v : ℕ} → f ≡ fieldAt s at w → f ≡ FieldValues.Value v → FieldGot s at w v
   got {f} {v} e q = by (leb (at + w) (8 * length s)) (λ t. leb→le (at + w) (8 * length s) t) (sym q ∙ e)
     where
-      by : (b : Bool) → (T b → at + w ≤ 8 * length s) → FieldValues.Value v ≡ cond b (FieldValues.Value (bitsAt s at w)) FieldValues.End → Got s at w v
+      by : (b : Bool) → (T b → at + w ≤ 8 * length s) → FieldValues.Value v ≡ cond b (FieldValues.Value (bitsAt s at w)) FieldValues.End → FieldGot s at w v
       by true h p = let i : v ≡ bitsAt s at w = cc in record { is = i; small = subst (λ x. x < 2 ^ w) (sym i) (bitsAt-small s at w); inside = h tt }
       by false h p = absurd (let z : _≡_ {A = ℕ} 0 1 = cc in omega arith)
 
@@ -70,15 +70,15 @@ module _ (s : List ℕ) (at w : ℕ) where
 
 module _ {s : List ℕ} where
   start : {r : Start} (f g : FieldValue) → r ≡ startOf f g → f ≡ fieldAt s 0 8 → g ≡ fieldAt s 8 7 → {m n : ℕ} → r ≡ Starts.Fields m n
-      → Got s 0 8 m × Got s 8 7 n
+      → FieldGot s 0 8 m × FieldGot s 8 7 n
   start (FieldValues.Value x) (FieldValues.Value y) e a b {m} {n} q =
       let i : x ≡ m = cc in
-      let j : y ≡ n = cc in (subst (Got s 0 8) i (got a refl), subst (Got s 8 7) j (got b refl))
+      let j : y ≡ n = cc in (subst (FieldGot s 0 8) i (got a refl), subst (FieldGot s 8 7) j (got b refl))
   start (FieldValues.Value x) FieldValues.End e a b q = absurd (let z : _≡_ {A = ℕ} 0 1 = cc in omega arith)
   start FieldValues.End g e a b q = absurd (let z : _≡_ {A = ℕ} 0 1 = cc in omega arith)
 
   -- what the two fields hold
-  pub got-start : {r : Start} {m n : ℕ} → r ≡ startOf (fieldAt s 0 8) (fieldAt s 8 7) → r ≡ Starts.Fields m n → Got s 0 8 m × Got s 8 7 n
+  pub got-start : {r : Start} {m n : ℕ} → r ≡ startOf (fieldAt s 0 8) (fieldAt s 8 7) → r ≡ Starts.Fields m n → FieldGot s 0 8 m × FieldGot s 8 7 n
   got-start e q = start (fieldAt s 0 8) (fieldAt s 8 7) e refl refl q
 
 -- fifteen bits are enough for both

@@ -14,7 +14,7 @@ use Rattle.file_format.specs.File.{tideFields, fields, fileOf, bitLength
 use Rattle.file_format.specs.File.{tideAt, minimaAt, decoded, headReasons, tideReasons, readReasons}
 use Rattle.file_format.proofs.AcceptedLaws.{accepted-valid}
 use Rattle.file_format.specs.Cases.{tideOn, line, plain, fresh, reply, case1, case2, case3, case4, case7, one-tide, cases, WorkedCases}
-use Rattle.file_format.specs.Cases.{studyIn, studies, ValidStudies, order, InOrder}
+use Rattle.file_format.specs.Cases.{studyIn, studies, ValidStudies, order, ReadInOrder}
 
 pub worked-cases : WorkedCases
 unfolding cases case1 case2 case3 case4 case7 one-tide plain line tideOn reply firstOf
@@ -51,7 +51,7 @@ gives-back = refl
 pub valid-studies : ValidStudies
 valid-studies = all-valid studies accepts gives-back
 
-pub in-order : InOrder
+pub in-order : ReadInOrder
 unfolding order reply firstOf
     readReasons headReasons tideReasons decoded minimaAt tideAt byteLength bitLength binary
     triangle violations distance tide validMinima every sumBelow tabulate flatMap

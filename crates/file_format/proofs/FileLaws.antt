@@ -11,7 +11,7 @@ use Rattle.study.specs.Study.{Tide, Study, Contents, size, noTide, tide}
 use Rattle.file_format.specs.Bits.{field}
 use Rattle.file_format.specs.File.{tideFields, fields, bitLength}
 use Rattle.file_format.proofs.BitLaws.{Agrees, total}
-use Rattle.file_format.proofs.RunLaws.{total-append, agrees-append, Begins, runs-total, runs-agree, values-total, values-agree}
+use Rattle.file_format.proofs.RunLaws.{total-append, agrees-append, StartsWith, runs-total, runs-agree, values-total, values-agree}
 
 -- the lists of the contents are as long as the fields ask
 pub record Shaped (H : Contents) : Type 0 where
@@ -55,7 +55,7 @@ module _ (H : Contents) (shaped : Shaped H) where
   first-length : length first ≡ S .k
   first-length = length-take-le (S .k) (S .minima .b) (shaped .minima)
 
-  begins : Begins tideFields noTide (bitLength (S .k)) (S .tides)
+  begins : StartsWith tideFields noTide (bitLength (S .k)) (S .tides)
   unfolding tide
   begins t l = bitLength-suc (S .k) t ∙ ap (λ x. bitLength (S .k) t + x) (sym (tide-total (tide S t) ∙ ap (λ x. 3 + 20 * x) (shaped .rows t l)))
 

@@ -33,10 +33,10 @@ agrees-append g at (x ∷ xs) ys =
 
 module _ {A : Type 0} (h : A → List Field) (d : A) where
   -- the run of element i begins at `start i`
-  abbrev pub Begins : (ℕ → ℕ) → List A → Type 0
-  Begins start xs = (i : ℕ) → i < length xs → start (suc i) ≡ start i + total (h (getD xs i d))
+  abbrev pub StartsWith : (ℕ → ℕ) → List A → Type 0
+  StartsWith start xs = (i : ℕ) → i < length xs → start (suc i) ≡ start i + total (h (getD xs i d))
 
-  pub runs-total : (start : ℕ → ℕ) (xs : List A) → Begins start xs → start 0 + total (flatMap h xs) ≡ start (length xs)
+  pub runs-total : (start : ℕ → ℕ) (xs : List A) → StartsWith start xs → start 0 + total (flatMap h xs) ≡ start (length xs)
   unfolding flatMap
   runs-total start [] b = omega arith
   runs-total start (x ∷ xs) b =
@@ -47,7 +47,7 @@ module _ {A : Type 0} (h : A → List Field) (d : A) where
   runs-small [] f = tt
   runs-small (x ∷ xs) f = small-append (h x) (flatMap h xs) (f 0 (omega arith)) (runs-small xs (λ i l. f (suc i) (omega arith)))
 
-  pub runs-agree : (g : ℕ → ℕ → ℕ) (start : ℕ → ℕ) (xs : List A) → Begins start xs
+  pub runs-agree : (g : ℕ → ℕ → ℕ) (start : ℕ → ℕ) (xs : List A) → StartsWith start xs
       → Agrees g (start 0) (flatMap h xs) ↔ ((i : ℕ) → i < length xs → Agrees g (start i) (h (getD xs i d)))
   unfolding flatMap
   runs-agree g start [] b = (λ a i l. absurd (not-suc-le-zero l), λ f. tt)
@@ -76,7 +76,7 @@ module _ (w : ℕ) where
   one-each (v ∷ vs) = ap (λ fs. field w v ∷ fs) (one-each vs)
 
   module _ (vs : List ℕ) where
-    begins : (at : ℕ) → Begins one 0 (λ i. at + w * i) vs
+    begins : (at : ℕ) → StartsWith one 0 (λ i. at + w * i) vs
     begins at i l = omega (arith, mul-suc w i)
 
     pub values-total : total (map (field w) vs) ≡ w * length vs

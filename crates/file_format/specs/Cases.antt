@@ -210,5 +210,5 @@ order =
     ∷ []
 
 -- the earlier reason counts in each of them
-abbrev pub InOrder : Type 0
-InOrder = AsGiven order
+abbrev pub ReadInOrder : Type 0
+ReadInOrder = AsGiven order

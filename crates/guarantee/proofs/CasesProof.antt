@@ -11,9 +11,9 @@ use Rattle.file_format.specs.File.{tideFields, fields, fileOf, headReasons, rea
 use Rattle.study_file.specs.Answers.{writeReasons}
 use Rattle.guarantee.specs.Runs.{updating, inquiring}
 use Rattle.guarantee.specs.History.{reasonsAfter, verdict, changed, step, following}
-use Rattle.guarantee.specs.Cases.{order, InOrder, OneRun}
+use Rattle.guarantee.specs.Cases.{order, CallsInOrder, OneRun}
 
-pub in-order : InOrder
+pub in-order : CallsInOrder
 unfolding order verdict reasonsAfter heldReasons freshReasons updating inquiring readReasons headReasons openReasons minimaReasons
     enterReasons withdrawReasons centresReasons
     blockReasons judgeReasons writeReasons firstOf noTide sufficient meets violations triangle distance tide fileOf fields tideFields packed pack

@@ -264,18 +264,18 @@ module _ (S : Study) (L : Ledger) (t : ℕ) (K : Matches S L) (inside : t - 1 < 
 -- ---- along the calls
 
 -- where there is a study there is a ledger, and they match
-abbrev Agree : Option Contents → Option Ledger → Type 0
-Agree none l = Unit {0}
-Agree (some H) none = ⊥
-Agree (some H) (some L) = Matches (H .study) L
+abbrev Matched : Option Contents → Option Ledger → Type 0
+Matched none l = Unit {0}
+Matched (some H) none = ⊥
+Matched (some H) (some L) = Matches (H .study) L
 
-agree-settled : (v : Verdict) (a h : Option Contents) (b l : Option Ledger) → (v ≡ accepted → Agree a b) → Agree h l → Agree (settled v a h) (settled v b l)
+agree-settled : (v : Verdict) (a h : Option Contents) (b l : Option Ledger) → (v ≡ accepted → Matched a b) → Matched h l → Matched (settled v a h) (settled v b l)
 agree-settled accepted a h b l f K = f refl
 agree-settled (refused r) a h b l f K = K
 
 agree-changing : (own : Contents → List Reason) (f : Contents → Contents) (g : Ledger → Ledger)
     → ((H : Contents) (L : Ledger) → firstOf (own H) ≡ accepted → Matches (H .study) L → Matches (f H .study) (g L))
-    → (tooShort : Bool) (h : Option Contents) (l : Option Ledger) → firstOf (onHeld tooShort h own) ≡ accepted → Agree h l → Agree (changing h f) (changing l g)
+    → (tooShort : Bool) (h : Option Contents) (l : Option Ledger) → firstOf (onHeld tooShort h own) ≡ accepted → Matched h l → Matched (changing h f) (changing l g)
 agree-changing own f g m tooShort none l e K = tt
 agree-changing own f g m tooShort (some H) none e K = absurd K
 agree-changing own f g m tooShort (some H) (some L) e K = m H L (past-ladder tooShort (own H) e) K
@@ -287,23 +287,23 @@ change-matches (set-minima M) H L e K = minima-matches (H .study) L M K
 change-matches (enter setting row) H L e K = arrival-matches (H .study) L setting row K
 change-matches (withdraw t) H L e K = let w = withdraws H t e in gone-matches (H .study) L t K (omega (arith, w .low, w .high))
 
-agree-changed : (tooShort : Bool) (h : Option Contents) (l : Option Ledger) (c : Call) → verdict tooShort h c ≡ accepted → Agree h l
-    → Agree (changed h c) (noted l c)
+agree-changed : (tooShort : Bool) (h : Option Contents) (l : Option Ledger) (c : Call) → verdict tooShort h c ≡ accepted → Matched h l
+    → Matched (changed h c) (noted l c)
 unfolding verdict reasonsAfter changed noted opening
 agree-changed tooShort h l (call-open k) e K = empty-matches k
 agree-changed tooShort h l (call-read file) e K = file-matches (decoded file .study)
 agree-changed tooShort h l (call-change c) e K = agree-changing (updating c .own) (updating c .makes) (noting c) (change-matches c) tooShort h l e K
 agree-changed tooShort h l (call-ask q) e K = K
 
-agree-following : (tooShort : Bool) (h : Option Contents) (l : Option Ledger) (cs : List Call) → Agree h l
-    → Agree (following tooShort h cs) (noteAll tooShort h l cs)
+agree-following : (tooShort : Bool) (h : Option Contents) (l : Option Ledger) (cs : List Call) → Matched h l
+    → Matched (following tooShort h cs) (noteAll tooShort h l cs)
 unfolding following noteAll step
 agree-following tooShort h l [] K = K
 agree-following tooShort h l (c ∷ cs) K =
     agree-following tooShort (step tooShort h c) (settled (verdict tooShort h c) (noted l c) l) cs
     (agree-settled (verdict tooShort h c) (changed h c) h (noted l c) l (λ e. agree-changed tooShort h l c e K) K)
 
-agree-begun : (h : Option Contents) → Agree h (begun h)
+agree-begun : (h : Option Contents) → Matched h (begun h)
 agree-begun none = tt
 agree-begun (some H) = file-matches (H .study)
 
@@ -312,10 +312,10 @@ pub exactly : (start : State) (calls : List Call) (H : Contents) → held (run s
 unfolding contentsAfter ledgerAfter
 exactly start calls H e =
     from (ledgerAfter start calls) refl
-    (subst (λ h. Agree h (ledgerAfter start calls)) (sym (holds start calls) ∙ e)
+    (subst (λ h. Matched h (ledgerAfter start calls)) (sym (holds start calls) ∙ e)
     (agree-following (short start) (held start) (begun (held start)) calls (agree-begun (held start))))
   where
-    from : (l : Option Ledger) → ledgerAfter start calls ≡ l → Agree (some H) l → (L : Ledger) × (ledgerAfter start calls ≡ some L) × Exactly (H .study) L
+    from : (l : Option Ledger) → ledgerAfter start calls ≡ l → Matched (some H) l → (L : Ledger) × (ledgerAfter start calls ≡ some L) × Exactly (H .study) L
     from none q K = absurd K
     from (some L) q K = (L, q, K .exact)
 

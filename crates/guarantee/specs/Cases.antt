@@ -79,8 +79,8 @@ order =
     ∷ []
 
 -- where two reasons hold at once, the earlier one counts
-abbrev pub InOrder : Type 0
-InOrder = map (λ (c : ReasonCase). verdict (c .tooShort) (c .held) (c .call)) order ≡ map (λ (c : ReasonCase). c .gives) order
+abbrev pub CallsInOrder : Type 0
+CallsInOrder = map (λ (c : ReasonCase). verdict (c .tooShort) (c .held) (c .call)) order ≡ map (λ (c : ReasonCase). c .gives) order
 
 -- of a tide that is refused, one that enters, one that goes and one that is not there, the second and the third change the two tides
 abbrev pub OneRun : Type 0

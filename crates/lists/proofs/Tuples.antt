@@ -97,10 +97,10 @@ head-later c (ys ∷ yss) zss d t = absurd t
 
 module _ (rest : List (List ℕ)) where
   -- the first that passes is ys, or earlier than it
-  abbrev Least : List ℕ → List ℕ → List ℕ → Type 0
-  Least cs xs ys = (xs ≡ ys) ⊎ Earlier (cs ∷ rest) xs ys
+  abbrev LeastTuple : List ℕ → List ℕ → List ℕ → Type 0
+  LeastTuple cs xs ys = (xs ≡ ys) ⊎ Earlier (cs ∷ rest) xs ys
 
-  deeper : (cs : List ℕ) (c : ℕ) (xs ys : List ℕ) → (xs ≡ ys) ⊎ Earlier rest xs ys → Least cs (c ∷ xs) (c ∷ ys)
+  deeper : (cs : List ℕ) (c : ℕ) (xs ys : List ℕ) → (xs ≡ ys) ⊎ Earlier rest xs ys → LeastTuple cs (c ∷ xs) (c ∷ ys)
   deeper cs c xs ys (inl e) = inl (ap (λ l. c ∷ l) e)
   deeper cs c xs ys (inr e) =
       inr (record { place = suc (e .place); inside = suc-le-suc (e .inside); same = ap (λ l. c ∷ l) (e .same); sooner = e .sooner })
@@ -108,7 +108,7 @@ module _ (rest : List (List ℕ)) where
   before-skip : (c x : ℕ) (cs : List ℕ) → T (not (eqb c x)) → before x (c ∷ cs) ≡ c ∷ before x cs
   before-skip c x cs t = cond-no (eqb c x) [] (c ∷ before x cs) t
 
-  later : (c x : ℕ) (cs xs ys : List ℕ) → T (not (eqb c x)) → Least cs xs (x ∷ ys) → Least (c ∷ cs) xs (x ∷ ys)
+  later : (c x : ℕ) (cs xs ys : List ℕ) → T (not (eqb c x)) → LeastTuple cs xs (x ∷ ys) → LeastTuple (c ∷ cs) xs (x ∷ ys)
   later c x cs xs ys t (inl e) = inl e
   later c x cs xs ys t (inr e) = inr (record { place = e .place; inside = e .inside; same = e .same; sooner = at (e .place) (e .sooner) })
     where
@@ -117,7 +117,7 @@ module _ (rest : List (List ℕ)) where
       at zero m = subst (λ l. getD xs 0 0 among l) (sym (before-skip c x cs t)) (there m)
       at (suc i) m = m
 
-  at-once : (c x : ℕ) (cs xs ys : List ℕ) → T (not (eqb c x)) → Least (c ∷ cs) (c ∷ xs) (x ∷ ys)
+  at-once : (c x : ℕ) (cs xs ys : List ℕ) → T (not (eqb c x)) → LeastTuple (c ∷ cs) (c ∷ xs) (x ∷ ys)
   at-once c x cs xs ys t =
       inr (record { place = 0; inside = omega arith; same = refl; sooner = subst (λ l. c among l) (sym (before-skip c x cs t)) (here refl) })
 
@@ -125,14 +125,14 @@ module _ (rest : List (List ℕ)) where
   by-choice : ((q : List ℕ → Bool) (ys : List ℕ) → ys among tuples rest → T (q ys)
       → (headD (filter q (tuples rest)) [] ≡ ys) ⊎ Earlier rest (headD (filter q (tuples rest)) []) ys)
       → (q : List ℕ → Bool) (d : List ℕ) (x : ℕ) (ys cs : List ℕ) → x among cs → ys among tuples rest → T (q (x ∷ ys))
-      → Least cs (headD (filter q (tuples (cs ∷ rest))) d) (x ∷ ys)
+      → LeastTuple cs (headD (filter q (tuples (cs ∷ rest))) d) (x ∷ ys)
   unfolding flatMap
   by-choice ih q d x ys [] m k t = no-member m
   by-choice ih q d x ys (c ∷ cs) m k t =
-      subst (λ l. Least (c ∷ cs) (headD l d) (x ∷ ys)) (sym parts)
+      subst (λ l. LeastTuple (c ∷ cs) (headD l d) (x ∷ ys)) (sym parts)
       (⊎-elim found
       (λ s. ⊎-elim (passed s (λ n. by-choice ih q d x ys cs n k t))
-      (λ f. subst (λ l. Least (c ∷ cs) l (x ∷ ys)) (sym (head-here c mine others d f)) (at-once c x cs (headD mine []) ys s))
+      (λ f. subst (λ l. LeastTuple (c ∷ cs) l (x ∷ ys)) (sym (head-here c mine others d f)) (at-once c x cs (headD mine []) ys s))
       (test (isEmpty mine)))
       (test (eqb c x)))
     where
@@ -145,22 +145,22 @@ module _ (rest : List (List ℕ)) where
       parts : filter q (tuples ((c ∷ cs) ∷ rest)) ≡ map (λ ys. c ∷ ys) mine ++ others
       parts = filter-append q (map (λ ys. c ∷ ys) (tuples rest)) (tuples (cs ∷ rest)) ∙ ap (λ l. l ++ others) (filter-map q c (tuples rest))
 
-      found : T (eqb c x) → Least (c ∷ cs) (headD (map (λ ys. c ∷ ys) mine ++ others) d) (x ∷ ys)
+      found : T (eqb c x) → LeastTuple (c ∷ cs) (headD (map (λ ys. c ∷ ys) mine ++ others) d) (x ∷ ys)
       found s =
           let e : c ≡ x = eqb→eq c x s in
           let p : T (q (c ∷ ys)) = subst (λ z. T (q (z ∷ ys))) (sym e) t in
           let f : T (not (isEmpty mine)) = nonempty mine (mem-filter (λ ys. q (c ∷ ys)) (tuples rest) k p) in
-          subst (λ l. Least (c ∷ cs) l (x ∷ ys)) (sym (head-here c mine others d f))
-          (subst (λ z. Least (c ∷ cs) (c ∷ headD mine []) (z ∷ ys)) e (deeper (c ∷ cs) c (headD mine []) ys (ih (λ ys. q (c ∷ ys)) ys k p)))
+          subst (λ l. LeastTuple (c ∷ cs) l (x ∷ ys)) (sym (head-here c mine others d f))
+          (subst (λ z. LeastTuple (c ∷ cs) (c ∷ headD mine []) (z ∷ ys)) e (deeper (c ∷ cs) c (headD mine []) ys (ih (λ ys. q (c ∷ ys)) ys k p)))
 
       further : T (not (eqb c x)) → x among c ∷ cs → x among cs
       further s (here r) = absurd (T-not (eqb c x) s (eq→eqb c x (sym r)))
       further s (there n) = n
 
-      passed : T (not (eqb c x)) → (x among cs → Least cs (headD others d) (x ∷ ys)) → T (isEmpty mine)
-          → Least (c ∷ cs) (headD (map (λ ys. c ∷ ys) mine ++ others) d) (x ∷ ys)
+      passed : T (not (eqb c x)) → (x among cs → LeastTuple cs (headD others d) (x ∷ ys)) → T (isEmpty mine)
+          → LeastTuple (c ∷ cs) (headD (map (λ ys. c ∷ ys) mine ++ others) d) (x ∷ ys)
       passed s go f =
-          subst (λ l. Least (c ∷ cs) l (x ∷ ys)) (sym (head-later c mine others d f))
+          subst (λ l. LeastTuple (c ∷ cs) l (x ∷ ys)) (sym (head-later c mine others d f))
           (later c x cs (headD others d) ys s (go (further s m)))
 
 pub first-tuple : (css : List (List ℕ)) (q : List ℕ → Bool) (ys : List ℕ) → ys among tuples css → T (q ys)

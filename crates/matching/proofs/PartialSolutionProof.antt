@@ -54,11 +54,11 @@ module _ (S : Study) (ok : Valid S) (g : ℕ) where
         )
 
     -- t's own block, or else one whose centre is in-radius
-    record Chosen (t m : ℕ) : Type 0 where
+    record Selected (t m : ℕ) : Type 0 where
       in-radius : Near t m
       own : 1 ≤ D t → m ≡ D t
 
-    choose : (t : ℕ) → t < n → (m : ℕ) × Chosen t m
+    choose : (t : ℕ) → t < n → (m : ℕ) × Selected t m
     choose t l =
         ⊎-elim
         (λ s. let a = leb→le 1 (D t) s in
@@ -66,15 +66,15 @@ module _ (S : Study) (ok : Valid S) (g : ℕ) where
         (λ s. let a = nleb→lt 1 (D t) s in let r = covered t l in (r .0, record { in-radius = r .1; own = λ b. absurd (omega arith) }))
         (test (leb 1 (D t)))
 
-    chosen : (t : ℕ) → (m : ℕ) × (t < n → Chosen t m)
+    chosen : (t : ℕ) → (m : ℕ) × (t < n → Selected t m)
     chosen t = ⊎-elim (λ l. let r = choose t l in (r .0, λ k. r .1)) (λ l. (0, λ k. absurd (omega arith))) (split t n)
 
     xs : List ℕ
     xs = tabulate n (λ t. chosen t .0)
 
-    at : (t : ℕ) → t < n → Chosen t (labels xs t)
+    at : (t : ℕ) → t < n → Selected t (labels xs t)
     unfolding labels xs
-    at t l = subst (Chosen t) (sym (getD-tabulate n (λ u. chosen u .0) t 0 l)) (chosen t .1 l)
+    at t l = subst (Selected t) (sym (getD-tabulate n (λ u. chosen u .0) t 0 l)) (chosen t .1 l)
 
     -- each block has at least the tides that it had
     more : (m t : ℕ) → 1 ≤ m → t < n → T (block D m t) → T (block (labels xs) m t)

@@ -11,8 +11,8 @@ use Rattle.promise.specs.Promise.{meeting, Able}
 use Rattle.radius_theory.specs.Arrays.{arrayProblem, ValidArrays, SizedArrays}
 
 -- the problem that distances, settings and minima of n tides pose
-abbrev pub posed : (d s : List ℕ) (n : ℕ) (M : Minima) → Problem
-posed d s n M = arrayProblem d n (meeting M n s)
+abbrev pub inputProblem : (d s : List ℕ) (n : ℕ) (M : Minima) → Problem
+inputProblem d s n M = arrayProblem d n (meeting M n s)
 
 -- the arrays of n tides are long enough, and minima and settings are in range
 abbrev pub SizedInput : (d s : List ℕ) (n : ℕ) (M : Minima) → Type 0
@@ -43,6 +43,6 @@ pub record Room (n : ℕ) (allowed list : List ℕ) : Type 0 where
   pub list-long : n ≤ length list
 
 -- there is a tide, and room for centres, table and list
-abbrev pub Lent : (n : ℕ) (centres allowed list : List ℕ) → Type 0
-Lent n centres allowed list =
+abbrev pub SearchRoom : (n : ℕ) (centres allowed list : List ℕ) → Type 0
+SearchRoom n centres allowed list =
     (0 < n) × (length centres ≡ maxTides) × (tableSize ≤ length allowed) × (n ≤ length list)

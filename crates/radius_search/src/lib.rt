@@ -19,7 +19,7 @@ ghost use Prim.Native.Nat.{_-_, _<_};
 ghost use lib.ListN.{length};
 ghost use Rattle.promise.specs.Promise.{meeting};
 ghost use Rattle.radius_theory.specs.Radii.{Lowest, Ahead};
-ghost use Rattle.radius_search.specs.Inputs.{posed, SizedInput, ValidInput, Input, Room, Lent};
+ghost use Rattle.radius_search.specs.Inputs.{inputProblem, SizedInput, ValidInput, Input, Room, SearchRoom};
 ghost use Rattle.radius_search.specs.Front.{CentresAt};
 ghost use Rattle.lists.specs.Lists.{TailKept};
 ghost use Rattle.radius_search.specs.Ascents.{Steady, Some, RadiusTried, Bisected, Ascent, Least};
@@ -63,7 +63,7 @@ fn bisect(
 ) -> u32
     requires { ⌜ Input (now distances) (now settings) n minima ⌝ }
     requires { ⌜ Steady (now distances) n start limit count (now centres) ⌝ }
-    requires { ⌜ (start < limit) × Some (posed (now distances) (now settings) n minima) (limit - 1) ⌝ }
+    requires { ⌜ (start < limit) × Some (inputProblem (now distances) (now settings) n minima) (limit - 1) ⌝ }
     requires { ⌜ Room n (now allowed) (now list) ⌝ }
     ensures { λ r. ⌜ Bisected (now (distances .entry)) n (meeting minima n (now (settings .entry))) start limit r ⌝ }
     ensures { λ _. ⌜ length (now (allowed .exit)) ≡ length (now (allowed .entry)) ⌝ }
@@ -108,7 +108,7 @@ fn ascend(
     requires { ⌜ Input (now distances) (now settings) n minima ⌝ }
     requires { ⌜ Steady (now distances) n start limit count (now centres) ⌝ }
     requires { ⌜ (0 < n) × (start < limit) ⌝ }
-    requires { ⌜ Lowest (posed (now distances) (now settings) n minima) start × Ahead (posed (now distances) (now settings) n minima) limit ⌝ }
+    requires { ⌜ Lowest (inputProblem (now distances) (now settings) n minima) start × Ahead (inputProblem (now distances) (now settings) n minima) limit ⌝ }
     requires { ⌜ Room n (now allowed) (now list) ⌝ }
     ensures { λ r. ⌜ Ascent (now (distances .entry)) n (meeting minima n (now (settings .entry)))
         (now (centres .entry)) count start limit r (now (allowed .entry)) (now (allowed .exit)) (now (list .exit)) ⌝ }
@@ -172,7 +172,7 @@ pub fn least_radius(
 ) -> LeastRadius
     requires { ⌜ SizedInput (now distances) (now settings) n minima ⌝ }
     requires { ⌜ ValidInput (now distances) (now settings) n minima ⌝ }
-    requires { ⌜ Lent n (now centres) (now allowed) (now list) ⌝ }
+    requires { ⌜ SearchRoom n (now centres) (now allowed) (now list) ⌝ }
     ensures { λ r. ⌜ Least (now (distances .entry)) n (meeting minima n (now (settings .entry)))
         (r .radius) (r .count) (now (centres .exit)) (now (allowed .entry)) (now (allowed .exit)) (now (list .exit)) ⌝ }
     ensures { λ _. ⌜ TailKept n (now (list .entry)) (now (list .exit)) ⌝ }

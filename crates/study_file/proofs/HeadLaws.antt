@@ -21,7 +21,7 @@ use Rattle.file_format.specs.Head.{Head}
 use Rattle.bit_reader.specs.declared.Start.{Start}
 use Rattle.bit_reader.specs.declared.Start.the-variants as Starts
 use Rattle.bit_reader.specs.Fields.{fieldAt, startOf}
-use Rattle.bit_reader.proofs.FieldLaws.{Got, got-start}
+use Rattle.bit_reader.proofs.FieldLaws.{FieldGot, got-start}
 use Rattle.validity.specs.Memory.{setK, setSize, setMinima, setCount, recordOf}
 use Rattle.lists.proofs.Scans.{between-in}
 use Rattle.study_file.proofs.Lengths.{length-sum}
@@ -64,7 +64,7 @@ pub record Started (s : List ℕ) (m n : ℕ) : Type 0 where
 
 pub started : {s : List ℕ} {r : Start} {m n : ℕ} → 6 ≤ length s → r ≡ startOf (fieldAt s 0 8) (fieldAt s 8 7) → r ≡ Starts.Fields m n
     → Started s m n
-started {s} {r} {m} {n} h e q = let g : Got s 0 8 m × Got s 8 7 n = got-start e q in record { six = h; mark = g .0 .is; tides = g .1 .is }
+started {s} {r} {m} {n} h e q = let g : FieldGot s 0 8 m × FieldGot s 8 7 n = got-start e q in record { six = h; mark = g .0 .is; tides = g .1 .is }
 
 -- the tests of these reasons, where they have passed
 past-8 : (s : List ℕ) → 6 ≤ length s → ltb (length s) 6 ≡ false
@@ -109,7 +109,7 @@ pub record Whole (s : List ℕ) (k n : ℕ) : Type 0 where
   pub long : length s ≡ byteLength k n
 
 -- and its minima are valid
-pub record Sound (s : List ℕ) (k n : ℕ) : Type 0 where
+pub record HeadSound (s : List ℕ) (k n : ℕ) : Type 0 where
   pub whole : Whole s k n
   pub minima : validMinima k (minimaAt s k) ≡ true
 
@@ -163,10 +163,10 @@ module _ {s : List ℕ} {k n : ℕ} where
       pub head-minima : v ≡ false → refused (number 3) ≡ firstOf (headReasons s)
       head-minima q = by-tests B true false _ is-long (good q) refl
 
-      pub sound : v ≡ true → Sound s k n
+      pub sound : v ≡ true → HeadSound s k n
       sound q = record { whole = W; minima = good q }
 
-  module _ (G : Sound s k n) {end : ℕ} (ends : end ≡ bitLength k n) {w : Bool} (fill : w ≡ eqb (bitsAt s end (8 * length s - end)) 0) where
+  module _ (G : HeadSound s k n) {end : ℕ} (ends : end ≡ bitLength k n) {w : Bool} (fill : w ≡ eqb (bitsAt s end (8 * length s - end)) 0) where
     filled : {b : Bool} → w ≡ b → eqb (bitsAt s (bitLength k n) (8 * length s - bitLength k n)) 0 ≡ b
     filled q = ap (λ p. eqb (bitsAt s p (8 * length s - p)) 0) (sym ends) ∙ sym fill ∙ q
 

@@ -14,7 +14,7 @@ use Rattle.study.specs.Refusals.{seven, accepted, refused}
 use Rattle.study.specs.Calls.{Pair, violations}
 use Rattle.file_format.specs.Bits.{bitsAt}
 use Rattle.file_format.specs.File.{bitLength, byteLength, tideAt}
-use Rattle.bit_reader.proofs.FieldLaws.{Got}
+use Rattle.bit_reader.proofs.FieldLaws.{FieldGot}
 use Rattle.triangle.specs.declared.Violation.{Violation}
 use Rattle.triangle.specs.declared.Violation.the-variants as Violations
 use Rattle.triangle.specs.Pairs.{violationOf}
@@ -28,7 +28,7 @@ use Rattle.study_file.specs.Rows.{rowAt, RowInside, RowRead}
 
 -- ---- taken
 
-pub row-taken : (s : List ℕ) (start : ℕ) {t i x : ℕ} (l : List ℕ) {matrix : List ℕ} → i < t → Got s (start + 20 * i) 20 x
+pub row-taken : (s : List ℕ) (start : ℕ) {t i x : ℕ} (l : List ℕ) {matrix : List ℕ} → i < t → FieldGot s (start + 20 * i) 20 x
     → matrix ≡ withRow (rowAt s start t) i l → set (set matrix (t * 120 + i) x) (i * 120 + t) x ≡ withRow (rowAt s start t) (i + 1) l
 row-taken s start {t} {i} {x} l {matrix} h g e =
     ap₂ (λ (n v : ℕ). set (set matrix (n * 120 + i) v) (i * 120 + n) v)
@@ -88,7 +88,7 @@ at-tide {s} {k} {t} {start} pre e =
       };
     }
 
-module _ {s : List ℕ} {k t start : ℕ} {matrix vector : List ℕ} (A : AtTide s k t start matrix vector) {less : ℕ} (g : Got s start 3 less) where
+module _ {s : List ℕ} {k t start : ℕ} {matrix vector : List ℕ} (A : AtTide s k t start matrix vector) {less : ℕ} (g : FieldGot s start 3 less) where
   read : less ≡ bitsAt s (bitLength (bitsAt s 15 4) t) 3
   read = g .is ∙ ap (λ p. bitsAt s p 3) (A .begins)
 

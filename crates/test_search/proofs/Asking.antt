@@ -6,14 +6,14 @@ use Rattle.lists.specs.Lists.{sumBelow}
 use Rattle.promise.specs.Promise.{Asked}
 use Rattle.promise.specs.Promise.{Able}
 use Rattle.test_search.specs.declared.plain.Question.{Question}
-use Rattle.test_search.specs.Ranges.{Modest, DrawnQuestion, Filled}
+use Rattle.test_search.specs.Ranges.{Modest, DrawnQuestion, FilledTables}
 
 pub modest : (b0 x y z : ℕ) → b0 < 3 → x < b0 + 1 → y < b0 - x + 1 → z < b0 - x - y + 1
     → Modest (record { b0 = b0; b = x ∷ y ∷ z ∷ 0 ∷ 0 ∷ 0 ∷ 0 ∷ 0 ∷ [] })
 unfolding sumBelow
 modest b0 x y z a b c d = record { small = omega arith; fit = omega arith }
 
-pub posed-asked : (q : Question) (settings allowed list : List ℕ) → DrawnQuestion q → Filled settings allowed list
+pub posed-asked : (q : Question) (settings allowed list : List ℕ) → DrawnQuestion q → FilledTables settings allowed list
     → Asked (Able (q .minima) (q .n) settings) (q .n) (q .blocks) allowed list
 posed-asked q settings allowed list p f =
     let a = p .few-tides in

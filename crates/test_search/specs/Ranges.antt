@@ -25,7 +25,7 @@ pub record DrawnQuestion (q : Question) : Type 0 where
   pub modest : Modest (q .minima)
 
 -- the lists of a trial: settings of six tides, a whole table, and a list of eight places
-pub record Filled (settings allowed list : List ℕ) : Type 0 where
+pub record FilledTables (settings allowed list : List ℕ) : Type 0 where
   pub six : length settings ≡ 6
   pub rows : length allowed ≡ tableSize
   pub eight : length list ≡ 8

@@ -18,7 +18,7 @@ ghost use mathlib.Core.Path.{_≡_};
 ghost use mathlib.Core.Bool.{true};
 ghost use Prim.Native.Nat.{ℕ, _<_, _≤_};
 ghost use lib.ListN.{getD};
-ghost use Rattle.test_search.specs.Ranges.{Between, Filled, Modest, DrawnQuestion};
+ghost use Rattle.test_search.specs.Ranges.{Between, FilledTables, Modest, DrawnQuestion};
 
 // Fills bytes with numbers from low to high.
 fn fill(seed: u64, bytes: &mut [u8], low: u8, high: u8) -> u64
@@ -78,7 +78,7 @@ fn drawn(seed: u64, s1: u64, s2: u64, s3: u64) -> Question
 
 fn asked(q: Question, settings: &[u8; 6], allowed: &[u8; TABLE_SIZE], list: &mut [u8]) -> bool
     requires { ⌜ DrawnQuestion q ⌝ }
-    requires { ⌜ Filled (now settings) (now allowed) (now list) ⌝ }
+    requires { ⌜ FilledTables (now settings) (now allowed) (now list) ⌝ }
 {
     search(q.n, q.blocks, q.minima, settings, allowed, list)
 }
@@ -93,7 +93,7 @@ fn asked_again(
     s6: u64,
 ) -> bool
     requires { ⌜ DrawnQuestion q ⌝ }
-    requires { ⌜ Filled (now settings) (now allowed) (now list) ⌝ }
+    requires { ⌜ FilledTables (now settings) (now allowed) (now list) ⌝ }
 {
     let t = draw(s5, 6) as usize;
     let m = draw(s6, 3) as usize;

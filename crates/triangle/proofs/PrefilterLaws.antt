@@ -12,7 +12,7 @@ use Rattle.study.specs.Limits.{cell}
 use Rattle.study.specs.Calls.{violations}
 use Rattle.study.specs.Triangle.{Triangle}
 use Rattle.study.proofs.TriangleLaws.{obeyed-of}
-use Rattle.triangle.specs.Prefilter.{Small, TripleFlags, RowFlags, Obeys, SmallRow}
+use Rattle.triangle.specs.Prefilter.{SmallTriple, TripleFlags, RowFlags, Obeys, SmallRow}
 use Rattle.triangle.specs.Pairs.{violationOf}
 use Rattle.triangle.proofs.PairLaws.{nothing-found}
 use Rattle.triangle.specs.declared.Violation.the-variants as Violations
@@ -71,7 +71,7 @@ module _ (x y z apart : ℕ) (hx : x < 4294967296) (hy : y < 4294967296) (hz : z
       }
 
   -- where it holds of distances of 20 bits, each is a sum less a distance that does not exceed it
-  module _ (S : Small x y z) (R : Triangle x y z) where
+  module _ (S : SmallTriple x y z) (R : Triangle x y z) where
     clear-a : (both a : ℕ) → a < 4294967296 → both ≡ (x + z) % 4294967296 → (a + y) % 4294967296 ≡ both → a < 2147483648
     clear-a both a h e f = omega (arith, S .first, S .second, S .third, R .second)
 

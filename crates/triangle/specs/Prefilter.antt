@@ -11,7 +11,7 @@ use Rattle.study.specs.Triangle.{Triangle}
 -- ---- one triple
 
 -- three distances of 20 bits
-pub record Small (x y z : ℕ) : Type 0 where
+pub record SmallTriple (x y z : ℕ) : Type 0 where
   pub first : x ≤ maxDistance
   pub second : y ≤ maxDistance
   pub third : z ≤ maxDistance
@@ -23,7 +23,7 @@ pub record TripleFlags (x y z total : ℕ) : Type 0 where
   -- no violation passes without a flag
   pub rule : total ≡ 0 → Triangle x y z
   -- and, of distances of 20 bits, nothing else raises one
-  pub clear : Small x y z → Triangle x y z → total ≡ 0
+  pub clear : SmallTriple x y z → Triangle x y z → total ≡ 0
 
 -- ---- a tide at y from one tide, and at a row's distances from others, which are at a line's from that one
 
@@ -34,7 +34,7 @@ pub record RowFlags (line : List ℕ) (y : ℕ) (row : List ℕ) (j total : ℕ)
   -- no violation passes without a flag
   pub rule : total ≡ 0 → (i : ℕ) → i < j → Triangle (getD line i 0) y (getD row i 0)
   -- and, of distances of 20 bits, nothing else raises one
-  pub clear : ((i : ℕ) → i < j → Small (getD line i 0) y (getD row i 0)) → ((i : ℕ) → i < j → Triangle (getD line i 0) y (getD row i 0)) → total ≡ 0
+  pub clear : ((i : ℕ) → i < j → SmallTriple (getD line i 0) y (getD row i 0)) → ((i : ℕ) → i < j → Triangle (getD line i 0) y (getD row i 0)) → total ≡ 0
 
 -- ---- a tide at a row's distances from all others, which are cell d's from each other
 

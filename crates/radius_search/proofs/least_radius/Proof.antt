@@ -5,7 +5,7 @@ use native.Mathlib.Nat.{mul-le-mul-right}
 use Rattle.lists.specs.Lists.{TailKept}
 use Rattle.lists.proofs.Tables.{tail-same, tail-trans}
 use Rattle.study.specs.Limits.{maxTides}
-use Rattle.radius_search.specs.Inputs.{posed}
+use Rattle.radius_search.specs.Inputs.{inputProblem}
 use Rattle.radius_search.proofs.AscentLaws.{steady, pairs-ahead, many-lowest, lowest-small, first-lowest, ascended, least-found}
 use Rattle.radius_search.proofs.FrontLaws.{front-few, centres-in, rows-of}
 use Rattle.radius_search.proofs.NextLaws.{next-up}
@@ -20,7 +20,7 @@ use Rattle.radius_search.proofs.least_radius.Tie as tie
 
 abbrev Inv-loop : tie.InvT-loop
 Inv-loop distances settings n minima centres₀ allowed₀ list₀ b0 low g₀ centres allowed list g =
-    Lowest (posed distances settings n minima) g × (g < noRadius) × (length centres ≡ maxTides) × (length allowed ≡ length allowed₀) × TailKept n list₀ list
+    Lowest (inputProblem distances settings n minima) g × (g < noRadius) × (length centres ≡ maxTides) × (length allowed ≡ length allowed₀) × TailKept n list₀ list
 
 abbrev μ-loop : tie.MeasureT-loop
 μ-loop distances settings n minima centres₀ allowed₀ list₀ b0 low g₀ centres allowed list g = noRadius - g

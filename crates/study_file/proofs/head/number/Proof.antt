@@ -1,5 +1,5 @@
 -- `number` meets its contract: inside the file there is no end. Assumes nothing.
-use Rattle.bit_reader.proofs.FieldLaws.{Got, got, no-end}
+use Rattle.bit_reader.proofs.FieldLaws.{FieldGot, got, no-end}
 use borrow.Author.Needs.{needs}
 use Rattle.study_file.proofs.head.number.Statement.{statement}
 use Rattle.study_file.proofs.head.number.Tie as tie
@@ -14,7 +14,7 @@ returns-2 : tie.Need-returns-2
 returns-2 c =
     let at-field = c .before .before .before in
     let entry = at-field .before .before in
-    let g : Got (entry .args .file .now) (entry .args .at) (entry .args .width) _ = got (at-field .read-field .ensures) (c .before .v .given .1) in
+    let g : FieldGot (entry .args .file .now) (entry .args .at) (entry .args .width) _ = got (at-field .read-field .ensures) (c .before .v .given .1) in
     (g .is, g .small)
 
 pub number-spec : {M : Type 1} → statement M
