@@ -25,7 +25,8 @@ use Rattle.study.proofs.CallLaws.{none-holds}
 use Rattle.validity.specs.Memory.{State, stateOf, setK, setMinima, short, isDataset, contentsOf, stored}
 use Rattle.validity.specs.Validity.{IsStudy}
 use Rattle.validity.proofs.Proofs.{for-datasets}
-use Rattle.dataset.specs.Answers.{freshAnswer, freshLeaves, heldAnswer, heldLeaves, openAnswer, openLeaves, minimaAnswer, minimaLeaves, enterAnswer, enterLeaves, withdrawAnswer, withdrawLeaves}
+use Rattle.dataset.specs.Answers.{freshAnswer, freshLeaves, heldAnswer, heldLeaves, openAnswer, openLeaves, minimaAnswer, minimaLeaves}
+use Rattle.dataset.specs.Answers.{enterAnswer, enterLeaves, withdrawAnswer, withdrawLeaves}
 use Rattle.dataset.proofs.AnswerLaws.{fresh-own, accepted-held}
 use Rattle.narrowing.specs.Narrowing.{narrowed, narrowMinima, narrowDataset, narrowState, Unchanged}
 
@@ -154,8 +155,8 @@ module _ (s : State) where
       (λ t. dataset-uncut (for-datasets .exactly s .0 t .study)))
 
 pub unchanged : (s : State) → Unchanged s
-unfolding openAnswer openLeaves freshLeaves heldLeaves openReasons minimaAnswer minimaLeaves minimaReasons enterAnswer enterLeaves enterReasons withdrawAnswer withdrawLeaves
-    withdrawReasons
+unfolding openAnswer openLeaves freshLeaves heldLeaves openReasons minimaAnswer minimaLeaves minimaReasons
+    enterAnswer enterLeaves enterReasons withdrawAnswer withdrawLeaves withdrawReasons
 unchanged s =
     record {
       on-open = λ k.
