@@ -32,7 +32,7 @@ use Rattle.c_api.proofs.RecordLaws.{withRecord, front-written}
 use Rattle.c_api.specs.Records.{Narrow}
 use Rattle.c_api.proofs.CodeLaws.{small, held-narrow}
 use Rattle.c_api.proofs.CallLaws.{lacks-one}
-use Rattle.c_api.proofs.OutputLaws.{reply-refused, reply-value, output-as, code-too-short, output-too-short, Reads, code-own, output-own}
+use Rattle.c_api.proofs.OutputLaws.{reply-refused, reply-value, output-refused, output-done, code-too-short, output-too-short, Reads, code-own, output-own}
 
 -- ---- the list
 
@@ -49,7 +49,7 @@ module _ (s : State) (list : List ℕ) (room : ℕ) where
       for-problem (problem S) (for-study S ok .lawful) .canonical (not-not (sufficient S (λ t. true)) (w .1 .0)) .assignment .long
 
   pub list-output : blockList s list room ≡ output (blockAnswer s (length list) room) (blocking (problem S)) list
-  unfolding blockList output over
+  unfolding blockList output
   list-output = by (blockAnswer s (length list) room) blocking-long
     where
       by : (v : Verdict) → (v ≡ accepted → length (blocking (problem S)) ≡ size S)
@@ -95,7 +95,7 @@ module _ {s : State} {list room : ℕ} {rows : BlockRows} (R : RowsOf s list roo
   blocks-few = ⊎-elim (λ h. absurd (let k = in-row (rows .count) h .0 in omega arith)) (λ h. h) (split (rows .count) (figures T .blocks))
 
   column-is : (f : BlockRecord → ℕ) (old : List ℕ) → overwrite (figures T .blocks) (λ i. f (rowAt rows i)) old ≡ over (column f T) old
-  unfolding column over overwrite
+  unfolding column overwrite
   column-is f old =
       let n = figures T .blocks in
       let g : ℕ → ℕ = λ i. f (blockRecord T i) in
@@ -152,8 +152,8 @@ module _ (l : Lent) (p : Places) where
   block-too-short h =
       let e = lacks-one (l .numbers) (p .result) h in (
         code-too-short _ e,
-        places-are (output-too-short _ e _ (p .list)) (output-too-short _ e _ (p .centres)) (output-too-short _ e _ (p .sizes)) (output-too-short _ e _ (p .diameters))
-            (output-too-short _ e _ (p .result)),
+        places-are (output-too-short _ e _ (p .list)) (output-too-short _ e _ (p .centres)) (output-too-short _ e _ (p .sizes))
+            (output-too-short _ e _ (p .diameters)) (output-too-short _ e _ (p .result)),
       )
 
   abbrev own : Contents → List Reason
@@ -180,21 +180,21 @@ module _ (l : Lent) (p : Places) where
 
     pub block-refused : {why : Refusal} {c : ℕ} → a ≡ Blocks.Refused why → c ≡ code (refused (numbered why))
         → (c ≡ code (blockVerdict l p)) × (places new (p .centres) (p .sizes) (p .diameters) (p .result) ≡ blockLeft l p)
-    unfolding blockVerdict blockLeft blockAnswer output contentsOf
+    unfolding blockVerdict blockLeft blockAnswer contentsOf
     block-refused e f =
         let y = block-why s (length (p .list)) (recordRoom p) a reply e in (
           f ∙ code-own R own y,
-          places-are listed (output-own R own (columns (λ x. x .centre)) (p .centres) (output-as _ (p .centres) y refl))
-              (output-own R own (columns (λ x. x .tides)) (p .sizes) (output-as _ (p .sizes) y refl))
-              (output-own R own (columns (λ x. x .diameter)) (p .diameters) (output-as _ (p .diameters) y refl))
-              (output-own R own numbers (p .result) (output-as _ (p .result) y refl)),
+          places-are listed (output-own R own (columns (λ x. x .centre)) (p .centres) (output-refused _ (p .centres) y))
+              (output-own R own (columns (λ x. x .tides)) (p .sizes) (output-refused _ (p .sizes) y))
+              (output-own R own (columns (λ x. x .diameter)) (p .diameters) (output-refused _ (p .diameters) y))
+              (output-own R own numbers (p .result) (output-refused _ (p .result) y)),
         )
 
     pub block-done : {b g w : ℕ} {rows : BlockRows} {c z d f : List ℕ} → a ≡ Blocks.Done b g w → RowsOf s (length (p .list)) room rows
         → c ≡ overwrite b (λ i. getD (rows .centres) i 0) (p .centres) → z ≡ overwrite b (λ i. getD (rows .tides) i 0) (p .sizes)
         → d ≡ overwrite b (λ i. getD (rows .diameters) i 0) (p .diameters) → f ≡ overwrite 3 (λ i. getD (b ∷ g ∷ w ∷ []) i 0) (p .result)
         → (0 ≡ code (blockVerdict l p)) × (places new c z d f ≡ blockLeft l p)
-    unfolding blockVerdict blockLeft blockAnswer output contentsOf
+    unfolding blockVerdict blockLeft blockAnswer contentsOf
     block-done {b} {g} {w} {rows} e W ec ez ed ef =
         let n = length (p .list) in
         let y = block-value s n (recordRoom p) a reply e .0 in
@@ -204,8 +204,8 @@ module _ (l : Lent) (p : Places) where
         let wd = written-column s n (recordRoom p) a reply e Rows (λ x. x .diameter) (p .diameters) ed in
         let wf = written-figures s n (recordRoom p) a reply e (p .result) ef in (
           code-own R own y,
-          places-are listed (output-own R own (columns (λ x. x .centre)) (p .centres) (output-as _ (p .centres) y wc))
-              (output-own R own (columns (λ x. x .tides)) (p .sizes) (output-as _ (p .sizes) y wz))
-              (output-own R own (columns (λ x. x .diameter)) (p .diameters) (output-as _ (p .diameters) y wd))
-              (output-own R own numbers (p .result) (output-as _ (p .result) y wf)),
+          places-are listed (output-own R own (columns (λ x. x .centre)) (p .centres) (output-done _ (p .centres) y wc))
+              (output-own R own (columns (λ x. x .tides)) (p .sizes) (output-done _ (p .sizes) y wz))
+              (output-own R own (columns (λ x. x .diameter)) (p .diameters) (output-done _ (p .diameters) y wd))
+              (output-own R own numbers (p .result) (output-done _ (p .result) y wf)),
         )

@@ -6,6 +6,7 @@ ghost use lib.ListN.{length, getD};
 ghost use Rattle.lists.specs.Lists.{overwrite};
 ghost use Rattle.study.specs.Limits.{maxTides};
 
+// The first count bytes of a row.
 fn put_bytes(row: &[u8], count: usize, list: &mut [u8])
     requires { ⌜ (count ≤ length (now row)) × (count ≤ length (now list)) ⌝ }
     ensures { λ _. ⌜ now (list .exit) ≡ overwrite count (λ (i : ℕ). getD (now (row .entry)) i 0) (now (list .entry)) ⌝ }
@@ -17,6 +18,7 @@ fn put_bytes(row: &[u8], count: usize, list: &mut [u8])
     }
 }
 
+// The same of numbers of 32 bits.
 pub fn put_numbers(row: &[u32], count: usize, list: &mut [u32])
     requires { ⌜ (count ≤ length (now row)) × (count ≤ length (now list)) ⌝ }
     ensures { λ _. ⌜ now (list .exit) ≡ overwrite count (λ (i : ℕ). getD (now (row .entry)) i 0) (now (list .entry)) ⌝ }
@@ -37,6 +39,7 @@ fn lesser(x: usize, y: usize) -> usize
     y
 }
 
+// The least of three lengths.
 pub fn least(x: usize, y: usize, z: usize) -> usize
     ensures { λ r. ⌜ r ≡ min x (min y z) ⌝ }
 {
