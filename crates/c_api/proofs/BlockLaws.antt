@@ -13,7 +13,7 @@ use Rattle.study.specs.declared.Refusal.{Refusal}
 use Rattle.study.specs.declared.Dataset.{Dataset}
 use Rattle.study.specs.declared.BlockRecord.{BlockRecord}
 use Rattle.study.specs.declared.Blocked.{Blocked}
-use Rattle.study.specs.declared.Blocked.the-variants as Blocks
+use Rattle.study.specs.declared.Blocked.the-variants as BlockedCase
 use Rattle.study.specs.Problem.{blocking}
 use Rattle.study.specs.Study.{Study, Contents, size, sufficient, problem}
 use Rattle.study.specs.Refusals.{numbered, Verdict, accepted, refused, settled, Reason}
@@ -29,10 +29,11 @@ use Rattle.blocking.specs.Rows.{rowAt, noRecord, RowsOf}
 use Rattle.guarantee.specs.Runs.{figureNumbers}
 use Rattle.c_api.specs.Api.{Lent, code, over, output, Places, places, recordRoom, blockVerdict, column, blockLeft}
 use Rattle.c_api.proofs.RecordLaws.{withRecord, front-written}
-use Rattle.c_api.specs.Records.{Narrow}
+use Rattle.c_api.specs.Records.{Narrow, ColumnRoom}
 use Rattle.c_api.proofs.CodeLaws.{small, held-narrow}
 use Rattle.c_api.proofs.CallLaws.{lacks-one}
-use Rattle.c_api.proofs.OutputLaws.{reply-refused, reply-value, output-refused, output-done, code-too-short, output-too-short, Reads, code-own, output-own}
+use Rattle.c_api.proofs.OutputLaws.{reply-refused, reply-value, output-refused, output-done, code-too-short, output-too-short}
+use Rattle.c_api.proofs.OutputLaws.{Reads, code-own, output-own}
 
 -- ---- the list
 
@@ -105,15 +106,15 @@ module _ {s : State} {list room : ℕ} {rows : BlockRows} (R : RowsOf s list roo
 -- ---- the reply
 
 module _ (s : State) (list room : ℕ) (a : Blocked) (p : blockedOf a ≡ blockReply s list room) where
-  block-why : {why : Refusal} → a ≡ Blocks.Refused why → blockAnswer s list room ≡ refused (numbered why)
+  block-why : {why : Refusal} → a ≡ BlockedCase.Refused why → blockAnswer s list room ≡ refused (numbered why)
   unfolding blockReply
   block-why e = reply-refused (blockAnswer s list room) (figures (studyOf s)) (sym (ap blockedOf e) ∙ p)
 
-  pub block-narrow : {why : Refusal} → a ≡ Blocks.Refused why → Narrow (refused (numbered why))
+  pub block-narrow : {why : Refusal} → a ≡ BlockedCase.Refused why → Narrow (refused (numbered why))
   unfolding blockAnswer blockReasons
   block-narrow e = subst Narrow (block-why e) (held-narrow s (λ H. blockReasons (H .study) list room) (λ _. (small tt, (small tt, (small tt, tt)))))
 
-  module _ {b r w : ℕ} (e : a ≡ Blocks.Done b r w) where
+  module _ {b r w : ℕ} (e : a ≡ BlockedCase.Done b r w) where
     abbrev given : Figures
     given = record { blocks = b; radius = r; widest = w }
 
@@ -128,10 +129,10 @@ module _ (s : State) (list room : ℕ) (a : Blocked) (p : blockedOf a ≡ blockR
       pub blocks-small : b ≤ 120
       blocks-small = omega (arith, blocks-few R (block-value .0), blocks-are, R .few)
 
-      pub columns-fit : (x y z : ℕ) → room ≡ min x (min y z) → (b ≤ 120) × (b ≤ x) × (b ≤ y) × (b ≤ z)
+      pub columns-fit : (x y z : List ℕ) → room ≡ min (length x) (min (length y) (length z)) → ColumnRoom b x y z
       columns-fit x y z m =
-          let fits : b ≤ min x (min y z) = omega (arith, blocks-few R (block-value .0), blocks-are, R .fits) in
-          (blocks-small, omega arith, omega arith, omega arith)
+          let fits : b ≤ min (length x) (min (length y) (length z)) = omega (arith, blocks-few R (block-value .0), blocks-are, R .fits) in
+          record { few = blocks-small; in-centres = omega arith; in-sizes = omega arith; in-diameters = omega arith }
 
       written-column : (f : BlockRecord → ℕ) {new : List ℕ} (old : List ℕ) → new ≡ overwrite b (λ i. f (rowAt rows i)) old
           → new ≡ over (column f (studyOf s)) old
@@ -178,7 +179,7 @@ module _ (l : Lent) (p : Places) where
     unfolding blockLeft blockVerdict blockAnswer contentsOf
     listed = output-own R own (λ H. blocking (problem (H .study))) (p .list) (t ∙ ap (blockList s (p .list)) m ∙ list-output s (p .list) (recordRoom p))
 
-    pub block-refused : {why : Refusal} {c : ℕ} → a ≡ Blocks.Refused why → c ≡ code (refused (numbered why))
+    pub block-refused : {why : Refusal} {c : ℕ} → a ≡ BlockedCase.Refused why → c ≡ code (refused (numbered why))
         → (c ≡ code (blockVerdict l p)) × (places new (p .centres) (p .sizes) (p .diameters) (p .result) ≡ blockLeft l p)
     unfolding blockVerdict blockLeft blockAnswer contentsOf
     block-refused e f =
@@ -190,7 +191,7 @@ module _ (l : Lent) (p : Places) where
               (output-own R own numbers (p .result) (output-refused _ (p .result) y)),
         )
 
-    pub block-done : {b g w : ℕ} {rows : BlockRows} {c z d f : List ℕ} → a ≡ Blocks.Done b g w → RowsOf s (length (p .list)) room rows
+    pub block-done : {b g w : ℕ} {rows : BlockRows} {c z d f : List ℕ} → a ≡ BlockedCase.Done b g w → RowsOf s (length (p .list)) room rows
         → c ≡ overwrite b (λ i. getD (rows .centres) i 0) (p .centres) → z ≡ overwrite b (λ i. getD (rows .tides) i 0) (p .sizes)
         → d ≡ overwrite b (λ i. getD (rows .diameters) i 0) (p .diameters) → f ≡ overwrite 3 (λ i. getD (b ∷ g ∷ w ∷ []) i 0) (p .result)
         → (0 ≡ code (blockVerdict l p)) × (places new c z d f ≡ blockLeft l p)

@@ -24,7 +24,7 @@ use Rattle.dataset.specs.Answers.{heldAnswer}
 use Rattle.validity.proofs.Proofs.{for-datasets}
 use Rattle.dataset.proofs.AnswerLaws.{accepted-held}
 use Rattle.study_file.specs.declared.Written.{Written}
-use Rattle.study_file.specs.declared.Written.the-variants as Writes
+use Rattle.study_file.specs.declared.Written.the-variants as WrittenCase
 use Rattle.study_file.specs.Answers.{writeReasons, writeAnswer, writtenOf, writeReply, writeLeaves}
 use Rattle.study_file.proofs.Lengths.{length-sum}
 use Rattle.blocking.specs.Answers.{centresAnswer, centresFront, centresLeaves}
@@ -196,19 +196,19 @@ module _ (room : ℕ) (s : State) where
       omega (arith, files .file-length (contentsOf s) ok)
 
   module _ (w : Written) (p : writtenOf w ≡ writeReply s room) where
-    write-why : {why : Refusal} → w ≡ Writes.Refused why → writeAnswer s room ≡ refused (numbered why)
+    write-why : {why : Refusal} → w ≡ WrittenCase.Refused why → writeAnswer s room ≡ refused (numbered why)
     unfolding writeReply
     write-why e = reply-refused (writeAnswer s room) (length (fileOf (contentsOf s))) (sym (ap writtenOf e) ∙ p)
 
-    pub why-narrow : {why : Refusal} → w ≡ Writes.Refused why → Narrow (refused (numbered why))
+    pub why-narrow : {why : Refusal} → w ≡ WrittenCase.Refused why → Narrow (refused (numbered why))
     unfolding writeAnswer writeReasons
     why-narrow e = subst Narrow (write-why e) (held-narrow s (λ H. writeReasons H room) (λ _. (small tt, tt)))
 
-    write-size : {n : ℕ} → w ≡ Writes.Done n → (writeAnswer s room ≡ accepted) × (n ≡ length (fileOf (contentsOf s)))
+    write-size : {n : ℕ} → w ≡ WrittenCase.Done n → (writeAnswer s room ≡ accepted) × (n ≡ length (fileOf (contentsOf s)))
     unfolding writeReply
     write-size e = reply-value (writeAnswer s room) (length (fileOf (contentsOf s))) (sym (ap writtenOf e) ∙ p)
 
-    pub size-fits : {n : ℕ} → w ≡ Writes.Done n → n < 4294967296
+    pub size-fits : {n : ℕ} → w ≡ WrittenCase.Done n → n < 4294967296
     size-fits e = let q = write-size e in omega (arith, q .1, length-fits (q .0))
 
 module _ (l : Lent) (file result : List ℕ) where
@@ -230,14 +230,14 @@ module _ (l : Lent) (file result : List ℕ) where
     abbrev lengths : Contents → List ℕ
     lengths H = length (fileOf H) ∷ []
 
-    pub write-refused : {why : Refusal} {c : ℕ} → w ≡ Writes.Refused why → c ≡ code (refused (numbered why))
+    pub write-refused : {why : Refusal} {c : ℕ} → w ≡ WrittenCase.Refused why → c ≡ code (refused (numbered why))
         → (c ≡ code (writeVerdict l file result)) × ((new ≡ writeFile l file result) × (result ≡ writeLength l file result))
     unfolding writeVerdict writeLength writeAnswer
     write-refused e f =
         let y = write-why (length file) (withRecord l r) w p e in
         (f ∙ code-own R writes y, (filed, output-own R writes lengths result (output-refused _ result y)))
 
-    pub write-done : {n : ℕ} → w ≡ Writes.Done n
+    pub write-done : {n : ℕ} → w ≡ WrittenCase.Done n
         → (0 ≡ code (writeVerdict l file result)) × ((new ≡ writeFile l file result) × (set result 0 n ≡ writeLength l file result))
     unfolding writeVerdict writeLength writeAnswer
     write-done {n} e =

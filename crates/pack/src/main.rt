@@ -3,9 +3,9 @@
 use libc::STDERR_FILENO;
 use libc::STDIN_FILENO;
 use libc::STDOUT_FILENO;
+use study::refusals::number_of;
 use study_text::Packed;
 use study_text::pack;
-use study::refusals::number_of;
 
 fn say(line: usize, words: &[u8]) {
     io::write_all(STDERR_FILENO, b"line ");

@@ -19,7 +19,8 @@ use Rattle.study.specs.Refusals.{accepted, verdictOf, settled, Reason, firstOf,
 use Rattle.study.specs.Theorems.{ValidContents}
 use Rattle.validity.specs.Memory.{State, stateOf, short, studyOf, contentsOf, stored}
 use Rattle.validity.proofs.ValidityLaws.{study-size}
-use Rattle.dataset.specs.Answers.{freshAnswer, heldAnswer, openAnswer, openLeaves, minimaAnswer, minimaLeaves, enterAnswer, enterLeaves, freshLeaves, heldLeaves}
+use Rattle.dataset.specs.Answers.{freshAnswer, heldAnswer, freshLeaves, heldLeaves}
+use Rattle.dataset.specs.Answers.{openAnswer, openLeaves, minimaAnswer, minimaLeaves, enterAnswer, enterLeaves}
 use Rattle.dataset.specs.Accepted.{Passed}
 use Rattle.dataset.proofs.AnswerLaws.{held-own}
 use Rattle.narrowing.specs.Narrowing.{narrowed, narrowMinima}
@@ -27,9 +28,9 @@ use Rattle.narrowing.proofs.Proofs.{unchanged}
 use Rattle.study_text.specs.declared.Packed.{Packed}
 use Rattle.study_text.specs.declared.words.Cursor.{Cursor}
 use Rattle.study_text.specs.declared.numbers.Given.{Given}
-use Rattle.study_text.specs.declared.numbers.Given.the-variants as One
+use Rattle.study_text.specs.declared.numbers.Given.the-variants as GivenCase
 use Rattle.study_text.specs.declared.numbers.Row.{Row}
-use Rattle.study_text.specs.declared.numbers.Row.the-variants as Many
+use Rattle.study_text.specs.declared.numbers.Row.the-variants as RowCase
 use Rattle.study_text.specs.declared.calls.Reached.{Reached}
 use Rattle.study_text.specs.Words.{CursorWithin}
 use Rattle.study_text.specs.Packing.{Got, got, numberOf, numbersOf, minimaFrom, openingOf, minimaOf, tideOf, entered}
@@ -75,15 +76,15 @@ module _ {s t : State} {a : Answer} where
 -- ---- Open
 
 module _ {text : List ℕ} (from : Cursor) {g : Given} (e : givenOf g ≡ numberOf text from) where
-  pub open-stops : {p : Packed} {q : Reached} {r : Dataset} {c : Cursor} (d s : List ℕ) → g ≡ One.Stopped p → q ≡ stoppedAt p r c
+  pub open-stops : {p : Packed} {q : Reached} {r : Dataset} {c : Cursor} (d s : List ℕ) → g ≡ GivenCase.Stopped p → q ≡ stoppedAt p r c
       → Begins text q d s (openingOf text from)
   unfolding openingOf
   open-stops {p} {q} {r} {c} d s h k =
       subst (λ q. Begins text q d s (openingOf text from)) (sym k)
       (record { is = rw (← e, h); alive = λ q. absurd (let z : _≡_ {A = ℕ} 0 1 = cc in omega arith) })
 
-  pub open-goes : (s : State) (o : Outcome) {k y : ℕ} {c : Cursor} {q : Reached} (d t : List ℕ) → g ≡ One.Number k c → CursorWithin text from → short s ≡ false
-      → y ≡ narrowed k → verdictOf (o .answer) ≡ openAnswer s y → stateOf (o .dataset) d t ≡ openLeaves s y → q ≡ afterCall o c
+  pub open-goes : (s : State) (o : Outcome) {k y : ℕ} {c : Cursor} {q : Reached} (d t : List ℕ) → g ≡ GivenCase.Number k c
+      → CursorWithin text from → short s ≡ false → y ≡ narrowed k → verdictOf (o .answer) ≡ openAnswer s y → stateOf (o .dataset) d t ≡ openLeaves s y → q ≡ afterCall o c
       → Begins text q d t (openingOf text from)
   unfolding openingOf
   open-goes s o {k} {y} {c} {q} d t h w f i v l j =
@@ -118,15 +119,15 @@ module _ {text : List ℕ} {from : Cursor} {s : State} (w : CursorWithin text fr
   unfolding contentsOf studyOf
   minima-numbers e f = ap (λ m. numbersOf text m from) (sym (f ∙ add-one (s .dataset .k))) ∙ sym e
 
-  pub minima-stops : {row : Row} (xs : List ℕ) {p : Packed} {q : Reached} → readOf row xs ≡ numbersOf text n from → n ≡ s .dataset .k + 1 → row ≡ Many.Stopped p
-      → q ≡ stoppedAt p (s .dataset) from → Reaches text q (s .distances) (s .settings) (entered (minimaOf text (contentsOf s) from))
+  pub minima-stops : {row : Row} (xs : List ℕ) {p : Packed} {q : Reached} → readOf row xs ≡ numbersOf text n from → n ≡ s .dataset .k + 1
+      → row ≡ RowCase.Stopped p → q ≡ stoppedAt p (s .dataset) from → Reaches text q (s .distances) (s .settings) (entered (minimaOf text (contentsOf s) from))
   unfolding minimaOf
   minima-stops xs e f h k =
       subst (λ q. Reaches text q (s .distances) (s .settings) (entered (minimaOf text (contentsOf s) from))) (sym k)
       (record { is = rw (minima-numbers e f, h); alive = record { passed = P; within = w } })
 
   pub minima-goes : {row : Row} (xs : List ℕ) (m : ℕ) {M : Minima} (o : Outcome) {c : Cursor} {q : Reached} → readOf row xs ≡ numbersOf text n from
-      → n ≡ s .dataset .k + 1 → row ≡ Many.Read c → M ≡ narrowMinima (minimaFrom (xs ++ drop m (replicate 9 0))) → verdictOf (o .answer) ≡ minimaAnswer s M
+      → n ≡ s .dataset .k + 1 → row ≡ RowCase.Read c → M ≡ narrowMinima (minimaFrom (xs ++ drop m (replicate 9 0))) → verdictOf (o .answer) ≡ minimaAnswer s M
       → stateOf (o .dataset) (s .distances) (s .settings) ≡ minimaLeaves s M → q ≡ afterCall o c
       → Reaches text q (s .distances) (s .settings) (entered (minimaOf text (contentsOf s) from))
   unfolding minimaOf
@@ -146,7 +147,7 @@ module _ {text : List ℕ} {from : Cursor} {s : State} (w : CursorWithin text fr
   unfolding contentsOf
   tide-numbers e f = ap (λ m. numbersOf text m from) (study-size s ∙ sym f) ∙ sym e
 
-  pub tide-stops : {row : Row} (xs : List ℕ) {p : Packed} {q : Reached} → readOf row xs ≡ numbersOf text n from → n ≡ s .dataset .n → row ≡ Many.Stopped p
+  pub tide-stops : {row : Row} (xs : List ℕ) {p : Packed} {q : Reached} → readOf row xs ≡ numbersOf text n from → n ≡ s .dataset .n → row ≡ RowCase.Stopped p
       → q ≡ stoppedAt p (s .dataset) from → Reaches text q (s .distances) (s .settings) (entered (tideOf text (contentsOf s) x from))
   unfolding tideOf
   tide-stops xs e f h k =
@@ -154,7 +155,7 @@ module _ {text : List ℕ} {from : Cursor} {s : State} (w : CursorWithin text fr
       (record { is = rw (tide-numbers e f, h); alive = record { passed = P; within = w } })
 
   pub tide-goes : {row : Row} (xs : List ℕ) {y : ℕ} {ys d g : List ℕ} (o : Outcome) {c : Cursor} {q : Reached} → readOf row xs ≡ numbersOf text n from
-      → n ≡ s .dataset .n → row ≡ Many.Read c → y ≡ narrowed x → ys ≡ xs → verdictOf (o .answer) ≡ enterAnswer s y ys
+      → n ≡ s .dataset .n → row ≡ RowCase.Read c → y ≡ narrowed x → ys ≡ xs → verdictOf (o .answer) ≡ enterAnswer s y ys
       → stateOf (o .dataset) d g ≡ enterLeaves s y ys → q ≡ afterCall o c → Reaches text q d g (entered (tideOf text (contentsOf s) x from))
   unfolding tideOf
   tide-goes {row} xs {y} {ys} {d} {g} o {c} {q} e f h i j v l k =

@@ -13,11 +13,11 @@ use Rattle.dataset.specs.Accepted.{Passed}
 use Rattle.dataset.proofs.AnswerLaws.{held-own}
 use Rattle.file_format.specs.File.{fileOf}
 use Rattle.study_file.specs.declared.Written.{Written}
-use Rattle.study_file.specs.declared.Written.the-variants as Writes
+use Rattle.study_file.specs.declared.Written.the-variants as WrittenCase
 use Rattle.study_file.specs.Answers.{writtenOf, writeReasons, writeAnswer, writeReply, writeLeaves}
 use Rattle.study_text.specs.declared.Packed.{Packed}
-use Rattle.study_text.specs.declared.Packed.the-variants as Says
-use Rattle.study_text.specs.declared.calls.Over.the-variants as Last
+use Rattle.study_text.specs.declared.Packed.the-variants as PackedCase
+use Rattle.study_text.specs.declared.calls.Over.the-variants as OverCase
 use Rattle.study_text.specs.declared.calls.Finished.{Finished}
 use Rattle.study_text.specs.Words.{newlines}
 use Rattle.study_text.specs.Packing.{Report, done, refusedAt, tooLong, reportOf, ended, textOf, answered, written, packAnswer, packLeaves}
@@ -27,15 +27,15 @@ use Rattle.study_text.specs.Reached.{overIs, finishedOf, Live, Finishes}
 
 -- what Write's reply says of a text that ends on line l
 abbrev pub packedBy : ℕ → Written → Packed
-packedBy l (Writes.Done n) = Says.Done n
-packedBy l (Writes.Refused r) = Says.Refused l r
+packedBy l (WrittenCase.Done n) = PackedCase.Done n
+packedBy l (WrittenCase.Refused r) = PackedCase.Refused l r
 
 told-written : (w : Written) (l : ℕ) (t : Bool) (n : ℕ) → writtenOf w ≡ cond t (refusal (number 1)) (value n)
     → reportOf (packedBy l w) ≡ cond t (refusedAt l (number 1)) (done n)
-told-written (Writes.Done m) l true n e = absurd (let z : _≡_ {A = ℕ} 0 1 = cc in omega arith)
-told-written (Writes.Done m) l false n e = cc
-told-written (Writes.Refused r) l true n e = let h : numbered r ≡ number 1 = cc in ap (refusedAt l) h
-told-written (Writes.Refused r) l false n e = absurd (let z : _≡_ {A = ℕ} 0 1 = cc in omega arith)
+told-written (WrittenCase.Done m) l true n e = absurd (let z : _≡_ {A = ℕ} 0 1 = cc in omega arith)
+told-written (WrittenCase.Done m) l false n e = cc
+told-written (WrittenCase.Refused r) l true n e = let h : numbered r ≡ number 1 = cc in ap (refusedAt l) h
+told-written (WrittenCase.Refused r) l false n e = absurd (let z : _≡_ {A = ℕ} 0 1 = cc in omega arith)
 
 module _ {s : State} (P : Passed s) where
   write-verdict : (room : ℕ) → writeAnswer s room ≡ cond (ltb room (length (fileOf (contentsOf s)))) (refused (number 1)) accepted
@@ -64,7 +64,7 @@ module _ {s : State} (P : Passed s) where
       by true = refl
       by false = refl
 
-module _ {end : Finished} {d s : List ℕ} {l : ℕ} (L : Live end d s) (e : end .over ≡ Last.End l) where
+module _ {end : Finished} {d s : List ℕ} {l : ℕ} (L : Live end d s) (e : end .over ≡ OverCase.End l) where
   finished-ended : ended (contentsOf (stateOf (end .dataset) d s)) l ≡ finishedOf end d s
   finished-ended = sym (ap (λ o. overIs o (contentsOf (stateOf (end .dataset) d s))) e)
 

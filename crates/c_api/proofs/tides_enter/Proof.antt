@@ -21,8 +21,8 @@ returns-2 c =
     let settled = c .before .before in
     let called = settled .before .before .before .before .before .before in
     let got = called .before .before .before .before in
-    enter-left (record { room = got .before .before .if1 .left; held = got .dataset-of .ensures; settles = settled .settle .ensures }) _ _ (called .before .narrow .ensures)
-    (called .enter .ensures)
+    enter-left (record { room = got .before .before .if1 .left; held = got .dataset-of .ensures; settles = settled .settle .ensures }) _ _
+    (called .before .narrow .ensures) (called .enter .ensures)
 
 pub tides-enter-spec : {M : Type 1} → statement M
 tides-enter-spec =

@@ -21,8 +21,8 @@ returns-2 c =
     let settled = c .before .before in
     let called = settled .before .before .before .before .before .before in
     let got = called .before .before .before .before in
-    open-left (record { room = got .before .before .if1 .left; held = got .dataset-of .ensures; settles = settled .settle .ensures }) _ (called .before .narrow .ensures)
-    (called .«open» .ensures)
+    open-left (record { room = got .before .before .if1 .left; held = got .dataset-of .ensures; settles = settled .settle .ensures }) _
+    (called .before .narrow .ensures) (called .«open» .ensures)
 
 pub tides-open-spec : {M : Type 1} → statement M
 tides-open-spec =

@@ -10,14 +10,14 @@ put-bytes-requires : tie.Need-put-bytes-requires
 put-bytes-requires c κs =
     let entry = c .before .before .before .before .before .before .before .before in
     let e : length (entry .args .rows .centres) ≡ 120 = search needs in
-    (omega (arith, e, entry .pre .0), entry .pre .1)
+    (omega (arith, e, entry .pre .few), entry .pre .in-centres)
 
 put-bytes-requires-2 : tie.Need-put-bytes-requires-2
 put-bytes-requires-2 c κs =
     let first = c .before .before .before .before .before in
     let entry = first .before .before .before .before .before .before .before .before in
     let e : length (entry .args .rows .tides) ≡ 120 = search needs in
-    (omega (arith, e, entry .pre .0), entry .pre .2)
+    (omega (arith, e, entry .pre .few), entry .pre .in-sizes)
 
 put-numbers-requires : tie.Need-put-numbers-requires
 put-numbers-requires c κs =
@@ -25,7 +25,7 @@ put-numbers-requires c κs =
     let first = second .before .before .before .before .before in
     let entry = first .before .before .before .before .before .before .before .before in
     let e : length (entry .args .rows .diameters) ≡ 120 = search needs in
-    (omega (arith, e, entry .pre .0), entry .pre .3)
+    (omega (arith, e, entry .pre .few), entry .pre .in-diameters)
 
 pub put-columns-spec : {M : Type 1} → statement M
 put-columns-spec =

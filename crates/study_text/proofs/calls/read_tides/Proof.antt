@@ -1,4 +1,5 @@
--- `read_tides` meets its contract: the loop's invariant: after as many turns as tides are held, the text stands at this place. Assumes nothing.
+-- `read_tides` meets its contract. The loop's invariant: after as many turns as tides are held, the text stands at this place; 121 less the
+-- tides held falls. Assumes nothing.
 use borrow.Author.Needs.{needs}
 use native.Mathlib.Omega.{arith}
 use mathlib.Core.Path.{_≡_, refl}

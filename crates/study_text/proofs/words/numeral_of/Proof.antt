@@ -1,4 +1,5 @@
--- `numeral_of` meets its contract: the loop's invariant: the digits to come, after the value so far, give the word's number up to the cap. Assumes nothing.
+-- `numeral_of` meets its contract. The loop's invariant: the digits to come, after the value so far, give the word's number up to the cap;
+-- length - i falls. Assumes nothing.
 use borrow.Author.Needs.{needs}
 use native.Mathlib.Omega.{arith}
 use Rattle.lists.proofs.Scans.{test-passes, test-fails}
@@ -6,8 +7,7 @@ use Rattle.lists.specs.Lists.{allOf}
 use lib.ListN.{length, drop, getD}
 use mathlib.Core.Path.{_≡_, refl}
 use Prim.Native.Nat.{_-_, _≤_}
-use Rattle.study_text.specs.Words.{digit, withDigit, valueFrom}
-use Rattle.study_text.specs.Words.{capped}
+use Rattle.study_text.specs.Words.{digit, withDigit, valueFrom, capped}
 use Rattle.study_text.proofs.WordLaws.{capped-most, digit-low, digits-more, value-more, numeral-bad, numeral-number, numeral-large}
 use Rattle.study_text.proofs.words.numeral_of.Statement.{statement}
 use Rattle.study_text.proofs.words.numeral_of.Tie as tie
@@ -19,9 +19,6 @@ Inv-loop word value₀ i₀ value i =
 
 abbrev μ-loop : tie.MeasureT-loop
 μ-loop word value₀ i₀ value i = length word - i
-
-loop-holds : tie.Need-loop-holds Inv-loop μ-loop
-loop-holds c = (omega arith, omega arith, refl, refl)
 
 returns : tie.Need-returns Inv-loop μ-loop
 returns c =
@@ -67,7 +64,7 @@ numeral-of-spec =
     (tie.spec
     Inv-loop
     μ-loop
-    loop-holds
+    (λ c. (omega arith, omega arith, refl, refl))
     (λ c. omega arith)
     (λ c κs. search needs)
     returns

@@ -1,4 +1,5 @@
--- `skip` meets its contract: the loop's invariant: from here the next word begins where it begins from the start. Assumes nothing.
+-- `skip` meets its contract. The loop's invariant: from here the next word begins where it begins from the start; length - at falls.
+-- Assumes nothing.
 use borrow.Author.Needs.{needs}
 use native.Mathlib.Omega.{arith}
 use lib.ListN.{length, drop, getD}
@@ -16,9 +17,6 @@ Inv-loop text at₀ line₀ comment₀ at line comment =
 
 abbrev μ-loop : tie.MeasureT-loop
 μ-loop text at₀ line₀ comment₀ at line comment = length text - at
-
-loop-holds : tie.Need-loop-holds Inv-loop μ-loop
-loop-holds c = let w = c .before .pre in (w .inside, w .line-low, w .short, refl)
 
 returns : tie.Need-returns Inv-loop μ-loop
 returns c =
@@ -56,7 +54,7 @@ skip-spec =
     (tie.spec
     Inv-loop
     μ-loop
-    loop-holds
+    (λ c. let w = c .before .pre in (w .inside, w .line-low, w .short, refl))
     (λ c. omega arith)
     (λ c κs. search needs)
     returns

@@ -1,4 +1,4 @@
--- `whole_lines` meets its contract: the loop's invariant: the lines counted and those to come are all. Assumes nothing.
+-- `whole_lines` meets its contract. The loop's invariant: the lines counted and those to come are all; length - i falls. Assumes nothing.
 use borrow.Author.Needs.{needs}
 use native.Mathlib.Omega.{arith}
 use lib.ListN.{length, drop, getD}
@@ -14,9 +14,6 @@ Inv-loop text lines₀ i₀ lines i = (i ≤ length text) × (lines ≤ i) × (l
 
 abbrev μ-loop : tie.MeasureT-loop
 μ-loop text lines₀ i₀ lines i = length text - i
-
-loop-holds : tie.Need-loop-holds Inv-loop μ-loop
-loop-holds c = (omega arith, omega arith, omega arith)
 
 add-lines : tie.Need-add-lines Inv-loop μ-loop
 add-lines c = omega (arith, newline-small (getD (c .before .before .before .before .before .args .text .now) (c .before .before .before .loop .i) 0))
@@ -40,7 +37,7 @@ whole-lines-spec =
     (tie.spec
     Inv-loop
     μ-loop
-    loop-holds
+    (λ c. (omega arith, omega arith, omega arith))
     (λ c. omega arith)
     (λ c κs. search needs)
     add-lines

@@ -1,4 +1,5 @@
--- `word_end` meets its contract: the loop's invariant: what is passed and what is left of the word make it up. Assumes nothing.
+-- `word_end` meets its contract. The loop's invariant: what is passed and what is left of the word make it up; length - end falls.
+-- Assumes nothing.
 use borrow.Author.Needs.{needs}
 use native.Mathlib.Omega.{arith}
 use lib.ListN.{length, drop}
@@ -14,9 +15,6 @@ Inv-loop text at end₀ end = (end ≤ length text) × (at ≤ end) × (end + le
 
 abbrev μ-loop : tie.MeasureT-loop
 μ-loop text at end₀ end = length text - end
-
-loop-holds : tie.Need-loop-holds Inv-loop μ-loop
-loop-holds c = (c .before .pre, omega arith, refl)
 
 returns : tie.Need-returns Inv-loop μ-loop
 returns c =
@@ -39,7 +37,7 @@ word-end-spec =
     (tie.spec
     Inv-loop
     μ-loop
-    loop-holds
+    (λ c. (c .before .pre, omega arith, refl))
     (λ c. omega arith)
     (λ c κs. search needs)
     returns
