@@ -29,7 +29,7 @@ use Rattle.dataset.specs.Answers.{enterAnswer, enterLeaves, withdrawAnswer, wit
 use Rattle.validity.proofs.Proofs.{for-datasets}
 use Rattle.dataset.proofs.AnswerLaws.{fresh-own, accepted-held}
 use Rattle.narrowing.specs.Narrowing.{narrowed, narrowDataset}
-use Rattle.narrowing.proofs.Proofs.{unchanged}
+use Rattle.narrowing.proofs.Proofs.{unchanged, as-given}
 use Rattle.study_file.specs.Answers.{readAnswer, readLeaves}
 use Rattle.c_api.specs.Api.{Lent, lent, minimaAt, datasetOf, numbersOf, stateIn, code, roomFirst, lacks, over, left}
 use Rattle.c_api.specs.Api.{openVerdict, openLeft, minimaVerdict, minimaLeft, enterVerdict, enterLeft}
@@ -160,11 +160,6 @@ pub left-too-short : (l : Lent) {tooShort : Bool} (v : Verdict) (s : State) → 
     → (1 ≡ code (roomFirst tooShort v)) × (l ≡ left l (roomFirst tooShort v) s)
 unfolding roomFirst left
 left-too-short l v s e = (rw e, rw e)
-
--- what a call did that took y: nothing else than with x, where it does the same with z, which y is
-as-given : {A : Type 0} (answer : A → Verdict) (leaves : A → State) {w : Verdict} {t : State} {x y z : A} → y ≡ z
-    → (answer z ≡ answer x) × (leaves z ≡ leaves x) → (w ≡ answer y) × (t ≡ leaves y) → (w ≡ answer x) × (t ≡ leaves x)
-as-given answer leaves e same did = (did .0 ∙ ap answer e ∙ same .0, did .1 ∙ ap leaves e ∙ same .1)
 
 -- a call got the record in l as o and made r of it; its verdict w gave the code c and the numbers m
 pub record Stored (l : Lent) (o r : Dataset) (w : Verdict) (c : ℕ) (m : List ℕ) : Type 0 where

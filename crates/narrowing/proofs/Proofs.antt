@@ -174,3 +174,10 @@ unchanged s =
           (λ H ok a. ap (λ x. withdrawing x H) (between-uncut (size (H .study)) t (omega (arith, ok .study .few)) (none-holds (withdrawReasons H t) a .0)));
       on-record = record-same s;
     }
+
+-- ---- for the callers
+
+-- a call that took y did what it does with x, where y is z, and z does what x does
+pub as-given : {A : Type 0} (answer : A → Verdict) (leaves : A → State) {w : Verdict} {t : State} {x y z : A} → y ≡ z
+    → (answer z ≡ answer x) × (leaves z ≡ leaves x) → (w ≡ answer y) × (t ≡ leaves y) → (w ≡ answer x) × (t ≡ leaves x)
+as-given answer leaves e same did = (did .0 ∙ ap answer e ∙ same .0, did .1 ∙ ap leaves e ∙ same .1)

@@ -7,6 +7,7 @@ use study::refusals::number_of;
 use study_text::Packed;
 use study_text::pack;
 
+// A line of the text, and what is wrong there.
 fn say(line: usize, words: &[u8]) {
     io::write_all(STDERR_FILENO, b"line ");
     io::print_decimal(STDERR_FILENO, line as u64);

@@ -68,14 +68,20 @@ module _ {end : Finished} {d s : List ℕ} {l : ℕ} (L : Live end d s) (e : end
   finished-ended : ended (contentsOf (stateOf (end .dataset) d s)) l ≡ finishedOf end d s
   finished-ended = sym (ap (λ o. overIs o (contentsOf (stateOf (end .dataset) d s))) e)
 
-  pub write-told : (w : Written) {p : Packed} (room : ℕ) → writtenOf w ≡ writeReply (stateOf (end .dataset) d s) room → p ≡ packedBy l w
+  write-told : (w : Written) {p : Packed} (room : ℕ) → writtenOf w ≡ writeReply (stateOf (end .dataset) d s) room → p ≡ packedBy l w
       → reportOf p ≡ answered (finishedOf end d s) room
   write-told w room f h =
       let n = length (fileOf (contentsOf (stateOf (end .dataset) d s))) in
       ap reportOf h ∙ told-written w l (ltb room n) n (f ∙ write-reply (L l e) room) ∙ ap (λ t. answered t room) finished-ended
 
-  pub write-left : {new : List ℕ} (bytes : List ℕ) → new ≡ writeLeaves (stateOf (end .dataset) d s) bytes → new ≡ written (finishedOf end d s) bytes
+  write-left : {new : List ℕ} (bytes : List ℕ) → new ≡ writeLeaves (stateOf (end .dataset) d s) bytes → new ≡ written (finishedOf end d s) bytes
   write-left bytes f = f ∙ write-leaves (L l e) bytes ∙ ap (λ t. written t bytes) finished-ended
+
+  -- the report and the bytes of a text that came to its end
+  pub write-ends : (w : Written) {v : Written} {p : Packed} {new : List ℕ} (room : ℕ) (bytes : List ℕ) → w ≡ v → p ≡ packedBy l v
+      → (writtenOf w ≡ writeReply (stateOf (end .dataset) d s) room) × (new ≡ writeLeaves (stateOf (end .dataset) d s) bytes)
+      → (reportOf p ≡ answered (finishedOf end d s) room) × (new ≡ written (finishedOf end d s) bytes)
+  write-ends w room bytes e h did = (write-told w room (did .0) (h ∙ ap (packedBy l) (sym e)), write-left bytes (did .1))
 
 -- ---- the answer
 

@@ -16,15 +16,15 @@ abbrev μ-loop : tie.MeasureT-loop
 
 returns : tie.Need-returns Inv-loop μ-loop
 returns c =
-    let k = c .before .before .before .before .before in
-    row-stops _ (k .loop .inv .2) (c .before .before .before .number .ensures) (c .before .given .given .1) (omega arith)
+    let at-loop = c .before .before .before .before .before in
+    row-stops _ (at-loop .loop .inv .2) (c .before .before .before .number .ensures) (c .before .given .given .1) (omega arith)
 
 loop-again : tie.Need-loop-again Inv-loop μ-loop
 loop-again c =
-    let k = c .before .before .before .before .before in (
+    let at-loop = c .before .before .before .before .before in (
       simp length-set (omega arith),
-      simp length-set (k .loop .inv .1),
-      row-more (k .loop .inv .2) (c .before .before .before .number .ensures)
+      simp length-set (at-loop .loop .inv .1),
+      row-more (at-loop .loop .inv .2) (c .before .before .before .number .ensures)
           (c .before .given2 .given .1) (omega arith),
     )
 

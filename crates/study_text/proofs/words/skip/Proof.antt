@@ -20,27 +20,28 @@ abbrev μ-loop : tie.MeasureT-loop
 
 returns : tie.Need-returns Inv-loop μ-loop
 returns c =
-    let k = c .before .before .before .before in
-    start-here (k .before .before .args .text .now) (k .loop .comment) (k .loop .at) (k .loop .line) (c .before .before .before .loop-test .taken)
-    (sym (c .before .begins .ensures) ∙ c .if1 .taken) (k .loop .inv .3)
+    let at-loop = c .before .before .before .before in
+    let turn = at-loop .loop in
+    start-here (at-loop .before .before .args .text .now) (turn .comment) (turn .at) (turn .line) (c .before .before .before .loop-test .taken)
+    (sym (c .before .begins .ensures) ∙ c .if1 .taken) (turn .inv .3)
 
 add-line : tie.Need-add-line Inv-loop μ-loop
 add-line c =
-    let k = c .before .before .before .before .before .before in
-    omega (arith, newline-small (getD (k .before .before .args .text .now) (k .loop .at) 0))
+    let at-loop = c .before .before .before .before .before .before in
+    omega (arith, newline-small (getD (at-loop .before .before .args .text .now) (at-loop .loop .at) 0))
 
 loop-again : tie.Need-loop-again Inv-loop μ-loop
 loop-again c =
-    let k = c .before .before .before .before .before in
-    let h = k .before in
-    let start = h .before .before in
-    let small = newline-small (getD (start .args .text .now) (h .loop .at) 0) in (
+    let at-test = c .before .before .before .before .before in
+    let at-loop = at-test .before in
+    let entry = at-loop .before .before in
+    let small = newline-small (getD (entry .args .text .now) (at-loop .loop .at) 0) in (
       omega arith,
       omega arith,
-      h .loop .inv .2,
-      start-goes (start .args .text .now) (h .loop .comment) (h .loop .at) (h .loop .line)
-          (k .loop-test .taken) (sym (c .before .before .before .begins .ensures) ∙ c .before .before .if1 .left) (c .before .comment-after .ensures)
-          (c .newline .ensures) (h .loop .inv .3),
+      at-loop .loop .inv .2,
+      start-goes (entry .args .text .now) (at-loop .loop .comment) (at-loop .loop .at) (at-loop .loop .line)
+          (at-test .loop-test .taken) (sym (c .before .before .before .begins .ensures) ∙ c .before .before .if1 .left)
+          (c .before .comment-after .ensures) (c .newline .ensures) (at-loop .loop .inv .3),
     )
 
 returns-2 : tie.Need-returns-2 Inv-loop μ-loop

@@ -20,12 +20,12 @@ add-lines c = omega (arith, newline-small (getD (c .before .before .before .befo
 
 loop-again : tie.Need-loop-again Inv-loop μ-loop
 loop-again c =
-    let k = c .before .before .before in
-    let start = k .before .before in (
+    let at-loop = c .before .before .before in
+    let entry = at-loop .before .before in (
       omega arith,
-      omega (arith, newline-small (getD (start .args .text .now) (k .loop .i) 0)),
-      lines-more (start .args .text .now) (k .loop .lines)
-          (k .loop .i) (c .before .before .loop-test .taken) (c .newline .ensures) (k .loop .inv .2),
+      omega (arith, newline-small (getD (entry .args .text .now) (at-loop .loop .i) 0)),
+      lines-more (entry .args .text .now) (at-loop .loop .lines)
+          (at-loop .loop .i) (c .before .before .loop-test .taken) (c .newline .ensures) (at-loop .loop .inv .2),
     )
 
 returns : tie.Need-returns Inv-loop μ-loop

@@ -18,14 +18,14 @@ abbrev μ-loop : tie.MeasureT-loop
 
 returns : tie.Need-returns Inv-loop μ-loop
 returns c =
-    let k = c .before .before .before .before in
-    let w = word-ends (k .before .before .args .text .now) (k .loop .end) (c .before .before .before .loop-test .taken)
+    let at-loop = c .before .before .before .before in
+    let w = word-ends (at-loop .before .before .args .text .now) (at-loop .loop .end) (c .before .before .before .loop-test .taken)
     (sym (c .before .ends-word .ensures) ∙ c .if1 .taken) in (omega arith, omega arith)
 
 loop-again : tie.Need-loop-again Inv-loop μ-loop
 loop-again c =
-    let k = c .before .before .before .before in
-    let w = word-more (k .before .before .args .text .now) (k .loop .end) (c .before .before .before .loop-test .taken)
+    let at-loop = c .before .before .before .before in
+    let w = word-more (at-loop .before .before .args .text .now) (at-loop .loop .end) (c .before .before .before .loop-test .taken)
     (sym (c .before .ends-word .ensures) ∙ c .if1 .left) in (omega arith, omega arith, omega arith)
 
 returns-2 : tie.Need-returns-2 Inv-loop μ-loop
