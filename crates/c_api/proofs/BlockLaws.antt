@@ -13,7 +13,7 @@ use Rattle.study.specs.declared.Refusal.{Refusal}
 use Rattle.study.specs.declared.Dataset.{Dataset}
 use Rattle.study.specs.declared.BlockRecord.{BlockRecord}
 use Rattle.study.specs.declared.Blocked.{Blocked}
-use Rattle.study.specs.declared.Blocked.the-variants as Blocks
+use Rattle.study.specs.declared.Blocked.the-variants as BlockedCase
 use Rattle.study.specs.Problem.{blocking}
 use Rattle.study.specs.Study.{Study, Contents, size, sufficient, problem}
 use Rattle.study.specs.Refusals.{numbered, Verdict, accepted, refused, settled, Reason}
@@ -29,10 +29,11 @@ use Rattle.blocking.specs.Rows.{rowAt, noRecord, RowsOf}
 use Rattle.guarantee.specs.Runs.{figureNumbers}
 use Rattle.c_api.specs.Api.{Lent, code, over, output, Places, places, recordRoom, blockVerdict, column, blockLeft}
 use Rattle.c_api.proofs.RecordLaws.{withRecord, front-written}
-use Rattle.c_api.specs.Records.{Narrow}
+use Rattle.c_api.specs.Records.{Narrow, ColumnRoom}
 use Rattle.c_api.proofs.CodeLaws.{small, held-narrow}
 use Rattle.c_api.proofs.CallLaws.{lacks-one}
-use Rattle.c_api.proofs.OutputLaws.{reply-refused, reply-value, output-as, code-too-short, output-too-short, Reads, code-own, output-own}
+use Rattle.c_api.proofs.OutputLaws.{reply-refused, reply-value, output-refused, output-done, code-too-short, output-too-short}
+use Rattle.c_api.proofs.OutputLaws.{Reads, code-own, output-own}
 
 -- ---- the list
 
@@ -49,7 +50,7 @@ module _ (s : State) (list : List ℕ) (room : ℕ) where
       for-problem (problem S) (for-study S ok .lawful) .canonical (not-not (sufficient S (λ t. true)) (w .1 .0)) .assignment .long
 
   pub list-output : blockList s list room ≡ output (blockAnswer s (length list) room) (blocking (problem S)) list
-  unfolding blockList output over
+  unfolding blockList output
   list-output = by (blockAnswer s (length list) room) blocking-long
     where
       by : (v : Verdict) → (v ≡ accepted → length (blocking (problem S)) ≡ size S)
@@ -95,7 +96,7 @@ module _ {s : State} {list room : ℕ} {rows : BlockRows} (R : RowsOf s list roo
   blocks-few = ⊎-elim (λ h. absurd (let k = in-row (rows .count) h .0 in omega arith)) (λ h. h) (split (rows .count) (figures T .blocks))
 
   column-is : (f : BlockRecord → ℕ) (old : List ℕ) → overwrite (figures T .blocks) (λ i. f (rowAt rows i)) old ≡ over (column f T) old
-  unfolding column over overwrite
+  unfolding column overwrite
   column-is f old =
       let n = figures T .blocks in
       let g : ℕ → ℕ = λ i. f (blockRecord T i) in
@@ -105,15 +106,15 @@ module _ {s : State} {list room : ℕ} {rows : BlockRows} (R : RowsOf s list roo
 -- ---- the reply
 
 module _ (s : State) (list room : ℕ) (a : Blocked) (p : blockedOf a ≡ blockReply s list room) where
-  block-why : {why : Refusal} → a ≡ Blocks.Refused why → blockAnswer s list room ≡ refused (numbered why)
+  block-why : {why : Refusal} → a ≡ BlockedCase.Refused why → blockAnswer s list room ≡ refused (numbered why)
   unfolding blockReply
   block-why e = reply-refused (blockAnswer s list room) (figures (studyOf s)) (sym (ap blockedOf e) ∙ p)
 
-  pub block-narrow : {why : Refusal} → a ≡ Blocks.Refused why → Narrow (refused (numbered why))
+  pub block-narrow : {why : Refusal} → a ≡ BlockedCase.Refused why → Narrow (refused (numbered why))
   unfolding blockAnswer blockReasons
   block-narrow e = subst Narrow (block-why e) (held-narrow s (λ H. blockReasons (H .study) list room) (λ _. (small tt, (small tt, (small tt, tt)))))
 
-  module _ {b r w : ℕ} (e : a ≡ Blocks.Done b r w) where
+  module _ {b r w : ℕ} (e : a ≡ BlockedCase.Done b r w) where
     abbrev given : Figures
     given = record { blocks = b; radius = r; widest = w }
 
@@ -128,10 +129,10 @@ module _ (s : State) (list room : ℕ) (a : Blocked) (p : blockedOf a ≡ blockR
       pub blocks-small : b ≤ 120
       blocks-small = omega (arith, blocks-few R (block-value .0), blocks-are, R .few)
 
-      pub columns-fit : (x y z : ℕ) → room ≡ min x (min y z) → (b ≤ 120) × (b ≤ x) × (b ≤ y) × (b ≤ z)
+      pub columns-fit : (x y z : List ℕ) → room ≡ min (length x) (min (length y) (length z)) → ColumnRoom b x y z
       columns-fit x y z m =
-          let fits : b ≤ min x (min y z) = omega (arith, blocks-few R (block-value .0), blocks-are, R .fits) in
-          (blocks-small, omega arith, omega arith, omega arith)
+          let fits : b ≤ min (length x) (min (length y) (length z)) = omega (arith, blocks-few R (block-value .0), blocks-are, R .fits) in
+          record { few = blocks-small; in-centres = omega arith; in-sizes = omega arith; in-diameters = omega arith }
 
       written-column : (f : BlockRecord → ℕ) {new : List ℕ} (old : List ℕ) → new ≡ overwrite b (λ i. f (rowAt rows i)) old
           → new ≡ over (column f (studyOf s)) old
@@ -152,8 +153,8 @@ module _ (l : Lent) (p : Places) where
   block-too-short h =
       let e = lacks-one (l .numbers) (p .result) h in (
         code-too-short _ e,
-        places-are (output-too-short _ e _ (p .list)) (output-too-short _ e _ (p .centres)) (output-too-short _ e _ (p .sizes)) (output-too-short _ e _ (p .diameters))
-            (output-too-short _ e _ (p .result)),
+        places-are (output-too-short _ e _ (p .list)) (output-too-short _ e _ (p .centres)) (output-too-short _ e _ (p .sizes))
+            (output-too-short _ e _ (p .diameters)) (output-too-short _ e _ (p .result)),
       )
 
   abbrev own : Contents → List Reason
@@ -178,23 +179,23 @@ module _ (l : Lent) (p : Places) where
     unfolding blockLeft blockVerdict blockAnswer contentsOf
     listed = output-own R own (λ H. blocking (problem (H .study))) (p .list) (t ∙ ap (blockList s (p .list)) m ∙ list-output s (p .list) (recordRoom p))
 
-    pub block-refused : {why : Refusal} {c : ℕ} → a ≡ Blocks.Refused why → c ≡ code (refused (numbered why))
+    pub block-refused : {why : Refusal} {c : ℕ} → a ≡ BlockedCase.Refused why → c ≡ code (refused (numbered why))
         → (c ≡ code (blockVerdict l p)) × (places new (p .centres) (p .sizes) (p .diameters) (p .result) ≡ blockLeft l p)
-    unfolding blockVerdict blockLeft blockAnswer output contentsOf
+    unfolding blockVerdict blockLeft blockAnswer contentsOf
     block-refused e f =
         let y = block-why s (length (p .list)) (recordRoom p) a reply e in (
           f ∙ code-own R own y,
-          places-are listed (output-own R own (columns (λ x. x .centre)) (p .centres) (output-as _ (p .centres) y refl))
-              (output-own R own (columns (λ x. x .tides)) (p .sizes) (output-as _ (p .sizes) y refl))
-              (output-own R own (columns (λ x. x .diameter)) (p .diameters) (output-as _ (p .diameters) y refl))
-              (output-own R own numbers (p .result) (output-as _ (p .result) y refl)),
+          places-are listed (output-own R own (columns (λ x. x .centre)) (p .centres) (output-refused _ (p .centres) y))
+              (output-own R own (columns (λ x. x .tides)) (p .sizes) (output-refused _ (p .sizes) y))
+              (output-own R own (columns (λ x. x .diameter)) (p .diameters) (output-refused _ (p .diameters) y))
+              (output-own R own numbers (p .result) (output-refused _ (p .result) y)),
         )
 
-    pub block-done : {b g w : ℕ} {rows : BlockRows} {c z d f : List ℕ} → a ≡ Blocks.Done b g w → RowsOf s (length (p .list)) room rows
+    pub block-done : {b g w : ℕ} {rows : BlockRows} {c z d f : List ℕ} → a ≡ BlockedCase.Done b g w → RowsOf s (length (p .list)) room rows
         → c ≡ overwrite b (λ i. getD (rows .centres) i 0) (p .centres) → z ≡ overwrite b (λ i. getD (rows .tides) i 0) (p .sizes)
         → d ≡ overwrite b (λ i. getD (rows .diameters) i 0) (p .diameters) → f ≡ overwrite 3 (λ i. getD (b ∷ g ∷ w ∷ []) i 0) (p .result)
         → (0 ≡ code (blockVerdict l p)) × (places new c z d f ≡ blockLeft l p)
-    unfolding blockVerdict blockLeft blockAnswer output contentsOf
+    unfolding blockVerdict blockLeft blockAnswer contentsOf
     block-done {b} {g} {w} {rows} e W ec ez ed ef =
         let n = length (p .list) in
         let y = block-value s n (recordRoom p) a reply e .0 in
@@ -204,8 +205,8 @@ module _ (l : Lent) (p : Places) where
         let wd = written-column s n (recordRoom p) a reply e Rows (λ x. x .diameter) (p .diameters) ed in
         let wf = written-figures s n (recordRoom p) a reply e (p .result) ef in (
           code-own R own y,
-          places-are listed (output-own R own (columns (λ x. x .centre)) (p .centres) (output-as _ (p .centres) y wc))
-              (output-own R own (columns (λ x. x .tides)) (p .sizes) (output-as _ (p .sizes) y wz))
-              (output-own R own (columns (λ x. x .diameter)) (p .diameters) (output-as _ (p .diameters) y wd))
-              (output-own R own numbers (p .result) (output-as _ (p .result) y wf)),
+          places-are listed (output-own R own (columns (λ x. x .centre)) (p .centres) (output-done _ (p .centres) y wc))
+              (output-own R own (columns (λ x. x .tides)) (p .sizes) (output-done _ (p .sizes) y wz))
+              (output-own R own (columns (λ x. x .diameter)) (p .diameters) (output-done _ (p .diameters) y wd))
+              (output-own R own numbers (p .result) (output-done _ (p .result) y wf)),
         )

@@ -24,13 +24,16 @@ use Rattle.file_format.proofs.Proofs.{files}
 use Rattle.file_format.proofs.BitLaws.{bitsAt-small}
 use Rattle.file_format.proofs.DecodedLaws.{decoded-size}
 use Rattle.validity.specs.Memory.{State, stateOf, short, isDataset, contentsOf, recordOf, stored}
-use Rattle.dataset.specs.Answers.{freshAnswer, freshLeaves, heldAnswer, heldLeaves, openAnswer, openLeaves, minimaAnswer, minimaLeaves, enterAnswer, enterLeaves, withdrawAnswer, withdrawLeaves}
+use Rattle.dataset.specs.Answers.{freshAnswer, freshLeaves, heldAnswer, heldLeaves, openAnswer, openLeaves, minimaAnswer, minimaLeaves}
+use Rattle.dataset.specs.Answers.{enterAnswer, enterLeaves, withdrawAnswer, withdrawLeaves}
 use Rattle.validity.proofs.Proofs.{for-datasets}
 use Rattle.dataset.proofs.AnswerLaws.{fresh-own, accepted-held}
 use Rattle.narrowing.specs.Narrowing.{narrowed, narrowDataset}
-use Rattle.narrowing.proofs.Proofs.{unchanged}
+use Rattle.narrowing.proofs.Proofs.{unchanged, as-given}
 use Rattle.study_file.specs.Answers.{readAnswer, readLeaves}
-use Rattle.c_api.specs.Api.{Lent, lent, minimaAt, datasetOf, numbersOf, stateIn, code, roomFirst, lacks, over, left, openVerdict, openLeft, minimaVerdict, minimaLeft, enterVerdict, enterLeft, withdrawVerdict, withdrawLeft, readVerdict, readLeft}
+use Rattle.c_api.specs.Api.{Lent, lent, minimaAt, datasetOf, numbersOf, stateIn, code, roomFirst, lacks, over, left}
+use Rattle.c_api.specs.Api.{openVerdict, openLeft, minimaVerdict, minimaLeft, enterVerdict, enterLeft}
+use Rattle.c_api.specs.Api.{withdrawVerdict, withdrawLeft, readVerdict, readLeft}
 use Rattle.c_api.specs.Records.{Narrow, Storable}
 use Rattle.c_api.proofs.RecordLaws.{withRecord, read-back}
 use Rattle.c_api.proofs.CodeLaws.{AllNarrow, small, first-narrow, append-narrow, runs-narrow, pair-narrow, fresh-narrow, held-narrow}
@@ -119,10 +122,12 @@ module _ (s : State) where
           (small tt, (small tt, (small tt, (small tt, (small tt, (small tt, (small tt, tt)))))))
           (runs-narrow (tideReasons S) 0 (size S) (λ t l. (small tt, (pair-narrow _ _ _ (omega (arith, decoded-size file, bitsAt-small file 8 7)), tt))))
 
-pub storable : {numbers : List ℕ} {v w : Verdict} {H : Contents} {r : Dataset} {d g : List ℕ} (s : State) → Sound v H → 12 ≤ length numbers → w ≡ v
-    → stateOf r d g ≡ settled v (stored H s) s → Storable numbers w r
+-- the record that it made, by its contract, can be written
+pub storable : {numbers : List ℕ} {v w : Verdict} {H : Contents} {r : Dataset} {d g : List ℕ} (s : State) → Sound v H → 12 ≤ length numbers
+    → (w ≡ v) × (stateOf r d g ≡ settled v (stored H s) s) → Storable numbers w r
 unfolding stored recordOf
-storable {numbers} {v} {w} {H} {r} {d} {g} s S room e f = record { room = room; narrow = subst Narrow (sym e) (S .narrow); few = λ q. few (sym e ∙ q) }
+storable {numbers} {v} {w} {H} {r} {d} {g} s S room (e, f) =
+    record { room = room; narrow = subst Narrow (sym e) (S .narrow); few = λ q. few (sym e ∙ q) }
   where
     few : v ≡ accepted → r .n < 65536
     few q =
@@ -151,7 +156,8 @@ module _ (l : Lent) {r : Dataset} (e : r ≡ narrowDataset (datasetOf (l .number
 -- ---- what stands afterwards
 
 -- a list of fixed size is too short
-pub left-too-short : (l : Lent) {tooShort : Bool} (v : Verdict) (s : State) → tooShort ≡ true → (1 ≡ code (roomFirst tooShort v)) × (l ≡ left l (roomFirst tooShort v) s)
+pub left-too-short : (l : Lent) {tooShort : Bool} (v : Verdict) (s : State) → tooShort ≡ true
+    → (1 ≡ code (roomFirst tooShort v)) × (l ≡ left l (roomFirst tooShort v) s)
 unfolding roomFirst left
 left-too-short l v s e = (rw e, rw e)
 
@@ -159,27 +165,31 @@ left-too-short l v s e = (rw e, rw e)
 pub record Stored (l : Lent) (o r : Dataset) (w : Verdict) (c : ℕ) (m : List ℕ) : Type 0 where
   pub room : 12 ≤ length (l .numbers)
   pub held : o ≡ narrowDataset (datasetOf (l .numbers))
-  pub answer : c ≡ code w
-  pub written : m ≡ settled w (over (numbersOf r) (l .numbers)) (l .numbers)
+  pub settles : (c ≡ code w) × (m ≡ settled w (over (numbersOf r) (l .numbers)) (l .numbers))
 
 module _ {l : Lent} {o r : Dataset} {w : Verdict} {c : ℕ} {m : List ℕ} (D : Stored l o r w c m) where
   abbrev whole : lacks 12 (l .numbers) ≡ false
   whole = lacks-no 12 (l .numbers) (D .room)
 
+  -- the record as the code holds it, with the memory
+  abbrev s : State
+  s = withRecord l o
+
   module _ {d g : List ℕ} where
-    left-own : {tooShort : Bool} {v v′ : Verdict} {H H′ : Contents} → tooShort ≡ false → Same v′ v H′ H → w ≡ v′
-        → stateOf r d g ≡ settled v′ (stored H′ (withRecord l o)) (withRecord l o)
+    -- every call that changes the dataset: by its contract on s, it answers v and leaves H
+    left-own : {tooShort : Bool} {v v′ : Verdict} {H H′ : Contents} → tooShort ≡ false → Same v′ v H′ H
+        → (w ≡ v′) × (stateOf r d g ≡ settled v′ (stored H′ s) s)
         → (c ≡ code (roomFirst tooShort v)) × (lent m d g ≡ left l (roomFirst tooShort v) (settled v (stored H (stateIn l)) (stateIn l)))
     unfolding roomFirst left stored recordOf stateIn
-    left-own {tooShort} {v} {v′} {H} {H′} e S p q =
+    left-own {tooShort} {v} {v′} {H} {H′} e S (p, q) =
         let u : w ≡ v = p ∙ S .verdict in
         rw e (
-          D .answer ∙ ap code u,
-          by v (S .contents) (q ∙ ap (λ x. settled x (stored H′ (withRecord l o)) (withRecord l o)) (S .verdict))
-              (D .written ∙ ap (λ x. settled x (over (numbersOf r) (l .numbers)) (l .numbers)) u),
+          D .settles .0 ∙ ap code u,
+          by v (S .contents) (q ∙ ap (λ x. settled x (stored H′ s) s) (S .verdict))
+              (D .settles .1 ∙ ap (λ x. settled x (over (numbersOf r) (l .numbers)) (l .numbers)) u),
         )
       where
-        by : (x : Verdict) → (x ≡ accepted → H′ ≡ H) → stateOf r d g ≡ settled x (stored H′ (withRecord l o)) (withRecord l o)
+        by : (x : Verdict) → (x ≡ accepted → H′ ≡ H) → stateOf r d g ≡ settled x (stored H′ s) s
             → m ≡ settled x (over (numbersOf r) (l .numbers)) (l .numbers) → lent m d g ≡ left l x (settled x (stored H (stateIn l)) (stateIn l))
         by accepted f t n =
             let z = t ∙ ap (λ K. stored K (stateIn l)) (f refl) in
@@ -187,42 +197,40 @@ module _ {l : Lent} {o r : Dataset} {w : Verdict} {c : ℕ} {m : List ℕ} (D : 
             λ i. record { numbers = w i; distances = z i .distances; settings = z i .settings }
         by (refused y) f t n = λ i. record { numbers = n i; distances = t i .distances; settings = t i .settings }
 
-    pub open-left : (k : ℕ) {y : ℕ} → y ≡ narrowed k → w ≡ openAnswer (withRecord l o) y → stateOf r d g ≡ openLeaves (withRecord l o) y
+    pub open-left : (k : ℕ) {y : ℕ} → y ≡ narrowed k → (w ≡ openAnswer s y) × (stateOf r d g ≡ openLeaves s y)
         → (c ≡ code (openVerdict l k)) × (lent m d g ≡ openLeft l k)
     unfolding openVerdict openLeft openAnswer openLeaves freshLeaves
-    open-left k e p q =
-        let N = unchanged (withRecord l o) .on-open k in
-        left-own whole (same-fresh l (D .held) (openReasons k) (opening k)) (p ∙ ap (openAnswer (withRecord l o)) e ∙ N .0)
-        (q ∙ ap (openLeaves (withRecord l o)) e ∙ N .1)
+    open-left k e did =
+        left-own whole (same-fresh l (D .held) (openReasons k) (opening k))
+        (as-given (openAnswer s) (openLeaves s) e (unchanged s .on-open k) did)
 
-    pub minima-left : (minima : List ℕ) {M : Minima} → 9 ≤ length minima → M ≡ minimaAt 0 minima → w ≡ minimaAnswer (withRecord l o) M
-        → stateOf r d g ≡ minimaLeaves (withRecord l o) M → (c ≡ code (minimaVerdict l minima)) × (lent m d g ≡ minimaLeft l minima)
+    pub minima-left : (minima : List ℕ) {M : Minima} → 9 ≤ length minima → M ≡ minimaAt 0 minima
+        → (w ≡ minimaAnswer s M) × (stateOf r d g ≡ minimaLeaves s M) → (c ≡ code (minimaVerdict l minima)) × (lent m d g ≡ minimaLeft l minima)
     unfolding minimaVerdict minimaLeft minimaAnswer minimaLeaves heldLeaves
-    minima-left minima {M} room e p q =
+    minima-left minima room e did =
         let N = minimaAt 0 minima in
         left-own (lacks-neither (l .numbers) minima (D .room) room) (same-held l (D .held) (λ H. minimaReasons (H .study) N) (settingMinima N))
-        (p ∙ ap (minimaAnswer (withRecord l o)) e) (q ∙ ap (minimaLeaves (withRecord l o)) e)
+        (as-given (minimaAnswer s) (minimaLeaves s) e (refl, refl) did)
 
-    pub enter-left : (setting : ℕ) (row : List ℕ) {y : ℕ} → y ≡ narrowed setting → w ≡ enterAnswer (withRecord l o) y row
-        → stateOf r d g ≡ enterLeaves (withRecord l o) y row → (c ≡ code (enterVerdict l setting row)) × (lent m d g ≡ enterLeft l setting row)
+    pub enter-left : (setting : ℕ) (row : List ℕ) {y : ℕ} → y ≡ narrowed setting
+        → (w ≡ enterAnswer s y row) × (stateOf r d g ≡ enterLeaves s y row)
+        → (c ≡ code (enterVerdict l setting row)) × (lent m d g ≡ enterLeft l setting row)
     unfolding enterVerdict enterLeft enterAnswer enterLeaves heldLeaves
-    enter-left setting row e p q =
-        let N = unchanged (withRecord l o) .on-enter setting row in
+    enter-left setting row e did =
         left-own whole (same-held l (D .held) (λ H. enterReasons (H .study) setting row) (entering setting row))
-        (p ∙ ap (λ x. enterAnswer (withRecord l o) x row) e ∙ N .0) (q ∙ ap (λ x. enterLeaves (withRecord l o) x row) e ∙ N .1)
+        (as-given (λ x. enterAnswer s x row) (λ x. enterLeaves s x row) e (unchanged s .on-enter setting row) did)
 
-    pub withdraw-left : (t : ℕ) {y : ℕ} → y ≡ narrowed t → w ≡ withdrawAnswer (withRecord l o) y → stateOf r d g ≡ withdrawLeaves (withRecord l o) y
+    pub withdraw-left : (t : ℕ) {y : ℕ} → y ≡ narrowed t → (w ≡ withdrawAnswer s y) × (stateOf r d g ≡ withdrawLeaves s y)
         → (c ≡ code (withdrawVerdict l t)) × (lent m d g ≡ withdrawLeft l t)
     unfolding withdrawVerdict withdrawLeft withdrawAnswer withdrawLeaves heldLeaves
-    withdraw-left t e p q =
-        let N = unchanged (withRecord l o) .on-withdraw t in
-        left-own whole (same-held l (D .held) (λ H. withdrawReasons H t) (withdrawing t)) (p ∙ ap (withdrawAnswer (withRecord l o)) e ∙ N .0)
-        (q ∙ ap (withdrawLeaves (withRecord l o)) e ∙ N .1)
+    withdraw-left t e did =
+        left-own whole (same-held l (D .held) (λ H. withdrawReasons H t) (withdrawing t))
+        (as-given (withdrawAnswer s) (withdrawLeaves s) e (unchanged s .on-withdraw t) did)
 
-    pub read-left : (file : List ℕ) → w ≡ readAnswer (withRecord l o) file → stateOf r d g ≡ readLeaves (withRecord l o) file
+    pub read-left : (file : List ℕ) → (w ≡ readAnswer s file) × (stateOf r d g ≡ readLeaves s file)
         → (c ≡ code (readVerdict l file)) × (lent m d g ≡ readLeft l file)
     unfolding readVerdict readLeft readAnswer readLeaves freshLeaves
-    read-left file p q = left-own whole (same-fresh l (D .held) (readReasons file) (decoded file)) p q
+    read-left file did = left-own whole (same-fresh l (D .held) (readReasons file) (decoded file)) did
 
 -- ---- the next call gets what the last one left
 
@@ -235,7 +243,8 @@ left-state l {tooShort} {v} {H} e S = rw e (by v (S .valid))
         → stateIn (left l w (settled w (stored H (stateIn l)) (stateIn l))) ≡ settled w (stored H (stateIn l)) (stateIn l)
     by accepted valid =
         let fit = validMinima-T (H .study .k) (H .study .minima) .0 (valid refl .study .minima) in
-        ap (λ r. stateOf r (stored H (stateIn l) .distances) (stored H (stateIn l) .settings)) (read-back (recordOf H (stateIn l .dataset)) (fit .eight) (l .numbers))
+        let new = stored H (stateIn l) in
+        ap (λ r. stateOf r (new .distances) (new .settings)) (read-back (recordOf H (stateIn l .dataset)) (fit .eight) (l .numbers))
     by (refused y) valid = refl
 
 module _ (l : Lent) (room : 12 ≤ length (l .numbers)) where

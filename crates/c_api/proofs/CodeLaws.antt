@@ -8,7 +8,7 @@ use lib.Dec.{T, leb, leb→le}
 use Rattle.lists.specs.Lists.{_among_, iota, filter}
 use Rattle.lists.proofs.Members.{filter-mem, map-mem, flatMap-mem, range-mem}
 use Rattle.study.specs.Study.{Contents}
-use Rattle.study.specs.Refusals.{Numbered, number, Verdict, refused, Reason, firstOf, freshReasons, heldReasons}
+use Rattle.study.specs.Refusals.{Numbered, number, seven, Verdict, refused, Reason, firstOf, freshReasons, heldReasons}
 use Rattle.study.specs.declared.refusals.Number.{Number}
 use Rattle.study.specs.declared.refusals.Number.the-variants.{Seven}
 use Rattle.study.specs.Numbers.{saidBy}
@@ -27,8 +27,9 @@ AllNarrow (r ∷ rs) = Narrow (refused (r .because)) × AllNarrow rs
 pub coded : {x y : Number} {n : Numbered} → x ≡ y → saidBy x ≡ n → code (refused (saidBy y)) ≡ code (refused n)
 coded e h = ap (λ m. code (refused m)) (ap saidBy (sym e) ∙ h)
 
-pub pair-fits : {x : Number} {n : Numbered} {i j : ℕ} → x ≡ Seven i j → saidBy x ≡ n → Narrow (refused n) → 7 + 256 * i + 65536 * j < 4294967296
-pair-fits e h n = subst (λ m. Narrow (refused m)) (sym h ∙ ap saidBy e) n .fits
+-- a refusal with a pair of its own
+pub pair-own : {x : Number} {n : Numbered} {i j : ℕ} → x ≡ Seven i j → saidBy x ≡ n → Narrow (refused n) → Narrow (refused (seven i j))
+pair-own e h n = subst (λ m. Narrow (refused m)) (sym h ∙ ap saidBy e) n
 
 -- ---- reasons
 

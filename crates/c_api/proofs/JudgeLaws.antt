@@ -8,7 +8,7 @@ use Rattle.lists.specs.Lists.{overwrite}
 use Rattle.study.specs.declared.Refusal.{Refusal}
 use Rattle.study.specs.declared.Dataset.{Dataset}
 use Rattle.study.specs.declared.Judged.{Judged}
-use Rattle.study.specs.declared.Judged.the-variants as Judges
+use Rattle.study.specs.declared.Judged.the-variants as JudgedCase
 use Rattle.study.specs.Study.{Contents}
 use Rattle.study.specs.Refusals.{numbered, accepted, refused, value, Reason}
 use Rattle.study.specs.Calls.{judgeReasons, Judgement, judgement, judgedOf}
@@ -19,14 +19,15 @@ use Rattle.c_api.proofs.RecordLaws.{withRecord, front-written}
 use Rattle.c_api.specs.Records.{Narrow}
 use Rattle.c_api.proofs.CodeLaws.{small, held-narrow}
 use Rattle.c_api.proofs.CallLaws.{lacks-one}
-use Rattle.c_api.proofs.OutputLaws.{reply-refused, reply-value, output-as, code-too-short, output-too-short, Reads, code-own, output-own}
+use Rattle.c_api.proofs.OutputLaws.{reply-refused, reply-value, output-refused, output-done, code-too-short, output-too-short}
+use Rattle.c_api.proofs.OutputLaws.{Reads, code-own, output-own}
 
 module _ (s : State) (list : List ℕ) (j : Judged) (p : judgedOf j ≡ judgeReply s list) where
-  judge-why : {why : Refusal} → j ≡ Judges.Refused why → judgeAnswer s list ≡ refused (numbered why)
+  judge-why : {why : Refusal} → j ≡ JudgedCase.Refused why → judgeAnswer s list ≡ refused (numbered why)
   unfolding judgeReply
   judge-why e = reply-refused (judgeAnswer s list) (judgement (studyOf s) list) (sym (ap judgedOf e) ∙ p)
 
-  pub judge-narrow : {why : Refusal} → j ≡ Judges.Refused why → Narrow (refused (numbered why))
+  pub judge-narrow : {why : Refusal} → j ≡ JudgedCase.Refused why → Narrow (refused (numbered why))
   unfolding judgeAnswer judgeReasons
   judge-narrow e = subst Narrow (judge-why e) (held-narrow s (λ H. judgeReasons (H .study) list) (λ _. (small tt, (small tt, tt))))
 
@@ -47,18 +48,18 @@ module _ (l : Lent) (list result : List ℕ) where
 
   -- what `judge` answers of the record as the code holds it
   module _ {r : Dataset} (R : Reads l r 2 result) (j : Judged) (p : judgedOf j ≡ judgeReply (withRecord l r) list) where
-    pub judge-refused : {why : Refusal} {c : ℕ} → j ≡ Judges.Refused why → c ≡ code (refused (numbered why))
+    pub judge-refused : {why : Refusal} {c : ℕ} → j ≡ JudgedCase.Refused why → c ≡ code (refused (numbered why))
         → (c ≡ code (judgeVerdict l list result)) × (result ≡ judgeResult l list result)
-    unfolding judgeVerdict judgeResult judgeAnswer output contentsOf
+    unfolding judgeVerdict judgeResult judgeAnswer contentsOf
     judge-refused e f =
         let y = judge-why (withRecord l r) list j p e in
-        (f ∙ code-own R own y, output-own R own judged result (output-as _ result y refl))
+        (f ∙ code-own R own y, output-own R own judged result (output-refused _ result y))
 
     pub judge-done : {k : Judged} {x : Judgement} {new : List ℕ} → j ≡ k → judgedOf k ≡ value x
         → new ≡ overwrite (length (judgementPair x)) (λ i. getD (judgementPair x) i 0) result
         → (0 ≡ code (judgeVerdict l list result)) × (new ≡ judgeResult l list result)
-    unfolding judgeVerdict judgeResult judgeAnswer output contentsOf
+    unfolding judgeVerdict judgeResult judgeAnswer contentsOf
     judge-done {k} {x} e v f =
         let y = judge-value (withRecord l r) list j p (ap judgedOf e ∙ v) in
         let two = f ∙ front-written (judgementPair x) result ∙ ap (λ z. over (judgementPair z) result) (y .1) in
-        (code-own R own (y .0), output-own R own judged result (output-as _ result (y .0) two))
+        (code-own R own (y .0), output-own R own judged result (output-done _ result (y .0) two))

@@ -24,12 +24,13 @@ use Rattle.dataset.specs.Answers.{heldAnswer}
 use Rattle.validity.proofs.Proofs.{for-datasets}
 use Rattle.dataset.proofs.AnswerLaws.{accepted-held}
 use Rattle.study_file.specs.declared.Written.{Written}
-use Rattle.study_file.specs.declared.Written.the-variants as Writes
+use Rattle.study_file.specs.declared.Written.the-variants as WrittenCase
 use Rattle.study_file.specs.Answers.{writeReasons, writeAnswer, writtenOf, writeReply, writeLeaves}
 use Rattle.study_file.proofs.Lengths.{length-sum}
 use Rattle.blocking.specs.Answers.{centresAnswer, centresFront, centresLeaves}
 use Rattle.narrowing.specs.Narrowing.{narrowDataset}
-use Rattle.c_api.specs.Api.{Lent, datasetOf, stateIn, code, roomFirst, lacks, over, output, centresVerdict, centresList, centresCount, writeVerdict, writeFile, writeLength}
+use Rattle.c_api.specs.Api.{Lent, datasetOf, stateIn, code, roomFirst, lacks, over, output}
+use Rattle.c_api.specs.Api.{centresVerdict, centresList, centresCount, writeVerdict, writeFile, writeLength}
 use Rattle.c_api.specs.Records.{Narrow}
 use Rattle.c_api.proofs.RecordLaws.{withRecord}
 use Rattle.c_api.proofs.CodeLaws.{small, held-narrow}
@@ -47,13 +48,18 @@ reply-value (refused r) x e = absurd (let z : _≡_ {A = ℕ} 0 1 = cc in omega 
 
 -- ---- what is written
 
--- a call that answers y
-pub output-as : {v y : Verdict} {new : List ℕ} (xs old : List ℕ) → v ≡ y → new ≡ output y xs old → new ≡ output v xs old
-output-as xs old e q = q ∙ ap (λ w. output w xs old) (sym e)
+-- a refused call writes nothing
+pub output-refused : {v : Verdict} {y : Numbered} (xs old : List ℕ) → v ≡ refused y → old ≡ output v xs old
+unfolding output
+output-refused xs old e = ap (λ w. settled w (over xs old) old) (sym e)
+
+-- an accepted one all of it
+pub output-done : {v : Verdict} {new : List ℕ} (xs old : List ℕ) → v ≡ accepted → new ≡ over xs old → new ≡ output v xs old
+unfolding output
+output-done xs old e q = q ∙ ap (λ w. settled w (over xs old) old) (sym e)
 
 -- one number
 pub first-set : (n : ℕ) (old : List ℕ) → 1 ≤ length old → set old 0 n ≡ over (n ∷ []) old
-unfolding over
 first-set n [] h = absurd (omega arith)
 first-set n (x ∷ xs) h = refl
 
@@ -118,7 +124,7 @@ module _ (list : List ℕ) (s : State) where
     found = centreNumbers (contentsOf s .study) g
 
     centres-output : centresLeaves s g list ≡ output (centresAnswer s list) found list
-    unfolding centresLeaves centresFront output over contentsOf
+    unfolding centresLeaves centresFront output contentsOf
     centres-output = by (centresAnswer s list)
       where
         by : (v : Verdict) → settled v found [] ++ drop (length (settled v found [])) list ≡ settled v (over found list) list
@@ -166,17 +172,17 @@ module _ (l : Lent) (g : ℕ) (list count : List ℕ) where
 
     pub centres-refused : {x : Refusal} {c : ℕ} → a ≡ Refused x → c ≡ code (verdictOf a)
         → (c ≡ code (centresVerdict l list count)) × ((new ≡ centresList l g list count) × (count ≡ centresCount l g list count))
-    unfolding centresVerdict centresCount centresAnswer output contentsOf
+    unfolding centresVerdict centresCount centresAnswer contentsOf
     centres-refused e f =
-        (f ∙ code-own R own (sym p), (listed, output-own R own counts count (output-as _ count (sym p ∙ ap verdictOf e) refl)))
+        (f ∙ code-own R own (sym p), (listed, output-own R own counts count (output-refused _ count (sym p ∙ ap verdictOf e))))
 
     pub centres-done : a ≡ Done
         → (0 ≡ code (centresVerdict l list count)) × ((new ≡ centresList l g list count) × (set count 0 n ≡ centresCount l g list count))
-    unfolding centresVerdict centresCount centresAnswer output contentsOf
+    unfolding centresVerdict centresCount centresAnswer contentsOf
     centres-done e =
         let y = sym p ∙ ap verdictOf e in
         let one = first-set n count (R .enough) ∙ ap (λ z. over (z ∷ []) count) (counted list (withRecord l r) g a p e q) in
-        (code-own R own y, (listed, output-own R own counts count (output-as _ count y one)))
+        (code-own R own y, (listed, output-own R own counts count (output-done _ count y one)))
 
 -- ---- Write
 
@@ -190,19 +196,19 @@ module _ (room : ℕ) (s : State) where
       omega (arith, files .file-length (contentsOf s) ok)
 
   module _ (w : Written) (p : writtenOf w ≡ writeReply s room) where
-    write-why : {why : Refusal} → w ≡ Writes.Refused why → writeAnswer s room ≡ refused (numbered why)
+    write-why : {why : Refusal} → w ≡ WrittenCase.Refused why → writeAnswer s room ≡ refused (numbered why)
     unfolding writeReply
     write-why e = reply-refused (writeAnswer s room) (length (fileOf (contentsOf s))) (sym (ap writtenOf e) ∙ p)
 
-    pub why-narrow : {why : Refusal} → w ≡ Writes.Refused why → Narrow (refused (numbered why))
+    pub why-narrow : {why : Refusal} → w ≡ WrittenCase.Refused why → Narrow (refused (numbered why))
     unfolding writeAnswer writeReasons
     why-narrow e = subst Narrow (write-why e) (held-narrow s (λ H. writeReasons H room) (λ _. (small tt, tt)))
 
-    write-size : {n : ℕ} → w ≡ Writes.Done n → (writeAnswer s room ≡ accepted) × (n ≡ length (fileOf (contentsOf s)))
+    write-size : {n : ℕ} → w ≡ WrittenCase.Done n → (writeAnswer s room ≡ accepted) × (n ≡ length (fileOf (contentsOf s)))
     unfolding writeReply
     write-size e = reply-value (writeAnswer s room) (length (fileOf (contentsOf s))) (sym (ap writtenOf e) ∙ p)
 
-    pub size-fits : {n : ℕ} → w ≡ Writes.Done n → n < 4294967296
+    pub size-fits : {n : ℕ} → w ≡ WrittenCase.Done n → n < 4294967296
     size-fits e = let q = write-size e in omega (arith, q .1, length-fits (q .0))
 
 module _ (l : Lent) (file result : List ℕ) where
@@ -218,23 +224,23 @@ module _ (l : Lent) (file result : List ℕ) where
   module _ {r : Dataset} (R : Reads l r 1 result) (w : Written) {new : List ℕ} (p : writtenOf w ≡ writeReply (withRecord l r) (length file))
       (t : new ≡ writeLeaves (withRecord l r) file) where
     filed : new ≡ writeFile l file result
-    unfolding writeFile writeVerdict writeAnswer writeLeaves output over
+    unfolding writeFile writeVerdict writeAnswer writeLeaves output
     filed = output-own R writes fileOf file t
 
     abbrev lengths : Contents → List ℕ
     lengths H = length (fileOf H) ∷ []
 
-    pub write-refused : {why : Refusal} {c : ℕ} → w ≡ Writes.Refused why → c ≡ code (refused (numbered why))
+    pub write-refused : {why : Refusal} {c : ℕ} → w ≡ WrittenCase.Refused why → c ≡ code (refused (numbered why))
         → (c ≡ code (writeVerdict l file result)) × ((new ≡ writeFile l file result) × (result ≡ writeLength l file result))
-    unfolding writeVerdict writeLength writeAnswer output
+    unfolding writeVerdict writeLength writeAnswer
     write-refused e f =
         let y = write-why (length file) (withRecord l r) w p e in
-        (f ∙ code-own R writes y, (filed, output-own R writes lengths result (output-as _ result y refl)))
+        (f ∙ code-own R writes y, (filed, output-own R writes lengths result (output-refused _ result y)))
 
-    pub write-done : {n : ℕ} → w ≡ Writes.Done n
+    pub write-done : {n : ℕ} → w ≡ WrittenCase.Done n
         → (0 ≡ code (writeVerdict l file result)) × ((new ≡ writeFile l file result) × (set result 0 n ≡ writeLength l file result))
-    unfolding writeVerdict writeLength writeAnswer output
+    unfolding writeVerdict writeLength writeAnswer
     write-done {n} e =
         let y = write-size (length file) (withRecord l r) w p e in
         let one = first-set n result (R .enough) ∙ ap (λ z. over (z ∷ []) result) (y .1) in
-        (code-own R writes (y .0), (filed, output-own R writes lengths result (output-as _ result (y .0) one)))
+        (code-own R writes (y .0), (filed, output-own R writes lengths result (output-done _ result (y .0) one)))

@@ -32,7 +32,7 @@ withRecord l r = stateOf r (l .distances) (l .settings)
 -- ---- written
 
 pub front-written : (xs l : List ℕ) → overwrite (length xs) (λ i. getD xs i 0) l ≡ over xs l
-unfolding over overwrite
+unfolding overwrite
 front-written xs l = ap (λ ys. ys ++ drop (length xs) l) (tabulate-is (length xs) (λ i. getD xs i 0) 0 xs refl (λ i _. refl))
 
 pub number-is : (r : Dataset) {i m x : ℕ} → i ≡ m → x ≡ getD (numbersOf r) m 0 → x ≡ getD (numbersOf r) i 0
@@ -59,7 +59,7 @@ module _ (r : Dataset) (eight : length (r .minima .b) ≡ 8) where
 
   -- the next call reads what was written
   pub read-back : (l : List ℕ) → datasetOf (over (numbersOf r) l) ≡ r
-  unfolding datasetOf minimaAt numbersOf over
+  unfolding datasetOf minimaAt numbersOf
   read-back l = λ i. record { k = r .k; n = r .n; minima = record { b0 = r .minima .b0; b = b i }; withdrawn = withdrawn i }
     where
       rest : List ℕ

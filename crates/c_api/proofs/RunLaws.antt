@@ -19,16 +19,19 @@ use Rattle.guarantee.specs.Runs.{Query, make-blocks, inquiring, figureNumbers, 
 use Rattle.guarantee.specs.Runs.{output as outputs}
 use Rattle.guarantee.specs.Theorems.{AsContracts, Guaranteed, blocked}
 use Rattle.guarantee.proofs.Proofs.{demand1, demand3}
-use Rattle.c_api.specs.Api.{Lent, minimaAt, stateIn, roomFirst, lacks, over, output, left, openLeft, minimaVerdict, minimaLeft, enterLeft, withdrawLeft, readLeft, Places, recordRoom, blockVerdict, blockLeft}
-use Rattle.c_api.specs.Runs.{CCall, c-open, c-read, c-minima, c-enter, c-withdraw, c-centres, c-block, c-judge, c-write, cAfter, cRun, recordsIn, unless, callsOf}
+use Rattle.c_api.specs.Api.{Lent, minimaAt, stateIn, roomFirst, lacks, over, output, left, openLeft, minimaVerdict, minimaLeft}
+use Rattle.c_api.specs.Api.{enterLeft, withdrawLeft, readLeft, Places, recordRoom, blockVerdict, blockLeft}
+use Rattle.c_api.specs.Runs.{CCall, c-open, c-read, c-minima, c-enter, c-withdraw, c-centres, c-block, c-judge, c-write}
+use Rattle.c_api.specs.Runs.{cAfter, cRun, recordsIn, unless, callsOf}
 use Rattle.c_api.specs.Theorems.{AsRun, CDemand3}
-use Rattle.c_api.proofs.CallLaws.{lacks-yes, lacks-no, lacks-one, left-too-short, open-carried, minima-carried, enter-carried, withdraw-carried, read-carried}
+use Rattle.c_api.proofs.CallLaws.{lacks-yes, lacks-no, lacks-one, left-too-short}
+use Rattle.c_api.proofs.CallLaws.{open-carried, minima-carried, enter-carried, withdraw-carried, read-carried}
 use Rattle.c_api.proofs.BlockLaws.{list-output}
 
 -- ---- no call makes the record shorter
 
 left-long : (l : Lent) (v : Verdict) (s : State) → length (l .numbers) ≤ length (left l v s .numbers)
-unfolding left over
+unfolding left
 left-long l accepted s = simp (length-append, length-drop) (omega arith)
 left-long l (refused r) s = omega arith
 

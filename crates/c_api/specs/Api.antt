@@ -21,11 +21,13 @@ use Rattle.guarantee.specs.Runs.{figureNumbers}
 
 -- ---- the record and the memory that the caller lends
 
+-- what every call is lent: the dataset's record as numbers, and its memory
 pub record Lent : Type 0 where
   pub numbers : List ℕ
   pub distances : List ℕ
   pub settings : List ℕ
 
+-- the three lists together, so that one equation speaks of all of them
 abbrev pub lent : List ℕ → List ℕ → List ℕ → Lent
 lent n d s = record { numbers = n; distances = d; settings = s }
 
@@ -33,9 +35,11 @@ lent n d s = record { numbers = n; distances = d; settings = s }
 unfoldable pub minimaAt : ℕ → List ℕ → Minima
 minimaAt p l = record { b0 = getD l p 0; b = tabulate 8 (λ j. getD l (p + 1 + j) 0) }
 
+-- the dataset's record in 12 numbers, each as it is given
 unfoldable pub datasetOf : List ℕ → Dataset
 datasetOf l = record { k = getD l 0 0; n = getD l 1 0; minima = minimaAt 2 l; withdrawn = getD l 11 0 }
 
+-- the 12 numbers of a record, as they are written
 unfoldable pub numbersOf : Dataset → List ℕ
 numbersOf r = r .k ∷ r .n ∷ r .minima .b0 ∷ (r .minima .b ++ (r .withdrawn ∷ []))
 
@@ -55,13 +59,14 @@ code (refused (seven i j)) = 7 + 256 * i + 65536 * j
 unfoldable pub roomFirst : Bool → Verdict → Verdict
 roomFirst tooShort own = cond tooShort (refused (number 1)) own
 
+-- a list has fewer than n places
 unfoldable pub lacks : ℕ → List ℕ → Bool
 lacks n l = ltb (length l) n
 
 -- ---- what stands afterwards
 
--- these numbers in the front of a lent list; the places past them stay
-unfoldable pub over : List ℕ → List ℕ → List ℕ
+-- these in the front of a lent list; the places past them stay
+abbrev pub over : {A : Type 0} → List A → List A → List A
 over xs l = xs ++ drop (length xs) l
 
 -- what a call writes: these numbers where it is accepted
@@ -74,57 +79,71 @@ left l v s = settled v (lent (over (numbersOf (s .dataset)) (l .numbers)) (s .di
 
 -- ---- Open
 
+-- what Open answers, given the number of settings
 unfoldable pub openVerdict : Lent → ℕ → Verdict
 openVerdict l k = roomFirst (lacks 12 (l .numbers)) (openAnswer (stateIn l) k)
 
+-- record and memory after it
 unfoldable pub openLeft : Lent → ℕ → Lent
 openLeft l k = left l (openVerdict l k) (openLeaves (stateIn l) k)
 
 -- ---- Minima, given 9 numbers
 
+-- what Minima answers
 unfoldable pub minimaVerdict : Lent → List ℕ → Verdict
 minimaVerdict l minima = roomFirst (lacks 12 (l .numbers) || lacks 9 minima) (minimaAnswer (stateIn l) (minimaAt 0 minima))
 
+-- record and memory after it
 unfoldable pub minimaLeft : Lent → List ℕ → Lent
 minimaLeft l minima = left l (minimaVerdict l minima) (minimaLeaves (stateIn l) (minimaAt 0 minima))
 
 -- ---- Enter
 
+-- what Enter answers, given a setting and a row of distances
 unfoldable pub enterVerdict : Lent → ℕ → List ℕ → Verdict
 enterVerdict l setting row = roomFirst (lacks 12 (l .numbers)) (enterAnswer (stateIn l) setting row)
 
+-- record and memory after it
 unfoldable pub enterLeft : Lent → ℕ → List ℕ → Lent
 enterLeft l setting row = left l (enterVerdict l setting row) (enterLeaves (stateIn l) setting row)
 
 -- ---- Withdraw
 
+-- what Withdraw answers, given a tide's number
 unfoldable pub withdrawVerdict : Lent → ℕ → Verdict
 withdrawVerdict l t = roomFirst (lacks 12 (l .numbers)) (withdrawAnswer (stateIn l) t)
 
+-- record and memory after it
 unfoldable pub withdrawLeft : Lent → ℕ → Lent
 withdrawLeft l t = left l (withdrawVerdict l t) (withdrawLeaves (stateIn l) t)
 
 -- ---- Read
 
+-- what Read answers, given a study file
 unfoldable pub readVerdict : Lent → List ℕ → Verdict
 readVerdict l file = roomFirst (lacks 12 (l .numbers)) (readAnswer (stateIn l) file)
 
+-- record and memory after it
 unfoldable pub readLeft : Lent → List ℕ → Lent
 readLeft l file = left l (readVerdict l file) (readLeaves (stateIn l) file)
 
 -- ---- Centres at g, lent a list and 1 number for their count
 
+-- what Centres answers
 unfoldable pub centresVerdict : Lent → List ℕ → List ℕ → Verdict
 centresVerdict l list count = roomFirst (lacks 12 (l .numbers) || lacks 1 count) (centresAnswer (stateIn l) list)
 
+-- the list after it: the centres' numbers in front
 unfoldable pub centresList : Lent → ℕ → List ℕ → List ℕ → List ℕ
 centresList l g list count = output (centresVerdict l list count) (centreNumbers (studyOf (stateIn l)) g) list
 
+-- the place for the count after it
 unfoldable pub centresCount : Lent → ℕ → List ℕ → List ℕ → List ℕ
 centresCount l g list count = output (centresVerdict l list count) (length (centreNumbers (studyOf (stateIn l)) g) ∷ []) count
 
 -- ---- Block, lent a list, three columns with a place for each block, and 3 numbers for its figures
 
+-- what Block is lent besides: the list, a column for each field of a block's record, and the figures
 pub record Places : Type 0 where
   pub list : List ℕ
   pub centres : List ℕ
@@ -132,6 +151,7 @@ pub record Places : Type 0 where
   pub diameters : List ℕ
   pub result : List ℕ
 
+-- the five lists together, so that one equation speaks of all of them
 abbrev pub places : List ℕ → List ℕ → List ℕ → List ℕ → List ℕ → Places
 places l c s d r = record { list = l; centres = c; sizes = s; diameters = d; result = r }
 
@@ -139,6 +159,7 @@ places l c s d r = record { list = l; centres = c; sizes = s; diameters = d; res
 abbrev pub recordRoom : Places → ℕ
 recordRoom p = min (length (p .centres)) (min (length (p .sizes)) (length (p .diameters)))
 
+-- what Block answers
 unfoldable pub blockVerdict : Lent → Places → Verdict
 blockVerdict l p = roomFirst (lacks 12 (l .numbers) || lacks 3 (p .result)) (blockAnswer (stateIn l) (length (p .list)) (recordRoom p))
 
@@ -146,6 +167,7 @@ blockVerdict l p = roomFirst (lacks 12 (l .numbers) || lacks 3 (p .result)) (blo
 unfoldable pub column : (BlockRecord → ℕ) → Study → List ℕ
 column f S = tabulate (figures S .blocks) (λ i. f (blockRecord S i))
 
+-- the five lists after it: list, columns and figures
 unfoldable pub blockLeft : Lent → Places → Places
 blockLeft l p =
     let S = studyOf (stateIn l) in
@@ -160,6 +182,7 @@ blockLeft l p =
 
 -- ---- Judge, given a list and lent 2 numbers
 
+-- what Judge answers
 unfoldable pub judgeVerdict : Lent → List ℕ → List ℕ → Verdict
 judgeVerdict l list result = roomFirst (lacks 12 (l .numbers) || lacks 2 result) (judgeAnswer (stateIn l) list)
 
@@ -168,16 +191,20 @@ abbrev pub judgementPair : Judgement → List ℕ
 judgementPair (approval w) = 1 ∷ w ∷ []
 judgementPair disapproval = 0 ∷ 0 ∷ []
 
+-- the two numbers after it
 unfoldable pub judgeResult : Lent → List ℕ → List ℕ → List ℕ
 judgeResult l list result = output (judgeVerdict l list result) (judgementPair (judgement (studyOf (stateIn l)) list)) result
 
 -- ---- Write, lent a file and 1 number for its length
 
+-- what Write answers
 unfoldable pub writeVerdict : Lent → List ℕ → List ℕ → Verdict
 writeVerdict l file result = roomFirst (lacks 12 (l .numbers) || lacks 1 result) (writeAnswer (stateIn l) (length file))
 
+-- the lent bytes after it: the study file in front
 unfoldable pub writeFile : Lent → List ℕ → List ℕ → List ℕ
 writeFile l file result = output (writeVerdict l file result) (fileOf (contentsOf (stateIn l))) file
 
+-- the place for the file's length after it
 unfoldable pub writeLength : Lent → List ℕ → List ℕ → List ℕ
 writeLength l file result = output (writeVerdict l file result) (length (fileOf (contentsOf (stateIn l))) ∷ []) result

@@ -5,7 +5,8 @@ use mathlib.Core.List.{List, [], _∷_}
 use lib.ListN.{getD}
 use Rattle.lists.specs.Lists.{tabulate}
 use Rattle.study.specs.declared.BlockRecord.{BlockRecord}
-use Rattle.guarantee.specs.Runs.{set-minima, enter, withdraw, find-centres, make-blocks, judge-list, write-file, Call, call-open, call-read, call-change, call-ask}
+use Rattle.guarantee.specs.Runs.{set-minima, enter, withdraw, find-centres, make-blocks, judge-list, write-file}
+use Rattle.guarantee.specs.Runs.{Call, call-open, call-read, call-change, call-ask}
 use Rattle.c_api.specs.Api.{Lent, minimaAt, lacks, openLeft, minimaLeft, enterLeft, withdrawLeft, readLeft, Places, recordRoom}
 
 -- with all that a call is given and lent besides record and memory
@@ -37,6 +38,7 @@ cAfter l (c-block p) = l
 cAfter l (c-judge list result) = l
 cAfter l (c-write file result) = l
 
+-- record and memory after a list of calls
 unfoldable pub cRun : Lent → List CCall → Lent
 cRun l [] = l
 cRun l (c ∷ cs) = cRun (cAfter l c) cs

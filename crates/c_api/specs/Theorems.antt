@@ -26,6 +26,7 @@ CDemand3 =
     (S : Study) × (F : Figures) × (studyAfter (stateIn l) (flatMap callsOf cs) ≡ some S) × (after .result ≡ over (figureNumbers F) (p .result))
     × Guaranteed S F (after .list)
 
+-- both, proved
 pub record ForC : Type 0 where
   pub as-run : AsRun
   pub demand3 : CDemand3

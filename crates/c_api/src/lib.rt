@@ -24,8 +24,11 @@ mod numbers;
 mod rows;
 
 ghost use mathlib.Core.Path.{_≡_};
-ghost use Rattle.c_api.specs.Api.{lent, code, openVerdict, openLeft, minimaVerdict, minimaLeft, enterVerdict, enterLeft, withdrawVerdict, withdrawLeft, readVerdict, readLeft, centresVerdict, centresList, centresCount, places, blockVerdict, blockLeft, judgeVerdict, judgeResult, writeVerdict, writeFile, writeLength};
+ghost use Rattle.c_api.specs.Api.{lent, code, openVerdict, openLeft, minimaVerdict, minimaLeft, enterVerdict, enterLeft};
+ghost use Rattle.c_api.specs.Api.{withdrawVerdict, withdrawLeft, readVerdict, readLeft, centresVerdict, centresList, centresCount};
+ghost use Rattle.c_api.specs.Api.{places, blockVerdict, blockLeft, judgeVerdict, judgeResult, writeVerdict, writeFile, writeLength};
 
+// Open: an empty dataset with k settings.
 #[no_mangle]
 pub extern "C" fn tides_open(
     numbers: &mut [u16],
@@ -34,7 +37,8 @@ pub extern "C" fn tides_open(
     k: u32,
 ) -> u32
     ensures code { λ r. ⌜ r ≡ code (openVerdict (lent (now (numbers .entry)) (now (distances .entry)) (now (settings .entry))) k) ⌝ }
-    ensures leaves { λ _. ⌜ lent (now (numbers .exit)) (now (distances .exit)) (now (settings .exit)) ≡ openLeft (lent (now (numbers .entry)) (now (distances .entry)) (now (settings .entry))) k ⌝ }
+    ensures leaves { λ _. ⌜ lent (now (numbers .exit)) (now (distances .exit)) (now (settings .exit))
+        ≡ openLeft (lent (now (numbers .entry)) (now (distances .entry)) (now (settings .entry))) k ⌝ }
 {
     if numbers.len() < 12 {
         return 1;
@@ -43,7 +47,7 @@ pub extern "C" fn tides_open(
     settle(numbers, outcome)
 }
 
-// The minima are 9 bytes: b0, b1 .. b8.
+// Minima: they are 9 bytes: b0, b1 .. b8.
 #[no_mangle]
 pub extern "C" fn tides_minima(
     numbers: &mut [u16],
@@ -51,8 +55,10 @@ pub extern "C" fn tides_minima(
     settings: &[u8],
     minima: &[u8],
 ) -> u32
-    ensures code { λ r. ⌜ r ≡ code (minimaVerdict (lent (now (numbers .entry)) (now (distances .entry)) (now (settings .entry))) (now (minima .entry))) ⌝ }
-    ensures leaves { λ _. ⌜ lent (now (numbers .exit)) (now (distances .entry)) (now (settings .entry)) ≡ minimaLeft (lent (now (numbers .entry)) (now (distances .entry)) (now (settings .entry))) (now (minima .entry)) ⌝ }
+    ensures code { λ r. ⌜ r
+        ≡ code (minimaVerdict (lent (now (numbers .entry)) (now (distances .entry)) (now (settings .entry))) (now (minima .entry))) ⌝ }
+    ensures leaves { λ _. ⌜ lent (now (numbers .exit)) (now (distances .entry)) (now (settings .entry))
+        ≡ minimaLeft (lent (now (numbers .entry)) (now (distances .entry)) (now (settings .entry))) (now (minima .entry)) ⌝ }
 {
     if numbers.len() < 12 {
         return 1;
@@ -64,6 +70,7 @@ pub extern "C" fn tides_minima(
     settle(numbers, outcome)
 }
 
+// Enter: a tide with its setting, and its distances to the tides already there.
 #[no_mangle]
 pub extern "C" fn tides_enter(
     numbers: &mut [u16],
@@ -72,8 +79,10 @@ pub extern "C" fn tides_enter(
     setting: u32,
     row: &[u32],
 ) -> u32
-    ensures code { λ r. ⌜ r ≡ code (enterVerdict (lent (now (numbers .entry)) (now (distances .entry)) (now (settings .entry))) setting (now (row .entry))) ⌝ }
-    ensures leaves { λ _. ⌜ lent (now (numbers .exit)) (now (distances .exit)) (now (settings .exit)) ≡ enterLeft (lent (now (numbers .entry)) (now (distances .entry)) (now (settings .entry))) setting (now (row .entry)) ⌝ }
+    ensures code { λ r. ⌜ r
+        ≡ code (enterVerdict (lent (now (numbers .entry)) (now (distances .entry)) (now (settings .entry))) setting (now (row .entry))) ⌝ }
+    ensures leaves { λ _. ⌜ lent (now (numbers .exit)) (now (distances .exit)) (now (settings .exit))
+        ≡ enterLeft (lent (now (numbers .entry)) (now (distances .entry)) (now (settings .entry))) setting (now (row .entry)) ⌝ }
 {
     if numbers.len() < 12 {
         return 1;
@@ -88,6 +97,7 @@ pub extern "C" fn tides_enter(
     settle(numbers, outcome)
 }
 
+// Withdraw: the tide of this number goes.
 #[no_mangle]
 pub extern "C" fn tides_withdraw(
     numbers: &mut [u16],
@@ -96,7 +106,8 @@ pub extern "C" fn tides_withdraw(
     tide: u32,
 ) -> u32
     ensures code { λ r. ⌜ r ≡ code (withdrawVerdict (lent (now (numbers .entry)) (now (distances .entry)) (now (settings .entry))) tide) ⌝ }
-    ensures leaves { λ _. ⌜ lent (now (numbers .exit)) (now (distances .exit)) (now (settings .exit)) ≡ withdrawLeft (lent (now (numbers .entry)) (now (distances .entry)) (now (settings .entry))) tide ⌝ }
+    ensures leaves { λ _. ⌜ lent (now (numbers .exit)) (now (distances .exit)) (now (settings .exit))
+        ≡ withdrawLeft (lent (now (numbers .entry)) (now (distances .entry)) (now (settings .entry))) tide ⌝ }
 {
     if numbers.len() < 12 {
         return 1;
@@ -105,6 +116,7 @@ pub extern "C" fn tides_withdraw(
     settle(numbers, outcome)
 }
 
+// Read: the dataset of a study file.
 #[no_mangle]
 pub extern "C" fn tides_read(
     numbers: &mut [u16],
@@ -112,8 +124,10 @@ pub extern "C" fn tides_read(
     settings: &mut [u8],
     file: &[u8],
 ) -> u32
-    ensures code { λ r. ⌜ r ≡ code (readVerdict (lent (now (numbers .entry)) (now (distances .entry)) (now (settings .entry))) (now (file .entry))) ⌝ }
-    ensures leaves { λ _. ⌜ lent (now (numbers .exit)) (now (distances .exit)) (now (settings .exit)) ≡ readLeft (lent (now (numbers .entry)) (now (distances .entry)) (now (settings .entry))) (now (file .entry)) ⌝ }
+    ensures code { λ r. ⌜ r
+        ≡ code (readVerdict (lent (now (numbers .entry)) (now (distances .entry)) (now (settings .entry))) (now (file .entry))) ⌝ }
+    ensures leaves { λ _. ⌜ lent (now (numbers .exit)) (now (distances .exit)) (now (settings .exit))
+        ≡ readLeft (lent (now (numbers .entry)) (now (distances .entry)) (now (settings .entry))) (now (file .entry)) ⌝ }
 {
     if numbers.len() < 12 {
         return 1;
@@ -122,7 +136,7 @@ pub extern "C" fn tides_read(
     settle(numbers, outcome)
 }
 
-// The number of centres goes into `count`.
+// Centres at g: their number goes into `count`.
 #[no_mangle]
 pub extern "C" fn tides_centres(
     numbers: &[u16],
@@ -132,9 +146,12 @@ pub extern "C" fn tides_centres(
     list: &mut [u8],
     count: &mut [u16],
 ) -> u32
-    ensures code { λ r. ⌜ r ≡ code (centresVerdict (lent (now (numbers .entry)) (now (distances .entry)) (now (settings .entry))) (now (list .entry)) (now (count .entry))) ⌝ }
-    ensures list { λ _. ⌜ now (list .exit) ≡ centresList (lent (now (numbers .entry)) (now (distances .entry)) (now (settings .entry))) g (now (list .entry)) (now (count .entry)) ⌝ }
-    ensures count { λ _. ⌜ now (count .exit) ≡ centresCount (lent (now (numbers .entry)) (now (distances .entry)) (now (settings .entry))) g (now (list .entry)) (now (count .entry)) ⌝ }
+    ensures code { λ r. ⌜ r
+        ≡ code (centresVerdict (lent (now (numbers .entry)) (now (distances .entry)) (now (settings .entry))) (now (list .entry)) (now (count .entry))) ⌝ }
+    ensures list { λ _. ⌜ now (list .exit)
+        ≡ centresList (lent (now (numbers .entry)) (now (distances .entry)) (now (settings .entry))) g (now (list .entry)) (now (count .entry)) ⌝ }
+    ensures count { λ _. ⌜ now (count .exit)
+        ≡ centresCount (lent (now (numbers .entry)) (now (distances .entry)) (now (settings .entry))) g (now (list .entry)) (now (count .entry)) ⌝ }
 {
     if numbers.len() < 12 {
         return 1;
@@ -151,7 +168,7 @@ pub extern "C" fn tides_centres(
     0
 }
 
-// The result is 3 numbers: how many blocks, the radius, the greatest diameter.
+// Block: the result is 3 numbers: how many blocks, the radius, the greatest diameter.
 #[no_mangle]
 pub extern "C" fn tides_block(
     numbers: &[u16],
@@ -163,8 +180,12 @@ pub extern "C" fn tides_block(
     diameters: &mut [u32],
     result: &mut [u32],
 ) -> u32
-    ensures code { λ r. ⌜ r ≡ code (blockVerdict (lent (now (numbers .entry)) (now (distances .entry)) (now (settings .entry))) (places (now (list .entry)) (now (centres .entry)) (now (sizes .entry)) (now (diameters .entry)) (now (result .entry)))) ⌝ }
-    ensures leaves { λ _. ⌜ places (now (list .exit)) (now (centres .exit)) (now (sizes .exit)) (now (diameters .exit)) (now (result .exit)) ≡ blockLeft (lent (now (numbers .entry)) (now (distances .entry)) (now (settings .entry))) (places (now (list .entry)) (now (centres .entry)) (now (sizes .entry)) (now (diameters .entry)) (now (result .entry))) ⌝ }
+    ensures code { λ r. ⌜ r
+        ≡ code (blockVerdict (lent (now (numbers .entry)) (now (distances .entry)) (now (settings .entry)))
+        (places (now (list .entry)) (now (centres .entry)) (now (sizes .entry)) (now (diameters .entry)) (now (result .entry)))) ⌝ }
+    ensures leaves { λ _. ⌜ places (now (list .exit)) (now (centres .exit)) (now (sizes .exit)) (now (diameters .exit)) (now (result .exit))
+        ≡ blockLeft (lent (now (numbers .entry)) (now (distances .entry)) (now (settings .entry)))
+        (places (now (list .entry)) (now (centres .entry)) (now (sizes .entry)) (now (diameters .entry)) (now (result .entry))) ⌝ }
 {
     if numbers.len() < 12 {
         return 1;
@@ -188,7 +209,7 @@ pub extern "C" fn tides_block(
     }
 }
 
-// The result is 2 numbers: 1 and the greatest diameter for yes, 0 and 0 for no.
+// Judge: the result is 2 numbers: 1 and the greatest diameter for yes, 0 and 0 for no.
 #[no_mangle]
 pub extern "C" fn tides_judge(
     numbers: &[u16],
@@ -197,8 +218,10 @@ pub extern "C" fn tides_judge(
     list: &[u8],
     result: &mut [u32],
 ) -> u32
-    ensures code { λ r. ⌜ r ≡ code (judgeVerdict (lent (now (numbers .entry)) (now (distances .entry)) (now (settings .entry))) (now (list .entry)) (now (result .entry))) ⌝ }
-    ensures result { λ _. ⌜ now (result .exit) ≡ judgeResult (lent (now (numbers .entry)) (now (distances .entry)) (now (settings .entry))) (now (list .entry)) (now (result .entry)) ⌝ }
+    ensures code { λ r. ⌜ r
+        ≡ code (judgeVerdict (lent (now (numbers .entry)) (now (distances .entry)) (now (settings .entry))) (now (list .entry)) (now (result .entry))) ⌝ }
+    ensures result { λ _. ⌜ now (result .exit)
+        ≡ judgeResult (lent (now (numbers .entry)) (now (distances .entry)) (now (settings .entry))) (now (list .entry)) (now (result .entry)) ⌝ }
 {
     if numbers.len() < 12 {
         return 1;
@@ -222,7 +245,7 @@ pub extern "C" fn tides_judge(
     }
 }
 
-// The byte length goes into `result`.
+// Write: the byte length of the study file goes into `result`.
 #[no_mangle]
 pub extern "C" fn tides_write(
     numbers: &[u16],
@@ -231,9 +254,12 @@ pub extern "C" fn tides_write(
     file: &mut [u8],
     result: &mut [u32],
 ) -> u32
-    ensures code { λ r. ⌜ r ≡ code (writeVerdict (lent (now (numbers .entry)) (now (distances .entry)) (now (settings .entry))) (now (file .entry)) (now (result .entry))) ⌝ }
-    ensures file { λ _. ⌜ now (file .exit) ≡ writeFile (lent (now (numbers .entry)) (now (distances .entry)) (now (settings .entry))) (now (file .entry)) (now (result .entry)) ⌝ }
-    ensures length { λ _. ⌜ now (result .exit) ≡ writeLength (lent (now (numbers .entry)) (now (distances .entry)) (now (settings .entry))) (now (file .entry)) (now (result .entry)) ⌝ }
+    ensures code { λ r. ⌜ r
+        ≡ code (writeVerdict (lent (now (numbers .entry)) (now (distances .entry)) (now (settings .entry))) (now (file .entry)) (now (result .entry))) ⌝ }
+    ensures file { λ _. ⌜ now (file .exit)
+        ≡ writeFile (lent (now (numbers .entry)) (now (distances .entry)) (now (settings .entry))) (now (file .entry)) (now (result .entry)) ⌝ }
+    ensures length { λ _. ⌜ now (result .exit)
+        ≡ writeLength (lent (now (numbers .entry)) (now (distances .entry)) (now (settings .entry))) (now (file .entry)) (now (result .entry)) ⌝ }
 {
     if numbers.len() < 12 {
         return 1;

@@ -46,6 +46,7 @@ pub fn minima_of(bytes: &[u8]) -> Minima
     Minima { b0: bytes[0], b }
 }
 
+// The record as the calls take it: k and the minima as bytes.
 pub fn dataset_of(numbers: &[u16]) -> Dataset
     requires { ⌜ 12 ≤ length (now numbers) ⌝ }
     ensures { λ r. ⌜ r ≡ narrowDataset (datasetOf (now (numbers .entry))) ⌝ }
@@ -88,6 +89,7 @@ fn number_at(dataset: Dataset, i: usize) -> u16
     wide(b[i - 3])
 }
 
+// A record into the front of the numbers.
 fn put_dataset(numbers: &mut [u16], dataset: Dataset)
     requires { ⌜ (12 ≤ length (now numbers)) × (dataset .n < 65536) ⌝ }
     ensures { λ _. ⌜ now (numbers .exit) ≡ over (numbersOf dataset) (now (numbers .entry)) ⌝ }
@@ -103,7 +105,8 @@ fn put_dataset(numbers: &mut [u16], dataset: Dataset)
 pub fn settle(numbers: &mut [u16], outcome: Outcome) -> u32
     requires { ⌜ Storable (now numbers) (verdictOf (outcome .answer)) (outcome .dataset) ⌝ }
     ensures code { λ r. ⌜ r ≡ code (verdictOf (outcome .answer)) ⌝ }
-    ensures numbers { λ _. ⌜ now (numbers .exit) ≡ settled (verdictOf (outcome .answer)) (over (numbersOf (outcome .dataset)) (now (numbers .entry))) (now (numbers .entry)) ⌝ }
+    ensures numbers { λ _. ⌜ now (numbers .exit)
+        ≡ settled (verdictOf (outcome .answer)) (over (numbersOf (outcome .dataset)) (now (numbers .entry))) (now (numbers .entry)) ⌝ }
 {
     let answer = outcome.answer;
     let Answer::Done = answer else {

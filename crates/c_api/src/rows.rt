@@ -4,8 +4,9 @@ ghost use mathlib.Core.Path.{_≡_};
 ghost use Prim.Native.Nat.{ℕ, _≤_, min};
 ghost use lib.ListN.{length, getD};
 ghost use Rattle.lists.specs.Lists.{overwrite};
-ghost use Rattle.study.specs.Limits.{maxTides};
+ghost use Rattle.c_api.specs.Records.{ColumnRoom};
 
+// The first count bytes of a row.
 fn put_bytes(row: &[u8], count: usize, list: &mut [u8])
     requires { ⌜ (count ≤ length (now row)) × (count ≤ length (now list)) ⌝ }
     ensures { λ _. ⌜ now (list .exit) ≡ overwrite count (λ (i : ℕ). getD (now (row .entry)) i 0) (now (list .entry)) ⌝ }
@@ -17,6 +18,7 @@ fn put_bytes(row: &[u8], count: usize, list: &mut [u8])
     }
 }
 
+// The same of numbers of 32 bits.
 pub fn put_numbers(row: &[u32], count: usize, list: &mut [u32])
     requires { ⌜ (count ≤ length (now row)) × (count ≤ length (now list)) ⌝ }
     ensures { λ _. ⌜ now (list .exit) ≡ overwrite count (λ (i : ℕ). getD (now (row .entry)) i 0) (now (list .entry)) ⌝ }
@@ -37,6 +39,7 @@ fn lesser(x: usize, y: usize) -> usize
     y
 }
 
+// The least of three lengths.
 pub fn least(x: usize, y: usize, z: usize) -> usize
     ensures { λ r. ⌜ r ≡ min x (min y z) ⌝ }
 {
@@ -52,7 +55,7 @@ pub fn put_columns(
     sizes: &mut [u8],
     diameters: &mut [u32],
 )
-    requires { ⌜ (count ≤ maxTides) × (count ≤ length (now centres)) × (count ≤ length (now sizes)) × (count ≤ length (now diameters)) ⌝ }
+    requires { ⌜ ColumnRoom count (now centres) (now sizes) (now diameters) ⌝ }
     ensures centres { λ _. ⌜ now (centres .exit) ≡ overwrite count (λ (i : ℕ). getD (rows .centres) i 0) (now (centres .entry)) ⌝ }
     ensures sizes { λ _. ⌜ now (sizes .exit) ≡ overwrite count (λ (i : ℕ). getD (rows .tides) i 0) (now (sizes .entry)) ⌝ }
     ensures diameters { λ _. ⌜ now (diameters .exit) ≡ overwrite count (λ (i : ℕ). getD (rows .diameters) i 0) (now (diameters .entry)) ⌝ }

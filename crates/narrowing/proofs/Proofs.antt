@@ -25,7 +25,8 @@ use Rattle.study.proofs.CallLaws.{none-holds}
 use Rattle.validity.specs.Memory.{State, stateOf, setK, setMinima, short, isDataset, contentsOf, stored}
 use Rattle.validity.specs.Validity.{IsStudy}
 use Rattle.validity.proofs.Proofs.{for-datasets}
-use Rattle.dataset.specs.Answers.{freshAnswer, freshLeaves, heldAnswer, heldLeaves, openAnswer, openLeaves, minimaAnswer, minimaLeaves, enterAnswer, enterLeaves, withdrawAnswer, withdrawLeaves}
+use Rattle.dataset.specs.Answers.{freshAnswer, freshLeaves, heldAnswer, heldLeaves, openAnswer, openLeaves, minimaAnswer, minimaLeaves}
+use Rattle.dataset.specs.Answers.{enterAnswer, enterLeaves, withdrawAnswer, withdrawLeaves}
 use Rattle.dataset.proofs.AnswerLaws.{fresh-own, accepted-held}
 use Rattle.narrowing.specs.Narrowing.{narrowed, narrowMinima, narrowDataset, narrowState, Unchanged}
 
@@ -154,8 +155,8 @@ module _ (s : State) where
       (λ t. dataset-uncut (for-datasets .exactly s .0 t .study)))
 
 pub unchanged : (s : State) → Unchanged s
-unfolding openAnswer openLeaves freshLeaves heldLeaves openReasons minimaAnswer minimaLeaves minimaReasons enterAnswer enterLeaves enterReasons withdrawAnswer withdrawLeaves
-    withdrawReasons
+unfolding openAnswer openLeaves freshLeaves heldLeaves openReasons minimaAnswer minimaLeaves minimaReasons
+    enterAnswer enterLeaves enterReasons withdrawAnswer withdrawLeaves withdrawReasons
 unchanged s =
     record {
       on-open = λ k.
@@ -173,3 +174,10 @@ unchanged s =
           (λ H ok a. ap (λ x. withdrawing x H) (between-uncut (size (H .study)) t (omega (arith, ok .study .few)) (none-holds (withdrawReasons H t) a .0)));
       on-record = record-same s;
     }
+
+-- ---- for the callers
+
+-- a call that took y did what it does with x, where y is z, and z does what x does
+pub as-given : {A : Type 0} (answer : A → Verdict) (leaves : A → State) {w : Verdict} {t : State} {x y z : A} → y ≡ z
+    → (answer z ≡ answer x) × (leaves z ≡ leaves x) → (w ≡ answer y) × (t ≡ leaves y) → (w ≡ answer x) × (t ≡ leaves x)
+as-given answer leaves e same did = (did .0 ∙ ap answer e ∙ same .0, did .1 ∙ ap leaves e ∙ same .1)

@@ -3,10 +3,11 @@
 use libc::STDERR_FILENO;
 use libc::STDIN_FILENO;
 use libc::STDOUT_FILENO;
+use study::refusals::number_of;
 use study_text::Packed;
 use study_text::pack;
-use study::refusals::number_of;
 
+// A line of the text, and what is wrong there.
 fn say(line: usize, words: &[u8]) {
     io::write_all(STDERR_FILENO, b"line ");
     io::print_decimal(STDERR_FILENO, line as u64);

@@ -3,6 +3,7 @@ use libc::STDIN_FILENO;
 use libc::STDOUT_FILENO;
 ghost use Prim.Native.Nat.{_≤_};
 
+// The first `length` bytes to standard output.
 fn print(bytes: [u8; 2837], length: usize)
     requires { ⌜ length ≤ 2837 ⌝ }
 {
@@ -10,7 +11,7 @@ fn print(bytes: [u8; 2837], length: usize)
 }
 
 fn main() {
-    // one byte more than the longest file decides (`Decided` of printing/specs/Limit.antt)
+    // one byte more than the longest file decides (`Decided` of sheet_of_file/specs/Limit.antt)
     let mut input = [0u8; 17909];
     let count = io::read_full(STDIN_FILENO, &mut input);
     let text = sheet_of_file::sheet(&input[..count]);

@@ -6,17 +6,16 @@ use study::Answer;
 use study::BlockRecord;
 use study::Blocked;
 use study::Dataset;
+use study::MAX_TIDES;
 use study::Minima;
 use study::Refusal;
-use study::MAX_TIDES;
 use study::TABLE_SIZE;
 ghost use mathlib.Core.Path.{_≡_};
 ghost use Prim.Native.Nat.{_≤_};
 ghost use Rattle.study.specs.Refusals.{numbered};
 ghost use Rattle.validity.specs.Memory.{entryState};
 ghost use Rattle.sheet_text.specs.Text.{refusedText, laidOut};
-ghost use Rattle.sheet_of_file.specs.Sheet.{sheetOf};
-ghost use Rattle.sheet_of_file.specs.Sheet.{blockedText};
+ghost use Rattle.sheet_of_file.specs.Sheet.{sheetOf, blockedText};
 
 // A record to read over: Read takes any.
 fn blank() -> Dataset {
@@ -41,6 +40,7 @@ fn refused_sheet(why: Refusal) -> Text
     sheet_text(Blocked::Refused(why), [none; MAX_TIDES], 0)
 }
 
+// The sheet of what Block answers.
 fn blocked_sheet(dataset: Dataset, distances: &[u32], settings: &[u8]) -> Text
     ensures { λ r. ⌜ (r .length ≤ 2837) × (r ≡ laidOut (blockedText (entryState dataset distances settings))) ⌝ }
 {

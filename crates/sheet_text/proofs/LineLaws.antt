@@ -68,7 +68,7 @@ module _ (r w x : ℕ) where
       → PutText a p (named (ascii "widest ") w 32) q b → PutText b q (named (ascii "withdrawn ") x 10) end c → PutText l at (closing r w x) end c
   closing-put y z u = puts-as (puts-then (puts-then y z) u) closing-fields refl
 
-  pub closing-length : length (closing r w x)
+  closing-length : length (closing r w x)
       ≡ length (named (ascii "reach ") r 32) + length (named (ascii "widest ") w 32) + length (named (ascii "withdrawn ") x 10)
   closing-length = ap length (sym closing-fields) ∙ simp length-append
 
@@ -84,6 +84,11 @@ module _ (r w x : ℕ) where
         field-short 9 w 32 (omega arith),
         field-short 4 x 10 (omega arith),
       )
+
+  -- room for its three fields
+  pub closing-room : r < 4294967296 → w < 4294967296 → x < 65536
+      → length (named (ascii "reach ") r 32) + length (named (ascii "widest ") w 32) + length (named (ascii "withdrawn ") x 10) ≤ 51
+  closing-room a b c = omega (arith, closing-length, closing-short a b c)
 
 -- ---- a refusal
 

@@ -55,6 +55,7 @@ closing radius widest withdrawn =
 
 -- ---- the sheet
 
+-- the refusal alone: its number as document 01 gives it
 unfoldable pub refusedText : Numbered → List ℕ
 refusedText r = ascii "refused " ++ decimal (numberOf r) ++ ascii "\n"
 

@@ -3,10 +3,10 @@ use crate::lines::put_closing;
 use crate::lines::put_lines;
 use crate::putting::put_bytes;
 use crate::putting::put_named;
-use study::refusals::number_of;
 use study::BlockRecord;
 use study::Blocked;
 use study::MAX_TIDES;
+use study::refusals::number_of;
 
 mod lines;
 mod putting;
@@ -24,7 +24,13 @@ pub struct Text {
     pub length: usize,
 }
 
-fn put_sheet(out: &mut [u8], answer: Blocked, records: [BlockRecord; MAX_TIDES], withdrawn: u16) -> usize
+// The sheet into the front of lent memory; the answer is its length.
+fn put_sheet(
+    out: &mut [u8],
+    answer: Blocked,
+    records: [BlockRecord; MAX_TIDES],
+    withdrawn: u16,
+) -> usize
     requires { ⌜ 2837 ≤ length (now out) ⌝ }
     ensures { λ r. ⌜ (r ≤ 2837) × PutText (now (out .entry)) 0 (sheetText (blockedOf answer) records withdrawn) r (now (out .exit)) ⌝ }
 {
@@ -38,6 +44,7 @@ fn put_sheet(out: &mut [u8], answer: Blocked, records: [BlockRecord; MAX_TIDES],
     }
 }
 
+// The printed sheet by value, as document 01 lays it out.
 pub fn sheet_text(answer: Blocked, records: [BlockRecord; MAX_TIDES], withdrawn: u16) -> Text
     ensures fits { λ r. ⌜ r .length ≤ 2837 ⌝ }
     ensures text { λ r. ⌜ r ≡ laidOut (sheetText (blockedOf answer) records withdrawn) ⌝ }

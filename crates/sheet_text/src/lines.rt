@@ -21,7 +21,12 @@ fn put_line(out: &mut [u8], at: usize, number: u32, block: BlockRecord) -> usize
 }
 
 // A line for each block that has a record.
-pub fn put_lines(out: &mut [u8], at: usize, blocks: usize, records: [BlockRecord; MAX_TIDES]) -> usize
+pub fn put_lines(
+    out: &mut [u8],
+    at: usize,
+    blocks: usize,
+    records: [BlockRecord; MAX_TIDES],
+) -> usize
     requires { ⌜ at + 2760 ≤ length (now out) ⌝ }
     ensures { λ r. ⌜ (r ≤ at + 2760) × PutText (now (out .entry)) at (lines 1 (take blocks records)) r (now (out .exit)) ⌝ }
 {

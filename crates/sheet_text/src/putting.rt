@@ -6,6 +6,7 @@ ghost use Rattle.sheet_text.specs.Text.{decimal};
 ghost use Rattle.sheet_text.specs.Lines.{field, named};
 ghost use Rattle.sheet_text.specs.Putting.{PutText};
 
+// One byte.
 fn put_byte(out: &mut [u8], at: usize, byte: u8) -> usize
     requires { ⌜ at < length (now out) ⌝ }
     ensures { λ r. ⌜ PutText (now (out .entry)) at (byte ∷ []) r (now (out .exit)) ⌝ }
@@ -14,6 +15,7 @@ fn put_byte(out: &mut [u8], at: usize, byte: u8) -> usize
     at + 1
 }
 
+// A text byte by byte.
 pub fn put_bytes(out: &mut [u8], at: usize, text: &[u8]) -> usize
     requires { ⌜ at + length (now text) ≤ length (now out) ⌝ }
     ensures { λ r. ⌜ PutText (now (out .entry)) at (now (text .entry)) r (now (out .exit)) ⌝ }

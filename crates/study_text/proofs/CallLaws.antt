@@ -1,7 +1,7 @@
 -- The ways out of each call that a text makes: Open, Minima, Enter. Assumes nothing.
 use Prim.Native.Nat.{ℕ, zero, suc, _+_}
 use native.Mathlib.Omega.{arith}
-use mathlib.Core.Path.{_≡_, refl, sym, ap, ap₂, _∙_, subst}
+use mathlib.Core.Path.{_≡_, refl, sym, ap, _∙_, subst}
 use mathlib.Core.Bool.{false}
 use native.Mathlib.Numerals.{add-one}
 use mathlib.Core.List.{List, [], _∷_, _++_}
@@ -19,17 +19,18 @@ use Rattle.study.specs.Refusals.{accepted, verdictOf, settled, Reason, firstOf,
 use Rattle.study.specs.Theorems.{ValidContents}
 use Rattle.validity.specs.Memory.{State, stateOf, short, studyOf, contentsOf, stored}
 use Rattle.validity.proofs.ValidityLaws.{study-size}
-use Rattle.dataset.specs.Answers.{freshAnswer, heldAnswer, openAnswer, openLeaves, minimaAnswer, minimaLeaves, enterAnswer, enterLeaves, freshLeaves, heldLeaves}
+use Rattle.dataset.specs.Answers.{freshAnswer, heldAnswer, freshLeaves, heldLeaves}
+use Rattle.dataset.specs.Answers.{openAnswer, openLeaves, minimaAnswer, minimaLeaves, enterAnswer, enterLeaves}
 use Rattle.dataset.specs.Accepted.{Passed}
 use Rattle.dataset.proofs.AnswerLaws.{held-own}
 use Rattle.narrowing.specs.Narrowing.{narrowed, narrowMinima}
-use Rattle.narrowing.proofs.Proofs.{unchanged}
+use Rattle.narrowing.proofs.Proofs.{unchanged, as-given}
 use Rattle.study_text.specs.declared.Packed.{Packed}
 use Rattle.study_text.specs.declared.words.Cursor.{Cursor}
 use Rattle.study_text.specs.declared.numbers.Given.{Given}
-use Rattle.study_text.specs.declared.numbers.Given.the-variants as One
+use Rattle.study_text.specs.declared.numbers.Given.the-variants as GivenCase
 use Rattle.study_text.specs.declared.numbers.Row.{Row}
-use Rattle.study_text.specs.declared.numbers.Row.the-variants as Many
+use Rattle.study_text.specs.declared.numbers.Row.the-variants as RowCase
 use Rattle.study_text.specs.declared.calls.Reached.{Reached}
 use Rattle.study_text.specs.Words.{CursorWithin}
 use Rattle.study_text.specs.Packing.{Got, got, numberOf, numbersOf, minimaFrom, openingOf, minimaOf, tideOf, entered}
@@ -41,55 +42,52 @@ use Rattle.study_text.proofs.ReachedLaws.{Answers, call-reaches, call-b
 -- ---- the answers
 
 module _ {s t : State} {a : Answer} where
-  open-answers : (k : ℕ) → short s ≡ false → verdictOf a ≡ openAnswer s (narrowed k) → t ≡ openLeaves s (narrowed k)
+  open-answers : (k : ℕ) → short s ≡ false → (verdictOf a ≡ openAnswer s k) × (t ≡ openLeaves s k)
       → Answers s a t (firstOf (openReasons k)) (opening k)
   unfolding openAnswer openLeaves freshLeaves freshAnswer freshReasons firstOf
-  open-answers k e v l =
-      let N = unchanged s .on-open k in
-      record { not-short = e; verdict = rw e at (v ∙ N .0); leaves = rw e at (l ∙ N .1); valid = opening-valid k }
+  open-answers k e did = record { not-short = e; verdict = rw e at (did .0); leaves = rw e at (did .1); valid = opening-valid k }
 
   -- a call on a dataset
-  held-answers : (own : Contents → List Reason) (new : Contents) → Passed s → verdictOf a ≡ heldAnswer s own → t ≡ settled (heldAnswer s own) (stored new s) s
+  held-answers : (own : Contents → List Reason) (new : Contents) → Passed s
+      → (verdictOf a ≡ heldAnswer s own) × (t ≡ settled (heldAnswer s own) (stored new s) s)
       → (firstOf (own (contentsOf s)) ≡ accepted → ValidContents new) → Answers s a t (firstOf (own (contentsOf s))) new
-  held-answers own new P v l ok =
+  held-answers own new P (v, l) ok =
       let e = sym (held-own s own (P .not-short) (P .tested)) in
       record { not-short = P .not-short; verdict = v ∙ e; leaves = l ∙ ap (λ w. settled w (stored new s) s) e; valid = ok }
 
   module _ (P : Passed s) where
-    minima-answers : (M : Minima) → verdictOf a ≡ minimaAnswer s (narrowMinima M) → t ≡ minimaLeaves s (narrowMinima M)
+    minima-answers : (M : Minima) → (verdictOf a ≡ minimaAnswer s M) × (t ≡ minimaLeaves s M)
         → Answers s a t (firstOf (minimaReasons (contentsOf s .study) M)) (settingMinima M (contentsOf s))
     unfolding minimaAnswer minimaLeaves heldLeaves
-    minima-answers M v l =
-        let N = unchanged s .on-minima M in
-        held-answers (λ H. minimaReasons (H .study) M) (settingMinima M (contentsOf s)) P (v ∙ N .0) (l ∙ N .1)
-        (minima-valid M (contentsOf s) (valid-held P))
+    minima-answers M did =
+        held-answers (λ H. minimaReasons (H .study) M) (settingMinima M (contentsOf s)) P did (minima-valid M (contentsOf s) (valid-held P))
 
-    enter-answers : (x : ℕ) (row : List ℕ) → verdictOf a ≡ enterAnswer s (narrowed x) row → t ≡ enterLeaves s (narrowed x) row
+    enter-answers : (x : ℕ) (row : List ℕ) → (verdictOf a ≡ enterAnswer s x row) × (t ≡ enterLeaves s x row)
         → Answers s a t (firstOf (enterReasons (contentsOf s .study) x row)) (entering x row (contentsOf s))
     unfolding enterAnswer enterLeaves heldLeaves
-    enter-answers x row v l =
-        let N = unchanged s .on-enter x row in
-        held-answers (λ H. enterReasons (H .study) x row) (entering x row (contentsOf s)) P (v ∙ N .0) (l ∙ N .1)
-        (entering-valid x row (contentsOf s) (valid-held P))
+    enter-answers x row did =
+        held-answers (λ H. enterReasons (H .study) x row) (entering x row (contentsOf s)) P did (entering-valid x row (contentsOf s) (valid-held P))
 
 -- ---- Open
 
 module _ {text : List ℕ} (from : Cursor) {g : Given} (e : givenOf g ≡ numberOf text from) where
-  pub open-stops : {p : Packed} {q : Reached} {r : Dataset} {c : Cursor} (d s : List ℕ) → g ≡ One.Stopped p → q ≡ stoppedAt p r c
+  pub open-stops : {p : Packed} {q : Reached} {r : Dataset} {c : Cursor} (d s : List ℕ) → g ≡ GivenCase.Stopped p → q ≡ stoppedAt p r c
       → Begins text q d s (openingOf text from)
   unfolding openingOf
   open-stops {p} {q} {r} {c} d s h k =
       subst (λ q. Begins text q d s (openingOf text from)) (sym k)
       (record { is = rw (← e, h); alive = λ q. absurd (let z : _≡_ {A = ℕ} 0 1 = cc in omega arith) })
 
-  pub open-goes : (s : State) (o : Outcome) {k y : ℕ} {c : Cursor} {q : Reached} (d t : List ℕ) → g ≡ One.Number k c → CursorWithin text from → short s ≡ false
-      → y ≡ narrowed k → verdictOf (o .answer) ≡ openAnswer s y → stateOf (o .dataset) d t ≡ openLeaves s y → q ≡ afterCall o c
+  pub open-goes : (s : State) (o : Outcome) {k y : ℕ} {c : Cursor} {q : Reached} (d t : List ℕ) → g ≡ GivenCase.Number k c
+      → CursorWithin text from → short s ≡ false → y ≡ narrowed k
+      → (verdictOf (o .answer) ≡ openAnswer s y) × (stateOf (o .dataset) d t ≡ openLeaves s y) → q ≡ afterCall o c
       → Begins text q d t (openingOf text from)
   unfolding openingOf
-  open-goes s o {k} {y} {c} {q} d t h w f i v l j =
+  open-goes s o {k} {y} {c} {q} d t h w f i did j =
       let n : numberOf text from ≡ got k c = sym e ∙ ap givenOf h in
+      let same = as-given (openAnswer s) (openLeaves s) i (unchanged s .on-open k) did in
       subst (λ q. Begins text q d t (openingOf text from)) (sym j)
-      (rw n (call-begins (open-answers {a = o .answer} k f (v ∙ ap (openAnswer s) i) (l ∙ ap (openLeaves s) i)) (number-within w n)))
+      (rw n (call-begins (open-answers {a = o .answer} k f same) (number-within w n)))
 
 -- ---- Minima
 
@@ -118,26 +116,25 @@ module _ {text : List ℕ} {from : Cursor} {s : State} (w : CursorWithin text fr
   unfolding contentsOf studyOf
   minima-numbers e f = ap (λ m. numbersOf text m from) (sym (f ∙ add-one (s .dataset .k))) ∙ sym e
 
-  pub minima-stops : {row : Row} (xs : List ℕ) {p : Packed} {q : Reached} → readOf row xs ≡ numbersOf text n from → n ≡ s .dataset .k + 1 → row ≡ Many.Stopped p
-      → q ≡ stoppedAt p (s .dataset) from → Reaches text q (s .distances) (s .settings) (entered (minimaOf text (contentsOf s) from))
+  pub minima-stops : {row : Row} (xs : List ℕ) {p : Packed} {q : Reached} → readOf row xs ≡ numbersOf text n from → n ≡ s .dataset .k + 1
+      → row ≡ RowCase.Stopped p → q ≡ stoppedAt p (s .dataset) from → Reaches text q (s .distances) (s .settings) (entered (minimaOf text (contentsOf s) from))
   unfolding minimaOf
   minima-stops xs e f h k =
       subst (λ q. Reaches text q (s .distances) (s .settings) (entered (minimaOf text (contentsOf s) from))) (sym k)
       (record { is = rw (minima-numbers e f, h); alive = record { passed = P; within = w } })
 
   pub minima-goes : {row : Row} (xs : List ℕ) (m : ℕ) {M : Minima} (o : Outcome) {c : Cursor} {q : Reached} → readOf row xs ≡ numbersOf text n from
-      → n ≡ s .dataset .k + 1 → row ≡ Many.Read c → M ≡ narrowMinima (minimaFrom (xs ++ drop m (replicate 9 0))) → verdictOf (o .answer) ≡ minimaAnswer s M
-      → stateOf (o .dataset) (s .distances) (s .settings) ≡ minimaLeaves s M → q ≡ afterCall o c
+      → n ≡ s .dataset .k + 1 → row ≡ RowCase.Read c → M ≡ narrowMinima (minimaFrom (xs ++ drop m (replicate 9 0)))
+      → (verdictOf (o .answer) ≡ minimaAnswer s M) × (stateOf (o .dataset) (s .distances) (s .settings) ≡ minimaLeaves s M) → q ≡ afterCall o c
       → Reaches text q (s .distances) (s .settings) (entered (minimaOf text (contentsOf s) from))
   unfolding minimaOf
-  minima-goes {row} xs m {M} o {c} {q} e f h j v l k =
+  minima-goes {row} xs m {M} o {c} {q} e f h j did k =
       let read : numbersOf text (suc (contentsOf s .study .k)) from ≡ got xs c = minima-numbers e f ∙ ap (λ r. readOf r xs) h in
-      let same : M ≡ narrowMinima (minimaFrom xs) = j ∙ ap narrowMinima (minima-padded xs m) in
+      let given : M ≡ narrowMinima (minimaFrom xs) = j ∙ ap narrowMinima (minima-padded xs m) in
+      let same = as-given (minimaAnswer s) (minimaLeaves s) given (unchanged s .on-minima (minimaFrom xs)) did in
       subst (λ q. Reaches text q (s .distances) (s .settings) (entered (minimaOf text (contentsOf s) from))) (sym k)
       (rw read
-      (call-reaches
-      (minima-answers {a = o .answer} P (minimaFrom xs) (v ∙ ap (minimaAnswer s) same) (l ∙ ap (minimaLeaves s) same))
-      (numbers-within (suc (contentsOf s .study .k)) w read) P))
+      (call-reaches (minima-answers {a = o .answer} P (minimaFrom xs) same) (numbers-within (suc (contentsOf s .study .k)) w read) P))
 
 -- ---- Enter
 
@@ -146,7 +143,7 @@ module _ {text : List ℕ} {from : Cursor} {s : State} (w : CursorWithin text fr
   unfolding contentsOf
   tide-numbers e f = ap (λ m. numbersOf text m from) (study-size s ∙ sym f) ∙ sym e
 
-  pub tide-stops : {row : Row} (xs : List ℕ) {p : Packed} {q : Reached} → readOf row xs ≡ numbersOf text n from → n ≡ s .dataset .n → row ≡ Many.Stopped p
+  pub tide-stops : {row : Row} (xs : List ℕ) {p : Packed} {q : Reached} → readOf row xs ≡ numbersOf text n from → n ≡ s .dataset .n → row ≡ RowCase.Stopped p
       → q ≡ stoppedAt p (s .dataset) from → Reaches text q (s .distances) (s .settings) (entered (tideOf text (contentsOf s) x from))
   unfolding tideOf
   tide-stops xs e f h k =
@@ -154,13 +151,13 @@ module _ {text : List ℕ} {from : Cursor} {s : State} (w : CursorWithin text fr
       (record { is = rw (tide-numbers e f, h); alive = record { passed = P; within = w } })
 
   pub tide-goes : {row : Row} (xs : List ℕ) {y : ℕ} {ys d g : List ℕ} (o : Outcome) {c : Cursor} {q : Reached} → readOf row xs ≡ numbersOf text n from
-      → n ≡ s .dataset .n → row ≡ Many.Read c → y ≡ narrowed x → ys ≡ xs → verdictOf (o .answer) ≡ enterAnswer s y ys
-      → stateOf (o .dataset) d g ≡ enterLeaves s y ys → q ≡ afterCall o c → Reaches text q d g (entered (tideOf text (contentsOf s) x from))
+      → n ≡ s .dataset .n → row ≡ RowCase.Read c → y ≡ narrowed x → ys ≡ xs
+      → (verdictOf (o .answer) ≡ enterAnswer s y ys) × (stateOf (o .dataset) d g ≡ enterLeaves s y ys) → q ≡ afterCall o c
+      → Reaches text q d g (entered (tideOf text (contentsOf s) x from))
   unfolding tideOf
-  tide-goes {row} xs {y} {ys} {d} {g} o {c} {q} e f h i j v l k =
+  tide-goes {row} xs {y} {ys} {d} {g} o {c} {q} e f h i j did k =
       let read : numbersOf text (size (contentsOf s .study)) from ≡ got xs c = tide-numbers e f ∙ ap (λ r. readOf r xs) h in
+      let row-same = as-given (enterAnswer s y) (enterLeaves s y) j (refl, refl) did in
+      let same = as-given (λ z. enterAnswer s z xs) (λ z. enterLeaves s z xs) i (unchanged s .on-enter x xs) row-same in
       subst (λ q. Reaches text q d g (entered (tideOf text (contentsOf s) x from))) (sym k)
-      (rw read
-      (call-reaches
-      (enter-answers {a = o .answer} P x xs (v ∙ ap₂ (enterAnswer s) i j) (l ∙ ap₂ (enterLeaves s) i j))
-      (numbers-within (size (contentsOf s .study)) w read) P))
+      (rw read (call-reaches (enter-answers {a = o .answer} P x xs same) (numbers-within (size (contentsOf s .study)) w read) P))

@@ -16,19 +16,19 @@ use Rattle.validity.proofs.Proofs.{for-datasets}
 use Rattle.dataset.specs.Accepted.{Passed}
 use Rattle.dataset.proofs.AnswerLaws.{passed-by}
 use Rattle.lists.proofs.Tests.{T-true, true-T}
-use Rattle.study_text.specs.declared.Packed.the-variants as Says
+use Rattle.study_text.specs.declared.Packed.the-variants as PackedCase
 use Rattle.study_text.specs.declared.words.Cursor.{Cursor}
-use Rattle.study_text.specs.declared.calls.Step.the-variants as Went
+use Rattle.study_text.specs.declared.calls.Step.the-variants as StepCase
 use Rattle.study_text.specs.Words.{CursorWithin}
 use Rattle.study_text.specs.Packing.{called, going, entered}
 use Rattle.study_text.specs.Reached.{stepIs, Reaches, Begins, stoppedAt, stepAfter, afterCall}
 
 -- ---- after a call
 
-pub after-done : {o : Outcome} {c : Cursor} → o .answer ≡ Done → record { step = Went.Going; dataset = o .dataset; cursor = c } ≡ afterCall o c
+pub after-done : {o : Outcome} {c : Cursor} → o .answer ≡ Done → record { step = StepCase.Going; dataset = o .dataset; cursor = c } ≡ afterCall o c
 after-done {o} {c} e = ap (λ a. record { step = stepAfter a c; dataset = o .dataset; cursor = c }) (sym e)
 
-pub after-refused : {o : Outcome} {c : Cursor} {r : Refusal} → o .answer ≡ Refused r → stoppedAt (Says.Refused (c .line) r) (o .dataset) c ≡ afterCall o c
+pub after-refused : {o : Outcome} {c : Cursor} {r : Refusal} → o .answer ≡ Refused r → stoppedAt (PackedCase.Refused (c .line) r) (o .dataset) c ≡ afterCall o c
 after-refused {o} {c} e = ap (λ a. record { step = stepAfter a c; dataset = o .dataset; cursor = c }) (sym e)
 
 -- contents laid out are a dataset
@@ -61,7 +61,7 @@ module _ {s t : State} {v : Verdict} {new : Contents} where
   answer-keeps Done A p = answer-passed A
   answer-keeps (Refused r) A p = subst Passed (sym (A .leaves ∙ ap (λ w. settled w (stored new s) s) (sym (A .verdict)))) p
 
-  answer-begins : (a : Answer) (c : Cursor) → Answers s a t v new → stepAfter a c ≡ Went.Going → Passed t
+  answer-begins : (a : Answer) (c : Cursor) → Answers s a t v new → stepAfter a c ≡ StepCase.Going → Passed t
   answer-begins Done c A e = answer-passed A
   answer-begins (Refused r) c A e = absurd (let z : _≡_ {A = ℕ} 0 1 = cc in omega arith)
 

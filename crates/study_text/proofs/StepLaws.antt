@@ -10,9 +10,9 @@ use lib.Seq.{take-suc-set, take-all}
 use Rattle.study_text.specs.declared.Packed.{Packed}
 use Rattle.study_text.specs.declared.words.Cursor.{Cursor}
 use Rattle.study_text.specs.declared.words.Word.{Word}
-use Rattle.study_text.specs.declared.words.Word.the-variants as Next
+use Rattle.study_text.specs.declared.words.Word.the-variants as WordCase
 use Rattle.study_text.specs.declared.numbers.Given.{Given}
-use Rattle.study_text.specs.declared.numbers.Given.the-variants as One
+use Rattle.study_text.specs.declared.numbers.Given.the-variants as GivenCase
 use Rattle.study_text.specs.Words.{nextOf, CursorWithin}
 use Rattle.study_text.proofs.WordLaws.{next-within}
 use Rattle.study_text.specs.Packing.{Report, reportOf, Got, got, stop, numberFrom, numberOf, onward, numbersOf}
@@ -26,11 +26,11 @@ number-is text c e f h = h ∙ ap numberFrom (sym f ∙ e)
 
 -- ---- a row of numbers
 
-number-from : (w : Word) {x : ℕ} {d : Cursor} → numberFrom w ≡ got x d → w ≡ Next.Number x d
-number-from (Next.Number y e) h = cc
-number-from (Next.End l) h = absurd (let z : _≡_ {A = ℕ} 0 1 = cc in omega arith)
-number-from (Next.Bad l) h = absurd (let z : _≡_ {A = ℕ} 0 1 = cc in omega arith)
-number-from (Next.TooLarge l) h = absurd (let z : _≡_ {A = ℕ} 0 1 = cc in omega arith)
+number-from : (w : Word) {x : ℕ} {d : Cursor} → numberFrom w ≡ got x d → w ≡ WordCase.Number x d
+number-from (WordCase.Number y e) h = cc
+number-from (WordCase.End l) h = absurd (let z : _≡_ {A = ℕ} 0 1 = cc in omega arith)
+number-from (WordCase.Bad l) h = absurd (let z : _≡_ {A = ℕ} 0 1 = cc in omega arith)
+number-from (WordCase.TooLarge l) h = absurd (let z : _≡_ {A = ℕ} 0 1 = cc in omega arith)
 
 pub number-within : {text : List ℕ} {c d : Cursor} {x : ℕ} → CursorWithin text c → numberOf text c ≡ got x d → CursorWithin text d
 unfolding numberOf
@@ -52,7 +52,7 @@ module _ {text : List ℕ} {from : Cursor} where
   unfolding numbersOf
   row-none w = record { is = refl; within = w }
 
-  pub row-more : {row : List ℕ} {i x : ℕ} {c d : Cursor} {g : Given} → ReadTo text from i row c → givenOf g ≡ numberOf text c → g ≡ One.Number x d
+  pub row-more : {row : List ℕ} {i x : ℕ} {c d : Cursor} {g : Given} → ReadTo text from i row c → givenOf g ≡ numberOf text c → g ≡ GivenCase.Number x d
       → i < length row → ReadTo text from (i + 1) (set row i x) d
   unfolding numbersOf
   row-more {row} {i} {x} {c} {d} {g} e f h l =
@@ -62,13 +62,13 @@ module _ {text : List ℕ} {from : Cursor} where
         within = number-within (e .within) (sym f ∙ ap givenOf h);
       }
 
-  one-stops : {row : List ℕ} {i : ℕ} {c : Cursor} {g : Given} {p : Packed} → ReadTo text from i row c → givenOf g ≡ numberOf text c → g ≡ One.Stopped p
+  one-stops : {row : List ℕ} {i : ℕ} {c : Cursor} {g : Given} {p : Packed} → ReadTo text from i row c → givenOf g ≡ numberOf text c → g ≡ GivenCase.Stopped p
       → numbersOf text (suc i) from ≡ stop (reportOf p)
   unfolding numbersOf
   one-stops e f h = rw (e .is, ← f, h)
 
   pub row-stops : {row : List ℕ} {i : ℕ} {c : Cursor} {g : Given} {p : Packed} (n : ℕ) → ReadTo text from i row c → givenOf g ≡ numberOf text c
-      → g ≡ One.Stopped p → i < n → stop (reportOf p) ≡ numbersOf text n from
+      → g ≡ GivenCase.Stopped p → i < n → stop (reportOf p) ≡ numbersOf text n from
   row-stops {row} {i} {c} {g} {p} n e f h l =
       let there : n - suc i + suc i ≡ n = omega arith in
       sym (ap (λ k. numbersOf text k from) (sym there) ∙ stays text from (suc i) (n - suc i) (one-stops e f h))

@@ -15,13 +15,15 @@ use Rattle.dataset.specs.Accepted.{Passed}
 use Rattle.study_text.specs.declared.Packed.{Packed}
 use Rattle.study_text.specs.declared.words.Cursor.{Cursor}
 use Rattle.study_text.specs.declared.words.Word.{Word}
-use Rattle.study_text.specs.declared.words.Word.the-variants as Next
+use Rattle.study_text.specs.declared.words.Word.the-variants as WordCase
 use Rattle.study_text.specs.declared.calls.Over.{Over}
-use Rattle.study_text.specs.declared.calls.Over.the-variants as Last
-use Rattle.study_text.specs.declared.calls.Step.the-variants as Went
+use Rattle.study_text.specs.declared.calls.Over.the-variants as OverCase
+use Rattle.study_text.specs.declared.calls.Step.the-variants as StepCase
 use Rattle.study_text.specs.declared.calls.Reached.{Reached}
 use Rattle.study_text.specs.Words.{nextOf, CursorWithin}
-use Rattle.study_text.specs.Packing.{reportOf, Got, got, stop, numberOf, numbersOf, onward, called, minimaFrom, openingOf, minimaOf, headOf, tideOf, Turn, going, ended, stopped, entered, turnFrom, turnOf, further, turnsOf, textOf}
+use Rattle.study_text.specs.Packing.{reportOf, Got, got, stop, numberOf, numbersOf, onward, called, minimaFrom}
+use Rattle.study_text.specs.Packing.{openingOf, minimaOf, headOf, tideOf, Turn, going, ended, stopped, entered}
+use Rattle.study_text.specs.Packing.{turnFrom, turnOf, further, turnsOf, textOf}
 use Rattle.study_text.specs.Reached.{overIs, stepIs, reachedOf, Reaches, Begins, Finishes, stoppedAt}
 
 -- ---- one turn
@@ -31,13 +33,13 @@ module _ (text : List ℕ) (c : Cursor) {w : Word} (e : w ≡ nextOf text c) whe
   unfolding turnOf
   turn-is H h = ap (turnFrom text H) (sym h ∙ e)
 
-  pub turn-goes : (H : Contents) {x : ℕ} {f : Cursor} {r : Reached} {d s : List ℕ} → w ≡ Next.Number x f → Reaches text r d s (entered (tideOf text H x f))
+  pub turn-goes : (H : Contents) {x : ℕ} {f : Cursor} {r : Reached} {d s : List ℕ} → w ≡ WordCase.Number x f → Reaches text r d s (entered (tideOf text H x f))
       → Reaches text r d s (turnOf text H c)
   turn-goes H h R = record { is = R .is ∙ turn-is H h; alive = R .alive }
 
   module _ {r : Dataset} {d s : List ℕ} (W : CursorWithin text c) (P : Passed (stateOf r d s)) where
-    pub turn-ends : {l : ℕ} → w ≡ Next.End l
-        → Reaches text (record { step = Went.Over (Last.End l); dataset = r; cursor = c }) d s (turnOf text (contentsOf (stateOf r d s)) c)
+    pub turn-ends : {l : ℕ} → w ≡ WordCase.End l
+        → Reaches text (record { step = StepCase.Over (OverCase.End l); dataset = r; cursor = c }) d s (turnOf text (contentsOf (stateOf r d s)) c)
     turn-ends h = record { is = turn-is (contentsOf (stateOf r d s)) h; alive = record { passed = P; within = W } }
 
     pub turn-stops : {v : Word} {p : Packed} {q : Reached} → w ≡ v → stopped (reportOf p) ≡ turnFrom text (contentsOf (stateOf r d s)) v → q ≡ stoppedAt p r c
@@ -76,10 +78,10 @@ unfolding turnOf
 turn-size text H c {K} {d} = by (nextOf text c)
   where
     by : (w : Word) → turnFrom text H w ≡ going K d → size (K .study) ≡ suc (size (H .study))
-    by (Next.Number x e) h = tide-size text H x e (entered-got (tideOf text H x e) h)
-    by (Next.End l) h = absurd (let z : _≡_ {A = ℕ} 0 1 = cc in omega arith)
-    by (Next.Bad l) h = absurd (let z : _≡_ {A = ℕ} 0 1 = cc in omega arith)
-    by (Next.TooLarge l) h = absurd (let z : _≡_ {A = ℕ} 0 1 = cc in omega arith)
+    by (WordCase.Number x e) h = tide-size text H x e (entered-got (tideOf text H x e) h)
+    by (WordCase.End l) h = absurd (let z : _≡_ {A = ℕ} 0 1 = cc in omega arith)
+    by (WordCase.Bad l) h = absurd (let z : _≡_ {A = ℕ} 0 1 = cc in omega arith)
+    by (WordCase.TooLarge l) h = absurd (let z : _≡_ {A = ℕ} 0 1 = cc in omega arith)
 
 abbrev Empty : Contents → Type 0
 Empty K = size (K .study) ≡ 0
@@ -107,19 +109,19 @@ head-empty text =
 
 over-stop : (g : Got Contents) (o : Over) (H : Contents) (f : Contents → Cursor → Got Contents) → overIs o H ≡ entered g → entered g ≡ entered (onward g f)
 over-stop (stop t) o H f e = refl
-over-stop (got K c) (Last.End l) H f e = absurd (let z : _≡_ {A = ℕ} 0 1 = cc in omega arith)
-over-stop (got K c) (Last.Stopped p) H f e = absurd (let z : _≡_ {A = ℕ} 0 1 = cc in omega arith)
+over-stop (got K c) (OverCase.End l) H f e = absurd (let z : _≡_ {A = ℕ} 0 1 = cc in omega arith)
+over-stop (got K c) (OverCase.Stopped p) H f e = absurd (let z : _≡_ {A = ℕ} 0 1 = cc in omega arith)
 
 module _ {text : List ℕ} {r : Reached} {d s : List ℕ} where
   -- where it stops
-  begins-over : {g : Got Contents} {o : Over} → Begins text r d s g → r .step ≡ Went.Over o → overIs o (contentsOf (stateOf (r .dataset) d s)) ≡ entered g
+  begins-over : {g : Got Contents} {o : Over} → Begins text r d s g → r .step ≡ StepCase.Over o → overIs o (contentsOf (stateOf (r .dataset) d s)) ≡ entered g
   begins-over B h = sym (ap (λ t. stepIs t (contentsOf (stateOf (r .dataset) d s)) (r .cursor)) h) ∙ B .is
 
   -- what goes on
-  begins-got : (g : Got Contents) → Begins text r d s g → r .step ≡ Went.Going → g ≡ got (contentsOf (stateOf (r .dataset) d s)) (r .cursor)
+  begins-got : (g : Got Contents) → Begins text r d s g → r .step ≡ StepCase.Going → g ≡ got (contentsOf (stateOf (r .dataset) d s)) (r .cursor)
   begins-got g B h = entered-got g (sym (B .is) ∙ ap (λ t. stepIs t (contentsOf (stateOf (r .dataset) d s)) (r .cursor)) h)
 
-  pub head-stops : {o : Over} → Begins text r d s (openingOf text (record { at = 0; line = 1 })) → r .step ≡ Went.Over o → Begins text r d s (headOf text)
+  pub head-stops : {o : Over} → Begins text r d s (openingOf text (record { at = 0; line = 1 })) → r .step ≡ StepCase.Over o → Begins text r d s (headOf text)
   unfolding headOf
   head-stops {o} B h =
       record {
@@ -127,7 +129,7 @@ module _ {text : List ℕ} {r : Reached} {d s : List ℕ} where
         alive = λ k. absurd (let z : _≡_ {A = ℕ} 0 1 = cc in omega arith);
       }
 
-  pub head-goes : {q : Reached} → Begins text r d s (openingOf text (record { at = 0; line = 1 })) → r .step ≡ Went.Going
+  pub head-goes : {q : Reached} → Begins text r d s (openingOf text (record { at = 0; line = 1 })) → r .step ≡ StepCase.Going
       → Reaches text q d s (entered (minimaOf text (contentsOf (stateOf (r .dataset) d s)) (r .cursor))) → Begins text q d s (headOf text)
   unfolding headOf
   head-goes {q} B h R =
@@ -146,8 +148,8 @@ turns-over text t o H m (suc n) e =
     still o ∙ ap (λ u. further u (turnOf text)) (turns-over text t o H m n e) ∙ ap (λ k. turnsOf text k t) (sym (suc-add n m))
   where
     still : (o : Over) → overIs o H ≡ further (overIs o H) (turnOf text)
-    still (Last.End l) = refl
-    still (Last.Stopped p) = refl
+    still (OverCase.End l) = refl
+    still (OverCase.Stopped p) = refl
 
 pub record Midway (text : List ℕ) (r : Dataset) (d s : List ℕ) (c : Cursor) : Type 0 where
   pub within : CursorWithin text c
@@ -164,10 +166,10 @@ module _ {text : List ℕ} {q : Dataset} {d s : List ℕ} {c : Cursor} {r : Reac
   unfolding turnsOf
   next-turn = ap (λ t. further t (turnOf text)) (M .turns) ∙ sym (R .is)
 
-  reached-going : r .step ≡ Went.Going → reachedOf r e g ≡ going (contentsOf (stateOf (r .dataset) e g)) (r .cursor)
+  reached-going : r .step ≡ StepCase.Going → reachedOf r e g ≡ going (contentsOf (stateOf (r .dataset) e g)) (r .cursor)
   reached-going h = ap (λ t. stepIs t (contentsOf (stateOf (r .dataset) e g)) (r .cursor)) h
 
-  pub midway-size : r .step ≡ Went.Going → r .dataset .n ≡ q .n + 1
+  pub midway-size : r .step ≡ StepCase.Going → r .dataset .n ≡ q .n + 1
   midway-size h =
       omega (
         arith,
@@ -176,7 +178,7 @@ module _ {text : List ℕ} {q : Dataset} {d s : List ℕ} {c : Cursor} {r : Reac
         turn-size text (contentsOf (stateOf q d s)) c (sym (R .is) ∙ reached-going h),
       )
 
-  pub midway-more : r .step ≡ Went.Going → Midway text (r .dataset) e g (r .cursor)
+  pub midway-more : r .step ≡ StepCase.Going → Midway text (r .dataset) e g (r .cursor)
   midway-more h =
       let n : r .dataset .n ≡ suc (q .n) = omega (arith, midway-size h) in
       record {
@@ -185,7 +187,7 @@ module _ {text : List ℕ} {q : Dataset} {d s : List ℕ} {c : Cursor} {r : Reac
         turns = ap (λ k. turnsOf text k (entered (headOf text))) n ∙ next-turn ∙ reached-going h;
       }
 
-  pub midway-ends : {o : Over} → r .step ≡ Went.Over o → Finishes (record { over = o; dataset = r .dataset }) e g (textOf text)
+  pub midway-ends : {o : Over} → r .step ≡ StepCase.Over o → Finishes (record { over = o; dataset = r .dataset }) e g (textOf text)
   unfolding textOf
   midway-ends {o} h =
       let H = contentsOf (stateOf (r .dataset) e g) in
@@ -204,7 +206,7 @@ head-lasts (got K c) l H e = let z : _≡_ {A = ℕ} 0 1 = cc in omega arith
 head-lasts (stop t) l H e = let z : _≡_ {A = ℕ} 0 1 = cc in omega arith
 
 module _ {text : List ℕ} {r : Reached} {d s : List ℕ} (B : Begins text r d s (headOf text)) where
-  pub text-begins : r .step ≡ Went.Going → Midway text (r .dataset) d s (r .cursor)
+  pub text-begins : r .step ≡ StepCase.Going → Midway text (r .dataset) d s (r .cursor)
   unfolding turnsOf
   text-begins h =
       let n : 0 ≡ r .dataset .n = sym (head-empty text (begins-got (headOf text) B h)) ∙ contents-size (stateOf (r .dataset) d s) in
@@ -215,7 +217,7 @@ module _ {text : List ℕ} {r : Reached} {d s : List ℕ} (B : Begins text r d s
             ∙ ap (λ t. stepIs t (contentsOf (stateOf (r .dataset) d s)) (r .cursor)) h;
       }
 
-  pub text-stops : {o : Over} → r .step ≡ Went.Over o → Finishes (record { over = o; dataset = r .dataset }) d s (textOf text)
+  pub text-stops : {o : Over} → r .step ≡ StepCase.Over o → Finishes (record { over = o; dataset = r .dataset }) d s (textOf text)
   unfolding textOf turnsOf
   text-stops {o} h =
       record {

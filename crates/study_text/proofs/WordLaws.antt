@@ -13,10 +13,11 @@ use borrow.Author.Tests.{lt-ltb, le-ltb, le-leb, lt-leb, eq-eqb, ne-eqb}
 use Rattle.lists.specs.Lists.{bit, between, allOf}
 use Rattle.lists.proofs.Tests.{split, between-T, true-T}
 use Rattle.study_text.specs.declared.words.Cursor.{Cursor}
-use Rattle.study_text.specs.declared.words.Word.the-variants as Next
+use Rattle.study_text.specs.declared.words.Word.the-variants as WordCase
 use Rattle.study_text.specs.declared.words.Numeral.{Numeral}
-use Rattle.study_text.specs.declared.words.Numeral.the-variants as Numerals
-use Rattle.study_text.specs.Words.{newline, newlines, endsWord, begins, commentAfter, past, startOf, wordOf, digit, withDigit, valueFrom, numeralOf, wordFrom, wordAt, nextOf, CursorWithin, capped}
+use Rattle.study_text.specs.declared.words.Numeral.the-variants as NumeralCase
+use Rattle.study_text.specs.Words.{newline, newlines, endsWord, begins, commentAfter, past, startOf, wordOf}
+use Rattle.study_text.specs.Words.{digit, withDigit, valueFrom, numeralOf, wordFrom, wordAt, nextOf, CursorWithin, capped}
 
 -- ---- places
 
@@ -127,7 +128,7 @@ module _ (word : List ℕ) (i : ℕ) where
   unfolding valueFrom
   value-more v h e f = rw e (capped-value (withDigit v (getD word i 0)) (drop (i + 1) word) ∙ sym (rw (left word i h)) ∙ f)
 
-  pub numeral-bad : i < length word → digit (getD word i 0) ≡ false → allOf digit (drop i word) ≡ allOf digit word → Numerals.Bad ≡ numeralOf word
+  pub numeral-bad : i < length word → digit (getD word i 0) ≡ false → allOf digit (drop i word) ≡ allOf digit word → NumeralCase.Bad ≡ numeralOf word
   unfolding numeralOf
   numeral-bad h t e = let f : allOf digit word ≡ false = sym e ∙ rw (left word i h, t) in rw f
 
@@ -140,7 +141,7 @@ module _ (word : List ℕ) (i : ℕ) where
     unfolding valueFrom
     value-is = sym (rw (none-left word i end)) ∙ told
 
-    pub numeral-number : v < 4294967296 → Numerals.Number v ≡ numeralOf word
+    pub numeral-number : v < 4294967296 → NumeralCase.Number v ≡ numeralOf word
     unfolding numeralOf
     numeral-number h = rw (all-digits, ← same, le-leb v 4294967295 (omega arith))
       where
@@ -150,7 +151,7 @@ module _ (word : List ℕ) (i : ℕ) where
             (λ (g : 4294967296 ≤ valueFrom 0 word). omega (arith, capped-small v h, value-is, capped-large (valueFrom 0 word) g))
             (split (valueFrom 0 word) 4294967296)
 
-    pub numeral-large : 4294967296 ≤ v → Numerals.TooLarge ≡ numeralOf word
+    pub numeral-large : 4294967296 ≤ v → NumeralCase.TooLarge ≡ numeralOf word
     unfolding numeralOf
     numeral-large h =
         let large : 4294967295 < valueFrom 0 word =
@@ -194,7 +195,7 @@ word-front (b ∷ bs) = by (endsWord b) (word-front bs)
 
 module _ (text : List ℕ) (c : Cursor) {start : Cursor} (e : start ≡ startOf false c (drop (c .at) text)) (end : ℕ)
     (f : end ≡ start .at + length (wordOf (drop (start .at) text))) where
-  pub next-end : end ≡ start .at → Next.End (start .line) ≡ nextOf text c
+  pub next-end : end ≡ start .at → WordCase.End (start .line) ≡ nextOf text c
   unfolding nextOf wordAt
   next-end h = rw (← e, eq-eqb (length (wordOf (drop (start .at) text))) 0 (omega arith))
 
@@ -209,15 +210,15 @@ module _ (text : List ℕ) (c : Cursor) {start : Cursor} (e : start ≡ startOf 
         long : end - start .at ≡ length (wordOf (drop (start .at) text))
         long = omega arith
 
-    pub next-number : {x : ℕ} → found ≡ Numerals.Number x → Next.Number x (record { at = end; line = start .line }) ≡ nextOf text c
+    pub next-number : {x : ℕ} → found ≡ NumeralCase.Number x → WordCase.Number x (record { at = end; line = start .line }) ≡ nextOf text c
     next-number {x} k =
         let there : end ≡ start .at + (end - start .at) = omega arith in
-        ap (λ n. Next.Number x (record { at = n; line = start .line })) there ∙ sym (ap (wordFrom start (end - start .at)) k) ∙ next-word
+        ap (λ n. WordCase.Number x (record { at = n; line = start .line })) there ∙ sym (ap (wordFrom start (end - start .at)) k) ∙ next-word
 
-    pub next-bad : found ≡ Numerals.Bad → Next.Bad (start .line) ≡ nextOf text c
+    pub next-bad : found ≡ NumeralCase.Bad → WordCase.Bad (start .line) ≡ nextOf text c
     next-bad k = sym (ap (wordFrom start (end - start .at)) k) ∙ next-word
 
-    pub next-large : found ≡ Numerals.TooLarge → Next.TooLarge (start .line) ≡ nextOf text c
+    pub next-large : found ≡ NumeralCase.TooLarge → WordCase.TooLarge (start .line) ≡ nextOf text c
     next-large k = sym (ap (wordFrom start (end - start .at)) k) ∙ next-word
 
 -- ---- the place after a number
@@ -231,17 +232,17 @@ word-short (b ∷ bs) = by (endsWord b) (word-short bs)
     by true h = omega arith
     by false h = omega arith
 
-word-within : {text : List ℕ} {start d : Cursor} {x : ℕ} → CursorWithin text start → wordAt text start ≡ Next.Number x d → CursorWithin text d
+word-within : {text : List ℕ} {start d : Cursor} {x : ℕ} → CursorWithin text start → wordAt text start ≡ WordCase.Number x d → CursorWithin text d
 unfolding wordAt
 word-within {text} {start} {d} {x} w e = by (eqb n 0) (numeralOf (wordOf (drop (start .at) text))) e
   where
     n : ℕ
     n = length (wordOf (drop (start .at) text))
 
-    by : (t : Bool) (f : Numeral) → cond t (Next.End (start .line)) (wordFrom start (length (wordOf (drop (start .at) text))) f) ≡ Next.Number x d
+    by : (t : Bool) (f : Numeral) → cond t (WordCase.End (start .line)) (wordFrom start (length (wordOf (drop (start .at) text))) f) ≡ WordCase.Number x d
         → CursorWithin text d
     by true f h = absurd (let z : _≡_ {A = ℕ} 0 1 = cc in omega arith)
-    by false (Numerals.Number y) h =
+    by false (NumeralCase.Number y) h =
         let q : record { at = start .at + length (wordOf (drop (start .at) text)); line = start .line } ≡ d = cc in
         subst (CursorWithin text) q
         (record {
@@ -249,9 +250,9 @@ word-within {text} {start} {d} {x} w e = by (eqb n 0) (numeralOf (wordOf (drop (
           inside = omega (arith, w .inside, word-short (drop (start .at) text), length-drop (start .at) text);
           line-low = omega (arith, w .line-low);
         })
-    by false Numerals.Bad h = absurd (let z : _≡_ {A = ℕ} 0 1 = cc in omega arith)
-    by false Numerals.TooLarge h = absurd (let z : _≡_ {A = ℕ} 0 1 = cc in omega arith)
+    by false NumeralCase.Bad h = absurd (let z : _≡_ {A = ℕ} 0 1 = cc in omega arith)
+    by false NumeralCase.TooLarge h = absurd (let z : _≡_ {A = ℕ} 0 1 = cc in omega arith)
 
-pub next-within : {text : List ℕ} {c d : Cursor} {x : ℕ} → CursorWithin text c → nextOf text c ≡ Next.Number x d → CursorWithin text d
+pub next-within : {text : List ℕ} {c d : Cursor} {x : ℕ} → CursorWithin text c → nextOf text c ≡ WordCase.Number x d → CursorWithin text d
 unfolding nextOf
 next-within w e = word-within (start-within w) e

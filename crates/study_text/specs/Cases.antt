@@ -7,11 +7,13 @@ use Rattle.study.specs.Refusals.{number, seven}
 use Rattle.sheet_text.specs.Text.{ascii}
 use Rattle.study_text.specs.Packing.{Report, done, refusedAt, notNumber, tooLarge, missing, packAnswer, packLeaves}
 
+-- a text, and what is said of it
 pub record TextCase : Type 0 where
   pub text : String
   pub report : Report
 
 infix 10 _gives_
+-- a case as it is written below
 abbrev pub _gives_ : String → Report → TextCase
 t gives a = record { text = t; report = a }
 

@@ -12,10 +12,10 @@ use Rattle.study.specs.Refusals.{Numbered, number, numbered, Verdict, accepted,
 use Rattle.study.specs.Calls.{openReasons, opening, minimaReasons, settingMinima, enterReasons, entering}
 use Rattle.file_format.specs.File.{fileOf}
 use Rattle.study_text.specs.declared.Packed.{Packed}
-use Rattle.study_text.specs.declared.Packed.the-variants as Says
+use Rattle.study_text.specs.declared.Packed.the-variants as PackedCase
 use Rattle.study_text.specs.declared.words.Cursor.{Cursor}
 use Rattle.study_text.specs.declared.words.Word.{Word}
-use Rattle.study_text.specs.declared.words.Word.the-variants as Next
+use Rattle.study_text.specs.declared.words.Word.the-variants as WordCase
 use Rattle.study_text.specs.Words.{newlines, nextOf}
 
 -- what is said of a text: the file's length, or a line and what is wrong there
@@ -29,12 +29,12 @@ pub data Report : Type 0 where
 
 -- the code's answer, by document 01's numbers
 abbrev pub reportOf : Packed → Report
-reportOf (Says.Done n) = done n
-reportOf (Says.Refused l r) = refusedAt l (numbered r)
-reportOf (Says.NotANumber l) = notNumber l
-reportOf (Says.TooLarge l) = tooLarge l
-reportOf (Says.Missing l) = missing l
-reportOf (Says.TooLong l) = tooLong l
+reportOf (PackedCase.Done n) = done n
+reportOf (PackedCase.Refused l r) = refusedAt l (numbered r)
+reportOf (PackedCase.NotANumber l) = notNumber l
+reportOf (PackedCase.TooLarge l) = tooLarge l
+reportOf (PackedCase.Missing l) = missing l
+reportOf (PackedCase.TooLong l) = tooLong l
 
 -- ---- numbers that must stand next
 
@@ -43,15 +43,18 @@ pub data Got (A : Type 0) : Type 0 where
   got : A → Cursor → Got A
   stop : Report → Got A
 
+-- a word where a number must stand
 abbrev pub numberFrom : Word → Got ℕ
-numberFrom (Next.Number x c) = got x c
-numberFrom (Next.End l) = stop (missing l)
-numberFrom (Next.Bad l) = stop (notNumber l)
-numberFrom (Next.TooLarge l) = stop (tooLarge l)
+numberFrom (WordCase.Number x c) = got x c
+numberFrom (WordCase.End l) = stop (missing l)
+numberFrom (WordCase.Bad l) = stop (notNumber l)
+numberFrom (WordCase.TooLarge l) = stop (tooLarge l)
 
+-- the number that stands next
 unfoldable pub numberOf : List ℕ → Cursor → Got ℕ
 numberOf text c = numberFrom (nextOf text c)
 
+-- go on with what was read, or stop
 abbrev pub onward : {A B : Type 0} → Got A → (A → Cursor → Got B) → Got B
 onward (got x c) f = f x c
 onward (stop t) f = stop t
@@ -72,14 +75,17 @@ called (refused r) H c = stop (refusedAt (c .line) r)
 unfoldable pub minimaFrom : List ℕ → Minima
 minimaFrom xs = record { b0 = getD xs 0 0; b = tabulate 8 (λ j. getD xs (suc j) 0) }
 
+-- Open with the k that stands next
 unfoldable pub openingOf : List ℕ → Cursor → Got Contents
 openingOf text c = onward (numberOf text c) (λ k d. called (firstOf (openReasons k)) (opening k) d)
 
+-- Minima with the numbers that stand next: b0, and a b for each setting
 unfoldable pub minimaOf : List ℕ → Contents → Cursor → Got Contents
 minimaOf text H c =
     onward (numbersOf text (suc (H .study .k)) c)
     (λ xs d. called (firstOf (minimaReasons (H .study) (minimaFrom xs))) (settingMinima (minimaFrom xs) H) d)
 
+-- both, from the text's first byte
 unfoldable pub headOf : List ℕ → Got Contents
 headOf text = onward (openingOf text (record { at = 0; line = 1 })) (minimaOf text)
 
@@ -97,19 +103,23 @@ pub data Turn : Type 0 where
   ended : Contents → ℕ → Turn
   stopped : Report → Turn
 
+-- a call's end as a turn: accepted, the text goes on
 abbrev pub entered : Got Contents → Turn
 entered (got H c) = going H c
 entered (stop t) = stopped t
 
+-- a turn by its first word: a tide's setting, the text's end, or no number
 abbrev pub turnFrom : List ℕ → Contents → Word → Turn
-turnFrom text H (Next.Number x c) = entered (tideOf text H x c)
-turnFrom text H (Next.End l) = ended H l
-turnFrom text H (Next.Bad l) = stopped (notNumber l)
-turnFrom text H (Next.TooLarge l) = stopped (tooLarge l)
+turnFrom text H (WordCase.Number x c) = entered (tideOf text H x c)
+turnFrom text H (WordCase.End l) = ended H l
+turnFrom text H (WordCase.Bad l) = stopped (notNumber l)
+turnFrom text H (WordCase.TooLarge l) = stopped (tooLarge l)
 
+-- the turn from a place on
 unfoldable pub turnOf : List ℕ → Contents → Cursor → Turn
 turnOf text H c = turnFrom text H (nextOf text c)
 
+-- one more turn, where the last one goes on
 abbrev pub further : Turn → (Contents → Cursor → Turn) → Turn
 further (going H c) f = f H c
 further (ended H l) f = ended H l
@@ -120,8 +130,9 @@ unfoldable pub turnsOf : List ℕ → ℕ → Turn → Turn
 turnsOf text zero t = t
 turnsOf text (suc n) t = further (turnsOf text n t) (turnOf text)
 
--- ---- the whole text; 120 tides are the most, so that 121 turns come to an end
+-- ---- the whole text
 
+-- 120 tides are the most, so that 121 turns come to an end
 unfoldable pub textOf : List ℕ → Turn
 textOf text = turnsOf text 121 (entered (headOf text))
 

@@ -7,14 +7,15 @@ use lib.ListN.{length, drop}
 use Rattle.lists.specs.Lists.{between, bit, allOf}
 use Rattle.study_text.specs.declared.words.Cursor.{Cursor}
 use Rattle.study_text.specs.declared.words.Word.{Word}
-use Rattle.study_text.specs.declared.words.Word.the-variants as Next
+use Rattle.study_text.specs.declared.words.Word.the-variants as WordCase
 use Rattle.study_text.specs.declared.words.Numeral.{Numeral}
-use Rattle.study_text.specs.declared.words.Numeral.the-variants as Numerals
+use Rattle.study_text.specs.declared.words.Numeral.the-variants as NumeralCase
 
 -- 1 for a line's end
 abbrev pub newline : ℕ → ℕ
 newline b = bit (eqb b 10)
 
+-- how many lines end in these bytes
 unfoldable pub newlines : List ℕ → ℕ
 newlines [] = 0
 newlines (b ∷ bs) = newline b + newlines bs
@@ -47,6 +48,7 @@ wordOf (b ∷ bs) = cond (endsWord b) [] (b ∷ wordOf bs)
 
 -- ---- numbers
 
+-- 0 to 9
 unfoldable pub digit : ℕ → Bool
 digit b = between 48 57 b
 
@@ -54,26 +56,30 @@ digit b = between 48 57 b
 unfoldable pub withDigit : ℕ → ℕ → ℕ
 withDigit v b = v * 10 + (b - 48)
 
+-- the number that the digits make after v
 unfoldable pub valueFrom : ℕ → List ℕ → ℕ
 valueFrom v [] = v
 valueFrom v (b ∷ bs) = valueFrom (withDigit v b) bs
 
+-- a word as a number: digits alone, and of 32 bits
 unfoldable pub numeralOf : List ℕ → Numeral
-numeralOf w = cond (allOf digit w) (cond (leb (valueFrom 0 w) 4294967295) (Numerals.Number (valueFrom 0 w)) Numerals.TooLarge) Numerals.Bad
+numeralOf w = cond (allOf digit w) (cond (leb (valueFrom 0 w) 4294967295) (NumeralCase.Number (valueFrom 0 w)) NumeralCase.TooLarge) NumeralCase.Bad
 
--- ---- the next word from a place on
+-- ---- words
 
 -- a word of so many bytes
 abbrev pub wordFrom : Cursor → ℕ → Numeral → Word
-wordFrom start n (Numerals.Number x) = Next.Number x (record { at = start .at + n; line = start .line })
-wordFrom start n Numerals.Bad = Next.Bad (start .line)
-wordFrom start n Numerals.TooLarge = Next.TooLarge (start .line)
+wordFrom start n (NumeralCase.Number x) = WordCase.Number x (record { at = start .at + n; line = start .line })
+wordFrom start n NumeralCase.Bad = WordCase.Bad (start .line)
+wordFrom start n NumeralCase.TooLarge = WordCase.TooLarge (start .line)
 
+-- the word that begins at a place; without one the text ends there
 unfoldable pub wordAt : List ℕ → Cursor → Word
 wordAt text start =
     let w = wordOf (drop (start .at) text) in
-    cond (eqb (length w) 0) (Next.End (start .line)) (wordFrom start (length w) (numeralOf w))
+    cond (eqb (length w) 0) (WordCase.End (start .line)) (wordFrom start (length w) (numeralOf w))
 
+-- the next word from a place on
 unfoldable pub nextOf : List ℕ → Cursor → Word
 nextOf text c = wordAt text (startOf false c (drop (c .at) text))
 

@@ -13,14 +13,14 @@ use dataset::set_minima;
 use narrowing::narrow;
 use study::Answer;
 use study::Dataset;
+use study::MAX_TIDES;
 use study::Minima;
 use study::Outcome;
-use study::MAX_TIDES;
 ghost use mathlib.Core.Path.{_≡_};
 ghost use Prim.Native.Nat.{_≤_};
 ghost use lib.ListN.{length};
 ghost use Rattle.study.specs.Limits.{maxTides, tableSize};
-ghost use Rattle.validity.specs.Memory.{stateOf, contentsOf, entryState};
+ghost use Rattle.validity.specs.Memory.{stateOf, contentsOf};
 ghost use Rattle.dataset.specs.Accepted.{Passed};
 ghost use Rattle.study_text.specs.Packing.{minimaFrom, openingOf, minimaOf, headOf, tideOf, entered, turnOf, turnsOf, textOf, going};
 ghost use Rattle.study_text.specs.Words.{CursorWithin};
@@ -33,6 +33,7 @@ pub enum Over {
     Stopped(Packed),
 }
 
+// Whether more is read.
 pub enum Step {
     Going,
     Over(Over),
@@ -52,6 +53,7 @@ pub struct Finished {
     pub dataset: Dataset,
 }
 
+// No more is read.
 fn stopped(why: Packed, dataset: Dataset, cursor: Cursor) -> Reached
     ensures { λ r. ⌜ r ≡ stoppedAt why dataset cursor ⌝ }
 {
@@ -99,6 +101,7 @@ fn read_open(text: &[u8], distances: &mut [u32], settings: &mut [u8], from: Curs
     }
 }
 
+// b0, and the b's, each as a byte.
 fn minima_of(xs: [u32; 9]) -> Minima
     ensures { λ r. ⌜ r ≡ narrowMinima (minimaFrom xs) ⌝ }
 {
@@ -127,7 +130,8 @@ fn read_minima(
     from: Cursor,
 ) -> Reached
     requires { ⌜ CursorWithin (now text) from × Passed (stateOf dataset (now distances) (now settings)) ⌝ }
-    ensures { λ r. ⌜ Reaches (now (text .entry)) r (now (distances .entry)) (now (settings .entry)) (entered (minimaOf (now (text .entry)) (contentsOf (entryState dataset distances settings)) from)) ⌝ }
+    ensures { λ r. ⌜ Reaches (now (text .entry)) r (now (distances .entry)) (now (settings .entry))
+        (entered (minimaOf (now (text .entry)) (contentsOf (stateOf dataset (now (distances .entry)) (now (settings .entry)))) from)) ⌝ }
 {
     let mut xs = [0u32; 9];
     let n = dataset.k as usize + 1;
@@ -152,7 +156,8 @@ fn read_tide(
     from: Cursor,
 ) -> Reached
     requires { ⌜ CursorWithin (now text) from × Passed (stateOf dataset (now distances) (now settings)) × (maxTides ≤ length (now row)) ⌝ }
-    ensures { λ r. ⌜ Reaches (now (text .entry)) r (now (distances .exit)) (now (settings .exit)) (entered (tideOf (now (text .entry)) (contentsOf (entryState dataset distances settings)) setting from)) ⌝ }
+    ensures { λ r. ⌜ Reaches (now (text .entry)) r (now (distances .exit)) (now (settings .exit))
+        (entered (tideOf (now (text .entry)) (contentsOf (stateOf dataset (now (distances .entry)) (now (settings .entry)))) setting from)) ⌝ }
 {
     let n = dataset.n;
     let read = read_row(text, from, &mut row[..n]);
@@ -175,7 +180,8 @@ fn next_tide(
     from: Cursor,
 ) -> Reached
     requires { ⌜ CursorWithin (now text) from × Passed (stateOf dataset (now distances) (now settings)) × (maxTides ≤ length (now row)) ⌝ }
-    ensures { λ r. ⌜ Reaches (now (text .entry)) r (now (distances .exit)) (now (settings .exit)) (turnOf (now (text .entry)) (contentsOf (entryState dataset distances settings)) from) ⌝ }
+    ensures { λ r. ⌜ Reaches (now (text .entry)) r (now (distances .exit)) (now (settings .exit))
+        (turnOf (now (text .entry)) (contentsOf (stateOf dataset (now (distances .entry)) (now (settings .entry)))) from) ⌝ }
 {
     let word = next(text, from);
     match word {

@@ -3,11 +3,11 @@ use crate::calls::Finished;
 use crate::calls::Over;
 use crate::calls::read_text;
 use crate::words::whole_lines;
+use study::MAX_TIDES;
 use study::Refusal;
+use study::TABLE_SIZE;
 use study_file::Written;
 use study_file::write;
-use study::MAX_TIDES;
-use study::TABLE_SIZE;
 
 mod calls;
 mod numbers;

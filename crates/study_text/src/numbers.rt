@@ -9,12 +9,14 @@ ghost use Rattle.study_text.specs.Packing.{numberOf, numbersOf};
 ghost use Rattle.study_text.specs.Steps.{givenOf, readOf};
 ghost use Rattle.study_text.specs.Words.{CursorWithin};
 
+// The number that stands next, or what stops the reading.
 pub enum Given {
     // The number and the place after it.
     Number(u32, Cursor),
     Stopped(Packed),
 }
 
+// A row of numbers that was read, or what stops the reading.
 pub enum Row {
     // The place after the last number.
     Read(Cursor),

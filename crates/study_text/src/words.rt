@@ -4,8 +4,8 @@ ghost use mathlib.Core.Path.{_≡_};
 ghost use mathlib.Core.Bool.{false};
 ghost use Prim.Native.Nat.{_+_, _≤_, _<_};
 ghost use lib.ListN.{length, drop};
-ghost use Rattle.study_text.specs.Words.{newline, newlines, endsWord, begins, commentAfter, digit, withDigit, startOf, wordOf, numeralOf, nextOf};
-ghost use Rattle.study_text.specs.Words.{CursorWithin, capped};
+ghost use Rattle.study_text.specs.Words.{newline, newlines, endsWord, begins, commentAfter, digit, withDigit};
+ghost use Rattle.study_text.specs.Words.{startOf, wordOf, numeralOf, nextOf, CursorWithin, capped};
 
 // A place in the text, and its line, from 1.
 pub struct Cursor {
@@ -13,6 +13,7 @@ pub struct Cursor {
     pub line: usize,
 }
 
+// What stands next, with its line or the place after it.
 pub enum Word {
     // The number and the place after it.
     Number(u32, Cursor),
@@ -24,6 +25,7 @@ pub enum Word {
     TooLarge(usize),
 }
 
+// A word as a number.
 pub enum Numeral {
     Number(u32),
     Bad,

@@ -1,4 +1,4 @@
--- One law for each way out. Assumes nothing.
+-- One law for each way out: a list that is too short, a refusal, an answer. No loop. Assumes nothing.
 use borrow.Author.Needs.{needs}
 use native.Mathlib.Omega.{arith}
 use mathlib.Core.Logic.{inl, inr}
@@ -17,34 +17,37 @@ refusal-code-requires c κs = block-narrow _ _ _ _ (c .before .before .before .b
 
 put-columns-requires : tie.Need-put-columns-requires
 put-columns-requires c κs =
-    let k = c .before .before .before .before .before .before .before .before .before in
-    let e = k .block-core .ensures in
-    columns-fit _ _ _ _ (e .0) (c .before .before .before .before .answer2 .given .1) (e .1 .0) _ _ _ (k .before .before .before .least .ensures)
+    let told = c .before .before .before .before in
+    let called = told .before .before .before .before .before in
+    let e = called .block-core .ensures in
+    columns-fit _ _ _ _ (e .0) (told .answer2 .given .1) (e .1 .0) _ _ _ (called .before .before .before .least .ensures)
 
 cast-count : tie.Need-cast-count
 cast-count c =
-    let k = c .before .before .before .before .before .before .before .before .before .before .before in
-    let e = k .before .before .before .before .before .block-core .ensures in
-    omega (arith, blocks-small _ _ _ _ (e .0) (k .answer2 .given .1) (e .1 .0))
+    let put = c .before .before .before .before .before .before in
+    let told = put .before .before .before .before .before in
+    let e = told .before .before .before .before .before .block-core .ensures in
+    omega (arith, blocks-small _ _ _ _ (e .0) (told .answer2 .given .1) (e .1 .0))
 
 returns-3 : tie.Need-returns-3
 returns-3 c =
-    let k = c .before .before .before .before .before .before .before in
-    let e = k .block-core .ensures in
-    let d = k .before .before in
-    block-refused _ _ (record { room = d .before .before .before .if1 .left; enough = d .before .before .if2 .left; held = d .dataset-of .ensures })
-    (d .before .least .ensures) _ (e .0) (e .1 .1) (c .before .before .answer .given .1) (c .refusal-code .ensures)
+    let called = c .before .before .before .before .before .before .before in
+    let e = called .block-core .ensures in
+    let got = called .before .before in
+    block-refused _ _ (record { room = got .before .before .before .if1 .left; enough = got .before .before .if2 .left; held = got .dataset-of .ensures })
+    (got .before .least .ensures) _ (e .0) (e .1 .1) (c .before .before .answer .given .1) (c .refusal-code .ensures)
 
 returns-4 : tie.Need-returns-4
 returns-4 c =
-    let put = c .before .before .before .before .before .before .before .before .before .before .before in
+    let figures = c .before .before in
+    let put = figures .before .before .before .before .before .before .before .before .before in
     let told = put .before .before .before .before .before in
-    let k = told .before .before .before .before .before in
+    let called = told .before .before .before .before .before in
     let w = put .put-columns .ensures in
-    let e = k .block-core .ensures in
-    let d = k .before .before in
-    block-done _ _ (record { room = d .before .before .before .if1 .left; enough = d .before .before .if2 .left; held = d .dataset-of .ensures })
-    (d .before .least .ensures) _ (e .0) (e .1 .1) (told .answer2 .given .1) (e .1 .0) (w .0) (w .1 .0) (w .1 .1) (c .before .before .put-numbers .ensures)
+    let e = called .block-core .ensures in
+    let got = called .before .before in
+    block-done _ _ (record { room = got .before .before .before .if1 .left; enough = got .before .before .if2 .left; held = got .dataset-of .ensures })
+    (got .before .least .ensures) _ (e .0) (e .1 .1) (told .answer2 .given .1) (e .1 .0) (w .0) (w .1 .0) (w .1 .1) (figures .put-numbers .ensures)
 
 pub tides-block-spec : {M : Type 1} → statement M
 tides-block-spec =

@@ -1,4 +1,4 @@
--- One law for each way out. Assumes nothing.
+-- One law for each way out: a list that is too short, a refusal, an answer. No loop. Assumes nothing.
 use borrow.Author.Needs.{needs}
 use native.Mathlib.Omega.{arith}
 use mathlib.Core.Path.{sym, subst}
@@ -19,13 +19,11 @@ answer-code-requires c κs = subst Narrow (sym (c .before .before .before .befor
 
 returns-3 : tie.Need-returns-3
 returns-3 c =
-    let k = c .before .before .before .before .before in
-    let e = k .centres-into .ensures in
-    let room = k .before .before .before .before .if1 .left in
-    let enough = k .before .before .before .if2 .left in
-    let held = k .before .before .dataset-of .ensures in
-    centres-refused _ _ _ _ (record { room = room; enough = enough; held = held }) _ (e .0) (e .1 .0) (e .1 .1) (c .before .enum-told2 .given .1)
-    (c .answer-code .ensures)
+    let called = c .before .before .before .before .before in
+    let e = called .centres-into .ensures in
+    let got = called .before .before in
+    centres-refused _ _ _ _ (record { room = got .before .before .if1 .left; enough = got .before .if2 .left; held = got .dataset-of .ensures }) _
+    (e .0) (e .1 .0) (e .1 .1) (c .before .enum-told2 .given .1) (c .answer-code .ensures)
 
 cast-count : tie.Need-cast-count
 cast-count c =
@@ -34,12 +32,11 @@ cast-count c =
 
 returns-4 : tie.Need-returns-4
 returns-4 c =
-    let k = c .before .before .before .before .before in
-    let e = k .centres-into .ensures in
-    let room = k .before .before .before .before .if1 .left in
-    let enough = k .before .before .before .if2 .left in
-    let held = k .before .before .dataset-of .ensures in
-    centres-done _ _ _ _ (record { room = room; enough = enough; held = held }) _ (e .0) (e .1 .0) (e .1 .1) (c .before .enum-told .given .1)
+    let called = c .before .before .before .before .before in
+    let e = called .centres-into .ensures in
+    let got = called .before .before in
+    centres-done _ _ _ _ (record { room = got .before .before .if1 .left; enough = got .before .if2 .left; held = got .dataset-of .ensures }) _
+    (e .0) (e .1 .0) (e .1 .1) (c .before .enum-told .given .1)
 
 pub tides-centres-spec : {M : Type 1} → statement M
 tides-centres-spec =

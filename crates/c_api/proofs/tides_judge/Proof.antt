@@ -1,4 +1,4 @@
--- One law for each way out. Assumes nothing.
+-- One law for each way out: a list that is too short, a refusal, an answer. No loop. Assumes nothing.
 use borrow.Author.Needs.{needs}
 use mathlib.Core.Path.{refl}
 use mathlib.Core.Logic.{inl, inr}
@@ -17,24 +17,24 @@ refusal-code-requires c κs = judge-narrow _ _ _ (c .before .before .before .jud
 
 returns-3 : tie.Need-returns-3
 returns-3 c =
-    let k = c .before .before .before .before in
-    let d = k .before in
-    judge-refused _ _ _ (record { room = d .before .before .if1 .left; enough = d .before .if2 .left; held = d .dataset-of .ensures }) _
-    (k .judge .ensures) (c .before .before .judged .given .1) (c .refusal-code .ensures)
+    let called = c .before .before .before .before in
+    let got = called .before in
+    judge-refused _ _ _ (record { room = got .before .before .if1 .left; enough = got .before .if2 .left; held = got .dataset-of .ensures }) _
+    (called .judge .ensures) (c .before .before .judged .given .1) (c .refusal-code .ensures)
 
 returns-4 : tie.Need-returns-4
 returns-4 c =
-    let k = c .before .before .before .before .before .before .before in
-    let d = k .before in
-    judge-done _ _ _ (record { room = d .before .before .if1 .left; enough = d .before .if2 .left; held = d .dataset-of .ensures }) _
-    (k .judge .ensures) (c .before .before .before .before .before .enum-told .given .1) refl (c .before .before .put-numbers .ensures)
+    let called = c .before .before .before .before .before .before .before in
+    let got = called .before in
+    judge-done _ _ _ (record { room = got .before .before .if1 .left; enough = got .before .if2 .left; held = got .dataset-of .ensures }) _
+    (called .judge .ensures) (c .before .before .before .before .before .enum-told .given .1) refl (c .before .before .put-numbers .ensures)
 
 returns-5 : tie.Need-returns-5
 returns-5 c =
-    let k = c .before .before .before .before .before .before .before .before in
-    let d = k .before in
-    judge-done _ _ _ (record { room = d .before .before .if1 .left; enough = d .before .if2 .left; held = d .dataset-of .ensures }) _
-    (k .judge .ensures) (c .before .before .before .before .before .before .judged2 .given .1) refl (c .before .before .put-numbers2 .ensures)
+    let called = c .before .before .before .before .before .before .before .before in
+    let got = called .before in
+    judge-done _ _ _ (record { room = got .before .before .if1 .left; enough = got .before .if2 .left; held = got .dataset-of .ensures }) _
+    (called .judge .ensures) (c .before .before .before .before .before .before .judged2 .given .1) refl (c .before .before .put-numbers2 .ensures)
 
 pub tides-judge-spec : {M : Type 1} → statement M
 tides-judge-spec =

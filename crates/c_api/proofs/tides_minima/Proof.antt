@@ -1,4 +1,4 @@
--- A list that is too short, or what the call leaves. Assumes nothing.
+-- A list that is too short is refused 1; otherwise the call's own contract, on the record as the code holds it. No loop. Assumes nothing.
 use borrow.Author.Needs.{needs}
 use mathlib.Core.Logic.{inl, inr}
 use Rattle.c_api.specs.Api.{minimaVerdict, minimaLeft}
@@ -18,17 +18,16 @@ returns-2 c = left-too-short _ _ _ (lacks-one _ _ (inr (c .if2 .taken)))
 settle-requires : tie.Need-settle-requires
 unfolding minimaLeaves heldLeaves minimaAnswer
 settle-requires c κs =
-    let k = c .before in
-    storable _ (minima-sound _ _) (k .before .before .before .before .before .if1 .left) (k .set-minima .ensures .0) (k .set-minima .ensures .1)
+    let called = c .before in
+    storable _ (minima-sound _ _) (called .before .before .before .before .before .if1 .left) (called .set-minima .ensures)
 
 returns-3 : tie.Need-returns-3
 returns-3 c =
-    let k = c .before .before .before .before in
-    let s = c .before .before .settle .ensures in
-    let room = k .before .before .before .before .before .if1 .left in
-    let held = k .before .before .dataset-of .ensures in
-    minima-left (record { room = room; held = held; answer = s .0; written = s .1 }) _ (k .before .before .before .before .if2 .left)
-    (k .before .minima-of .ensures) (k .set-minima .ensures .0) (k .set-minima .ensures .1)
+    let settled = c .before .before in
+    let called = settled .before .before in
+    let got = called .before .before in
+    minima-left (record { room = got .before .before .before .if1 .left; held = got .dataset-of .ensures; settles = settled .settle .ensures }) _
+    (got .before .before .if2 .left) (called .before .minima-of .ensures) (called .set-minima .ensures)
 
 pub tides-minima-spec : {M : Type 1} → statement M
 tides-minima-spec =

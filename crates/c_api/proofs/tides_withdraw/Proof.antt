@@ -1,4 +1,4 @@
--- A record that is too short, or what the call leaves. Assumes nothing.
+-- A record that is too short is refused 1; otherwise the call's own contract, on the record as the code holds it. No loop. Assumes nothing.
 use borrow.Author.Needs.{needs}
 use Rattle.c_api.specs.Api.{withdrawVerdict, withdrawLeft}
 use Rattle.c_api.proofs.CallLaws.{lacks-yes, storable, withdraw-sound, left-too-short, withdraw-left}
@@ -13,17 +13,16 @@ returns c = left-too-short _ _ _ (lacks-yes 12 _ (c .if1 .taken))
 settle-requires : tie.Need-settle-requires
 unfolding withdrawLeaves heldLeaves withdrawAnswer
 settle-requires c κs =
-    let k = c .before .before .before .before .before in
-    storable _ (withdraw-sound _ _) (k .before .before .before .before .before .before .if1 .left) (k .withdraw .ensures .0) (k .withdraw .ensures .1)
+    let called = c .before .before .before .before .before in
+    storable _ (withdraw-sound _ _) (called .before .before .before .before .before .before .if1 .left) (called .withdraw .ensures)
 
 returns-2 : tie.Need-returns-2
 returns-2 c =
-    let k = c .before .before .before .before .before .before .before .before in
-    let s = c .before .before .settle .ensures in
-    let room = k .before .before .before .before .before .before .if1 .left in
-    let held = k .before .before .before .before .dataset-of .ensures in
-    withdraw-left (record { room = room; held = held; answer = s .0; written = s .1 }) _ (k .before .narrow .ensures)
-    (k .withdraw .ensures .0) (k .withdraw .ensures .1)
+    let settled = c .before .before in
+    let called = settled .before .before .before .before .before .before in
+    let got = called .before .before .before .before in
+    withdraw-left (record { room = got .before .before .if1 .left; held = got .dataset-of .ensures; settles = settled .settle .ensures }) _
+    (called .before .narrow .ensures) (called .withdraw .ensures)
 
 pub tides-withdraw-spec : {M : Type 1} → statement M
 tides-withdraw-spec =

@@ -1,4 +1,4 @@
--- One law for each way out. Assumes nothing.
+-- One law for each way out: a list that is too short, a refusal, an answer. No loop. Assumes nothing.
 use borrow.Author.Needs.{needs}
 use native.Mathlib.Omega.{arith}
 use mathlib.Core.Logic.{inl, inr}
@@ -20,20 +20,17 @@ cast-result c = omega (arith, size-fits _ _ _ (c .before .before .before .before
 
 returns-3 : tie.Need-returns-3
 returns-3 c =
-    let k = c .before .before .before .before .before .before in
-    let room = k .before .before .before .before .if1 .left in
-    let enough = k .before .before .before .if2 .left in
-    let held = k .before .before .dataset-of .ensures in
-    write-refused _ _ _ (record { room = room; enough = enough; held = held }) _ (k .write .ensures .0) (k .write .ensures .1)
-    (c .before .before .written .given .1) (c .refusal-code .ensures)
+    let called = c .before .before .before .before .before .before in
+    let got = called .before .before in
+    write-refused _ _ _ (record { room = got .before .before .if1 .left; enough = got .before .if2 .left; held = got .dataset-of .ensures }) _
+    (called .write .ensures .0) (called .write .ensures .1) (c .before .before .written .given .1) (c .refusal-code .ensures)
 
 returns-4 : tie.Need-returns-4
 returns-4 c =
-    let k = c .before .before .before .before .before in
-    let room = k .before .before .before .before .if1 .left in
-    let enough = k .before .before .before .if2 .left in
-    let held = k .before .before .dataset-of .ensures in
-    write-done _ _ _ (record { room = room; enough = enough; held = held }) _ (k .write .ensures .0) (k .write .ensures .1) (c .before .written2 .given .1)
+    let called = c .before .before .before .before .before in
+    let got = called .before .before in
+    write-done _ _ _ (record { room = got .before .before .if1 .left; enough = got .before .if2 .left; held = got .dataset-of .ensures }) _
+    (called .write .ensures .0) (called .write .ensures .1) (c .before .written2 .given .1)
 
 pub tides-write-spec : {M : Type 1} → statement M
 tides-write-spec =

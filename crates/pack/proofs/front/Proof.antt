@@ -1,4 +1,4 @@
--- `front` is safe. Assumes nothing.
+-- `front` is safe: the part that it gives has n bytes, since there are as many. Assumes nothing.
 use native.Mathlib.Omega.{arith}
 use lib.Seq.{length-take-le}
 use mathlib.Core.Path.{sym}

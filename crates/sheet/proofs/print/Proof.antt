@@ -1,4 +1,4 @@
--- `print` is safe and ends. Assumes nothing.
+-- `print` is safe and ends: the part that it writes lies within the bytes. Assumes nothing.
 use borrow.Author.Needs.{needs}
 use native.Mathlib.Omega.{arith}
 use mathlib.Core.Path.{_≡_, sym}
@@ -9,12 +9,11 @@ use Rattle.sheet.proofs.print.Tie as tie
 
 slice-aggregate-write-all : tie.Need-slice-aggregate-write-all
 slice-aggregate-write-all c =
-    let a = c .before .args in let long : length (a .t1) ≡ 2837 = search needs in sym (length-take-le (a .length) (a .t1) (omega arith))
-
-returns : tie.Need-returns
-returns c = search needs
+    let a = c .before .args in
+    let long : length (a .t1) ≡ 2837 = search needs in
+    sym (length-take-le (a .length) (a .t1) (omega arith))
 
 pub print-spec : {M : Type 1} → statement M
 print-spec =
     tie.close
-    (tie.spec (λ c. search needs) slice-aggregate-write-all (λ c κs. search needs) returns)
+    (tie.spec (λ c. search needs) slice-aggregate-write-all (λ c κs. search needs) (λ c. search needs))

@@ -8,20 +8,20 @@ use Rattle.sheet_of_file.proofs.sheet.Tie as tie
 
 returns : tie.Need-returns
 returns c =
-    let start = c .before .before .before .before .before .before .before .before .before in
+    let at-blank = c .before .before .before .before .before .before .before .before .before in
     let read = c .before .before .before .before .before .before .read .ensures in
     let text = c .refused-sheet .ensures in
-    let file = start .before .before .args .file .now in
-    (text .0, text .1 ∙ ap laidOut (sheet-refused file _ (long-enough (start .blank .result)) (read .0) (c .before .before .answer .given .1)))
+    let file = at-blank .before .before .args .file .now in
+    (text .0, text .1 ∙ ap laidOut (sheet-refused file _ (long-enough (at-blank .blank .result)) (read .0) (c .before .before .answer .given .1)))
 
 returns-2 : tie.Need-returns-2
 returns-2 c =
-    let start = c .before .before .before .before .before .before .before .before .before .before in
+    let at-blank = c .before .before .before .before .before .before .before .before .before .before in
     let read = c .before .before .before .before .before .before .before .read .ensures in
     let text = c .blocked-sheet .ensures in
-    let file = start .before .before .args .file .now in
+    let file = at-blank .before .before .args .file .now in
     let done = c .before .before .before .enum-told .given .1 in
-    (text .0, text .1 ∙ ap laidOut (sheet-blocked file _ (long-enough (start .blank .result)) (read .0) done (read .1)))
+    (text .0, text .1 ∙ ap laidOut (sheet-blocked file _ (long-enough (at-blank .blank .result)) (read .0) done (read .1)))
 
 pub sheet-spec : {M : Type 1} → statement M
 sheet-spec =

@@ -7,19 +7,19 @@ use Rattle.study_text.proofs.pack.Tie as tie
 
 returns : tie.Need-returns
 returns c =
-    let start = c .before .before .before .before in (
-      pack-long (start .args .text .now) (length (start .args .file .now)) (c .before .if1 .taken) (c .whole-lines .ensures),
-      pack-long-leaves (start .args .text .now) (start .args .file .now) (c .before .if1 .taken),
+    let entry = c .before .before .before .before in (
+      pack-long (entry .args .text .now) (length (entry .args .file .now)) (c .before .if1 .taken) (c .whole-lines .ensures),
+      pack-long-leaves (entry .args .text .now) (entry .args .file .now) (c .before .if1 .taken),
     )
 
 returns-2 : tie.Need-returns-2
 returns-2 c =
-    let k = c .before .before in
-    let h = k .before .before .before .before .before .before in
-    let g = h .before .before .before in
-    let start = g .before .before .before in (
-      pack-told (start .args .text .now) (h .read-text .ensures) (g .if1 .left) (length (start .args .file .now)) (k .write-study .ensures .0),
-      pack-left (start .args .text .now) (h .read-text .ensures) (g .if1 .left) (start .args .file .now) (k .write-study .ensures .1),
+    let wrote = c .before .before in
+    let at-text = wrote .before .before .before .before .before .before in
+    let at-test = at-text .before .before .before in
+    let entry = at-test .before .before .before in (
+      pack-told (entry .args .text .now) (at-text .read-text .ensures) (at-test .if1 .left) (length (entry .args .file .now)) (wrote .write-study .ensures .0),
+      pack-left (entry .args .text .now) (at-text .read-text .ensures) (at-test .if1 .left) (entry .args .file .now) (wrote .write-study .ensures .1),
     )
 
 pub pack-spec : {M : Type 1} → statement M

@@ -1,27 +1,23 @@
 -- `write_study` meets its contract: what stopped the text, or what Write replies. Assumes nothing.
-use mathlib.Core.Path.{sym, ap}
-use Rattle.study_text.proofs.Writing.{packedBy, write-told, write-left}
+use mathlib.Core.Path.{refl}
+use Rattle.study_text.proofs.Writing.{write-ends}
 use borrow.Author.Needs.{needs}
 use Rattle.study_text.proofs.write_study.Statement.{statement}
 use Rattle.study_text.proofs.write_study.Tie as tie
 
 returns-2 : tie.Need-returns-2
 returns-2 c =
-    let k = c .before .before .before .before .before in
-    let h = k .before .before .before in
-    let start = h .before .before .before .before .before .before in (
-      write-told (start .pre) (h .over2 .given .1) (k .write .result) _ (k .write .ensures .0) (sym (ap (packedBy _) (c .before .reply .given .1))),
-      write-left (start .pre) (h .over2 .given .1) _ (k .write .ensures .1),
-    )
+    let at-write = c .before .before .before .before .before in
+    let told = at-write .before .before .before in
+    let entry = told .before .before .before .before .before .before in
+    write-ends (entry .pre) (told .over2 .given .1) (at-write .write .result) _ _ (c .before .reply .given .1) refl (at-write .write .ensures)
 
 returns-3 : tie.Need-returns-3
 returns-3 c =
-    let k = c .before .before .before .before .before in
-    let h = k .before .before .before in
-    let start = h .before .before .before .before .before .before in (
-      write-told (start .pre) (h .over2 .given .1) (k .write .result) _ (k .write .ensures .0) (sym (ap (packedBy _) (c .before .reply2 .given .1))),
-      write-left (start .pre) (h .over2 .given .1) _ (k .write .ensures .1),
-    )
+    let at-write = c .before .before .before .before .before in
+    let told = at-write .before .before .before in
+    let entry = told .before .before .before .before .before .before in
+    write-ends (entry .pre) (told .over2 .given .1) (at-write .write .result) _ _ (c .before .reply2 .given .1) refl (at-write .write .ensures)
 
 pub write-study-spec : {M : Type 1} → statement M
 write-study-spec =

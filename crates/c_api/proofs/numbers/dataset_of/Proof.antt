@@ -13,8 +13,8 @@ cast-t13 c = omega (arith, c .shared-slice-known3 .given 1)
 
 returns : tie.Need-returns
 returns c =
-    let k = c .before .before .before .before in
-    narrow-read _ (c .before .before .narrow .ensures) (k .before .before .minima-bytes .ensures) (k .minima-of .ensures)
+    let at-minima = c .before .before .before .before in
+    narrow-read _ (c .before .before .narrow .ensures) (at-minima .before .before .minima-bytes .ensures) (at-minima .minima-of .ensures)
 
 pub dataset-of-spec : {M : Type 1} → statement M
 dataset-of-spec =

@@ -1,4 +1,4 @@
--- The loop's invariant: the first i bytes stand in place of zeros. Assumes nothing.
+-- The loop's invariant: the first i bytes stand in place of zeros; 9 - i falls. Assumes nothing.
 use borrow.Author.Needs.{needs}
 use native.Mathlib.Omega.{arith}
 use Prim.Native.Nat.{ℕ, _+_, _-_, _≤_}
@@ -17,9 +17,6 @@ Inv-loop numbers bytes₀ i₀ bytes i = (i ≤ 9) × (bytes ≡ overwrite i (λ
 abbrev μ-loop : tie.MeasureT-loop
 μ-loop numbers bytes₀ i₀ bytes i = 9 - i
 
-loop-holds : tie.Need-loop-holds Inv-loop μ-loop
-loop-holds c = (omega arith, overwrite-none _ _)
-
 -- a number of 16 bits fits 32
 cast-narrow : tie.Need-cast-narrow Inv-loop μ-loop
 cast-narrow c = omega (arith, c .shared-slice-known2 .given (2 + c .before .before .loop .i))
@@ -27,16 +24,13 @@ cast-narrow c = omega (arith, c .shared-slice-known2 .given (2 + c .before .befo
 loop-again : tie.Need-loop-again Inv-loop μ-loop
 loop-again c = (omega arith, overwrite-step _ (replicate 9 0) _ (c .before .before .before .loop .inv .1) (c .narrow .ensures) (omega arith))
 
-returns : tie.Need-returns Inv-loop μ-loop
-returns c = bytes-read _ (overwrite-done _ _ (omega arith) (c .before .loop .inv .1))
-
 pub minima-bytes-spec : {M : Type 1} → statement M
 minima-bytes-spec =
     tie.close
     (tie.spec
     Inv-loop
     μ-loop
-    loop-holds
+    (λ c. (omega arith, overwrite-none _ _))
     (λ c. omega arith)
     (λ c. omega arith)
     (λ c. omega arith)
@@ -46,4 +40,4 @@ minima-bytes-spec =
     (λ c. omega arith)
     (λ c. omega arith)
     loop-again
-    returns)
+    (λ c. bytes-read _ (overwrite-done _ _ (omega arith) (c .before .loop .inv .1))))

@@ -1,4 +1,4 @@
--- The loop's invariant: the first i places hold their numbers. Assumes nothing.
+-- The loop's invariant: the first i places hold their numbers, the rest stays, and no place is added; 12 - i falls. Assumes nothing.
 use borrow.Author.Needs.{needs}
 use native.Mathlib.Omega.{arith}
 use Prim.Native.Nat.{ℕ, _-_, _≤_}
@@ -18,19 +18,10 @@ Inv-loop numbers₀ dataset i₀ numbers i =
 abbrev μ-loop : tie.MeasureT-loop
 μ-loop numbers₀ dataset i₀ numbers i = 12 - i
 
-loop-holds : tie.Need-loop-holds Inv-loop μ-loop
-loop-holds c = (omega arith, overwrite-none _ _, refl)
-
-number-at-requires : tie.Need-number-at-requires Inv-loop μ-loop
-number-at-requires c κs = (omega arith, omega arith)
-
 loop-again : tie.Need-loop-again Inv-loop μ-loop
 loop-again c =
     let inv = c .before .before .loop .inv in
     (omega arith, overwrite-step _ _ _ (inv .1) (c .number-at .ensures) (omega arith), simp length-set (inv .2))
-
-same-length : tie.Need-same-length Inv-loop μ-loop
-same-length c = c .before .loop .inv .2
 
 returns : tie.Need-returns Inv-loop μ-loop
 returns c =
@@ -43,12 +34,12 @@ put-dataset-spec =
     (tie.spec
     Inv-loop
     μ-loop
-    loop-holds
-    number-at-requires
+    (λ c. (omega arith, overwrite-none _ _, refl))
+    (λ c κs. (omega arith, omega arith))
     (λ c. omega arith)
     (λ c. omega arith)
     (λ c. omega arith)
     (λ c. omega arith)
     loop-again
-    same-length
+    (λ c. c .before .loop .inv .2)
     returns)

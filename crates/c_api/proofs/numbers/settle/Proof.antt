@@ -1,7 +1,8 @@
--- A refused call writes nothing, an accepted one what `put_dataset` ensures. Assumes nothing.
+-- A refused call writes nothing, an accepted one what `put_dataset` ensures. No loop. Assumes nothing.
 use borrow.Author.Needs.{needs}
 use mathlib.Core.Path.{ap}
 use Rattle.study.specs.Refusals.{verdictOf}
+use Rattle.c_api.specs.Api.{numbersOf}
 use Rattle.c_api.proofs.CallLaws.{settle-done}
 use Rattle.c_api.proofs.numbers.settle.Statement.{statement}
 use Rattle.c_api.proofs.numbers.settle.Tie as tie
@@ -12,7 +13,10 @@ put-dataset-requires c κs =
     (p .room, p .few (ap verdictOf (c .before .before .enum-told .given .1)))
 
 returns-2 : tie.Need-returns-2
-returns-2 c = settle-done _ _ (c .before .before .before .before .before .enum-told .given .1) (c .before .before .put-dataset .ensures)
+returns-2 c =
+    let told = c .before .before .before .before .before in
+    let outcome = told .before .before .before .args .outcome in
+    settle-done (numbersOf (outcome .dataset)) _ (told .enum-told .given .1) (c .before .before .put-dataset .ensures)
 
 pub settle-spec : {M : Type 1} → statement M
 settle-spec =

@@ -1,4 +1,4 @@
--- The loop's invariant: the first i places are copied. Assumes nothing.
+-- The loop's invariant: the first i bytes are copied, the rest stays, and no place is added; count - i falls. Assumes nothing.
 use native.Mathlib.Omega.{arith}
 use Prim.Native.Nat.{ℕ, _-_, _≤_}
 use mathlib.Core.Path.{_≡_, refl}
@@ -14,30 +14,19 @@ Inv-loop row count list₀ i₀ list i = (i ≤ count) × (list ≡ overwrite i 
 abbrev μ-loop : tie.MeasureT-loop
 μ-loop row count list₀ i₀ list i = count - i
 
-loop-holds : tie.Need-loop-holds Inv-loop μ-loop
-loop-holds c = (omega arith, overwrite-none _ _, refl)
-
-loop-again : tie.Need-loop-again Inv-loop μ-loop
-loop-again c = let inv = c .before .before .loop .inv in
-    (omega arith, overwrite-step _ _ _ (inv .1) refl (omega arith), simp length-set (inv .2))
-
-same-length : tie.Need-same-length Inv-loop μ-loop
-same-length c = c .before .loop .inv .2
-
-returns : tie.Need-returns Inv-loop μ-loop
-returns c = overwrite-done _ _ (omega arith) (c .before .loop .inv .1)
-
 pub put-bytes-spec : {M : Type 1} → statement M
 put-bytes-spec =
     tie.close
     (tie.spec
     Inv-loop
     μ-loop
-    loop-holds
+    (λ c. (omega arith, overwrite-none _ _, refl))
     (λ c. omega arith)
     (λ c. omega arith)
     (λ c. omega arith)
     (λ c. omega arith)
-    loop-again
-    same-length
-    returns)
+    (λ c.
+    let inv = c .before .before .loop .inv in
+    (omega arith, overwrite-step _ _ _ (inv .1) refl (omega arith), simp length-set (inv .2)))
+    (λ c. c .before .loop .inv .2)
+    (λ c. overwrite-done _ _ (omega arith) (c .before .loop .inv .1)))

@@ -27,14 +27,19 @@ put-field-requires-2 c κs =
 
 put-field-requires-3 : tie.Need-put-field-requires-3
 put-field-requires-3 c κs =
-    let a = c .before .before .before .before .before .before .before .before .before .before .before .before .args in
+    let second = c .before .before .before .before in
+    let first = second .before .before .before .before .before in
+    let a = first .before .before .before .args in
     let s = short (a .number) (a .block) (omega arith) (c .struct-known2 .given) in
     omega (arith, line-length (a .number) (a .block))
 
 put-field-requires-4 : tie.Need-put-field-requires-4
 put-field-requires-4 c κs =
-    let a = c .before .before .before .before .before .before .before .before .before .before .before .before .before .before .before .before .args in
-    let s = short (a .number) (a .block) (omega arith) (c .before .before .before .before .struct-known2 .given) in
+    let third = c .before .before .before in
+    let second = third .before .before .before .before .before in
+    let first = second .before .before .before .before .before in
+    let a = first .before .before .before .args in
+    let s = short (a .number) (a .block) (omega arith) (third .before .struct-known2 .given) in
     omega (arith, line-length (a .number) (a .block))
 
 returns : tie.Need-returns
@@ -44,7 +49,9 @@ returns c =
     let second = third .before .before .before .before .before in
     let first = second .before .before .before .before .before in
     let a = first .before .before .before .args in
-    let p = line-put (a .number) (a .block) (first .put-field .ensures) (second .put-field2 .ensures) (third .put-field3 .ensures) (fourth .put-field4 .ensures) in
+    let p =
+    line-put (a .number) (a .block) (first .put-field .ensures) (second .put-field2 .ensures) (third .put-field3 .ensures)
+    (fourth .put-field4 .ensures) in
     let s = short (a .number) (a .block) (omega arith) (third .before .struct-known2 .given) in
     (omega (arith, p .ends), p)
 

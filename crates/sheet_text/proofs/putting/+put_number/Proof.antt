@@ -44,7 +44,9 @@ pub +put-number-spec : {M : Type 1} → statement M
     (λ c κs. (omega arith, omega (arith, more-length (c .before .before .before .args .x) (c .before .if1 .left) (omega arith))))
     (λ c. omega arith)
     (λ c. omega arith)
-    (λ c κs. let start = c .before .before .before .before .before in omega (arith, more-length (start .before .before .args .x) (start .if1 .left) (omega arith)))
+    (λ c κs.
+    let start = c .before .before .before .before .before in
+    omega (arith, more-length (start .before .before .args .x) (start .if1 .left) (omega arith)))
     (λ c. c .before .before .put-byte2 .ensures .same ∙ c .before .before .before .before .before .before .put-number .ensures .same)
     (λ c.
     let start = c .before .before .before .before .before .before .before .before in

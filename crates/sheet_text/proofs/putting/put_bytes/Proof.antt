@@ -1,4 +1,4 @@
--- `put_bytes` meets its contract: the loop's invariant: the first i bytes of the text are put. Assumes nothing.
+-- `put_bytes` meets its contract. The loop's invariant: the first i bytes of the text are put; length - i falls. Assumes nothing.
 use Prim.Native.Nat.{_+_, _-_, _≤_}
 use native.Mathlib.Omega.{arith}
 use lib.ListN.{length, take}
@@ -13,19 +13,10 @@ Inv-loop out₀ at text i₀ out i = (i ≤ length text) × PutText out₀ at (t
 abbrev μ-loop : tie.MeasureT-loop
 μ-loop out₀ at text i₀ out i = length text - i
 
-loop-holds : tie.Need-loop-holds Inv-loop μ-loop
-loop-holds c = (omega arith, copied-none _ _ (c .args .text .now) (c .pre))
-
 loop-again : tie.Need-loop-again Inv-loop μ-loop
 loop-again c =
     let turn = c .before .before .loop in
     (omega arith, copied-more _ _ _ (c .before .before .before .pre) (turn .i) (c .before .loop-test .taken) (turn .inv .1))
-
-same-length : tie.Need-same-length Inv-loop μ-loop
-same-length c = c .before .loop .inv .1 .same
-
-returns : tie.Need-returns Inv-loop μ-loop
-returns c = copied-done _ _ _ (c .before .before .pre) (c .before .loop .i) (c .loop-test .left) (c .before .loop .inv .1)
 
 pub put-bytes-spec : {M : Type 1} → statement M
 put-bytes-spec =
@@ -33,7 +24,7 @@ put-bytes-spec =
     (tie.spec
     Inv-loop
     μ-loop
-    loop-holds
+    (λ c. (omega arith, copied-none _ _ (c .args .text .now) (c .pre)))
     (λ c. omega arith)
     (λ c. omega arith)
     (λ c. omega arith)
@@ -41,5 +32,5 @@ put-bytes-spec =
     (λ c. omega arith)
     loop-again
     (λ c. omega arith)
-    same-length
-    returns)
+    (λ c. c .before .loop .inv .1 .same)
+    (λ c. copied-done _ _ _ (c .before .before .pre) (c .before .loop .i) (c .loop-test .left) (c .before .loop .inv .1)))

@@ -8,35 +8,35 @@ use Rattle.study_text.proofs.calls.next_tide.Tie as tie
 
 read-tide-requires : tie.Need-read-tide-requires
 read-tide-requires c κs =
-    let k = c .before .before .before .before in
-    let start = k .before .before .before .before .before .before .before in
-    (next-within (start .pre .0) (sym (k .before .before .next .ensures) ∙ k .word .given .1), start .pre .1, start .pre .2)
+    let told = c .before .before .before .before in
+    let entry = told .before .before .before .before .before .before .before in
+    (next-within (entry .pre .0) (sym (told .before .before .next .ensures) ∙ told .word .given .1), entry .pre .1, entry .pre .2)
 
 returns : tie.Need-returns
 returns c =
-    let k = c .before .before .before .before .before .before in
-    let h = k .before .before .before .before .before in
-    let start = h .before .before .before .before .before .before .before in
-    turn-goes (start .args .text .now) (start .args .from) (h .before .before .next .ensures) _ (h .word .given .1) (k .read-tide .ensures)
+    let tide = c .before .before .before .before .before .before in
+    let told = tide .before .before .before .before .before in
+    let entry = told .before .before .before .before .before .before .before in
+    turn-goes (entry .args .text .now) (entry .args .from) (told .before .before .next .ensures) _ (told .word .given .1) (tide .read-tide .ensures)
 
 returns-2 : tie.Need-returns-2
 returns-2 c =
-    let start = c .before .before .before .before .before .before .before .before in
-    turn-ends (start .args .text .now) (start .args .from) (c .before .before .before .next .ensures) (start .pre .0) (start .pre .1)
+    let entry = c .before .before .before .before .before .before .before .before in
+    turn-ends (entry .args .text .now) (entry .args .from) (c .before .before .before .next .ensures) (entry .pre .0) (entry .pre .1)
     (c .before .word2 .given .1)
 
 returns-3 : tie.Need-returns-3
 returns-3 c =
-    let k = c .before .before .before .before in
-    let start = k .before .before .before .before .before in
-    turn-stops (start .args .text .now) (start .args .from) (k .next .ensures) (start .pre .0) (start .pre .1) (c .before .before .word3 .given .1)
+    let found = c .before .before .before .before in
+    let entry = found .before .before .before .before .before in
+    turn-stops (entry .args .text .now) (entry .args .from) (found .next .ensures) (entry .pre .0) (entry .pre .1) (c .before .before .word3 .given .1)
     refl (c .stopped .ensures)
 
 returns-4 : tie.Need-returns-4
 returns-4 c =
-    let k = c .before .before .before .before in
-    let start = k .before .before .before .before .before in
-    turn-stops (start .args .text .now) (start .args .from) (k .next .ensures) (start .pre .0) (start .pre .1) (c .before .before .word4 .given .1)
+    let found = c .before .before .before .before in
+    let entry = found .before .before .before .before .before in
+    turn-stops (entry .args .text .now) (entry .args .from) (found .next .ensures) (entry .pre .0) (entry .pre .1) (c .before .before .word4 .given .1)
     refl (c .stopped2 .ensures)
 
 pub next-tide-spec : {M : Type 1} → statement M

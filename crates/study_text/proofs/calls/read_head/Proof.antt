@@ -9,15 +9,15 @@ returns c = head-stops (c .before .before .before .before .before .before .read-
 
 read-minima-requires : tie.Need-read-minima-requires
 read-minima-requires c κs =
-    let k = c .before .before .before .before in
-    let h = k .before .before .before .before .before .before in
-    let a = h .read-open .ensures .alive (k .enum-told .given .1) in (a .within, a .passed)
+    let told = c .before .before .before .before in
+    let opened = told .before .before .before .before .before .before in
+    let held = opened .read-open .ensures .alive (told .enum-told .given .1) in (held .within, held .passed)
 
 returns-2 : tie.Need-returns-2
 returns-2 c =
-    let k = c .before .before .before .before .before in
-    let h = k .before .before .before .before .before .before in
-    head-goes (h .read-open .ensures) (k .enum-told .given .1) (c .read-minima .ensures)
+    let told = c .before .before .before .before .before in
+    let opened = told .before .before .before .before .before .before in
+    head-goes (opened .read-open .ensures) (told .enum-told .given .1) (c .read-minima .ensures)
 
 pub read-head-spec : {M : Type 1} → statement M
 read-head-spec =

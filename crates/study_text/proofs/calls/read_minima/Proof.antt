@@ -11,25 +11,25 @@ use Rattle.study_text.proofs.calls.read_minima.Tie as tie
 
 slice-aggregate-read-row : tie.Need-slice-aggregate-read-row
 slice-aggregate-read-row c =
-    let start = c .before .before .before .before .before in
-    sym (length-take-le (start .args .dataset .k + 1) (replicate 9 0) (omega (arith, start .pre .1 .study .k-high)))
+    let entry = c .before .before .before .before .before in
+    sym (length-take-le (entry .args .dataset .k + 1) (replicate 9 0) (omega (arith, entry .pre .1 .study .k-high)))
 
 returns : tie.Need-returns
 returns c =
-    let k = c .before .before .before .before .before in
-    let start = k .before .before .before .before .before .before in
-    minima-stops (start .pre .0) (start .pre .1) (k .read-row .last .1 .1 .0) (k .read-row .ensures)
-    (length-take-le (start .args .dataset .k + 1) (replicate 9 0) (omega (arith, start .pre .1 .study .k-high))) (c .before .before .row .given .1)
+    let at-row = c .before .before .before .before .before in
+    let entry = at-row .before .before .before .before .before .before in
+    minima-stops (entry .pre .0) (entry .pre .1) (at-row .read-row .last .1 .1 .0) (at-row .read-row .ensures)
+    (length-take-le (entry .args .dataset .k + 1) (replicate 9 0) (omega (arith, entry .pre .1 .study .k-high))) (c .before .before .row .given .1)
     (c .stopped .ensures)
 
 returns-2 : tie.Need-returns-2
 returns-2 c =
-    let k = c .before .before .before .before in
-    let h = k .before .before .before in
-    let start = h .before .before .before .before .before .before in
-    minima-goes (start .pre .0) (start .pre .1) (h .read-row .last .1 .1 .0) (start .args .dataset .k + 1) (c .before .set-minima .result)
-    (h .read-row .ensures) (length-take-le (start .args .dataset .k + 1) (replicate 9 0) (omega (arith, start .pre .1 .study .k-high)))
-    (k .row2 .given .1) (c .before .before .minima-of .ensures) (c .before .set-minima .ensures .0) (c .before .set-minima .ensures .1)
+    let told = c .before .before .before .before in
+    let at-row = told .before .before .before in
+    let entry = at-row .before .before .before .before .before .before in
+    minima-goes (entry .pre .0) (entry .pre .1) (at-row .read-row .last .1 .1 .0) (entry .args .dataset .k + 1) (c .before .set-minima .result)
+    (at-row .read-row .ensures) (length-take-le (entry .args .dataset .k + 1) (replicate 9 0) (omega (arith, entry .pre .1 .study .k-high)))
+    (told .row2 .given .1) (c .before .before .minima-of .ensures) (c .before .set-minima .ensures)
     (c .called .ensures)
 
 pub read-minima-spec : {M : Type 1} → statement M

@@ -10,19 +10,19 @@ use Rattle.study_text.proofs.calls.read_open.Tie as tie
 
 returns : tie.Need-returns
 returns c =
-    let k = c .before .before .before .before in
-    let start = k .before .before .before .before in
-    open-stops (start .args .from) (k .number .ensures) _ _ (c .before .before .given .given .1) (c .stopped .ensures)
+    let at-number = c .before .before .before .before in
+    let entry = at-number .before .before .before .before in
+    open-stops (entry .args .from) (at-number .number .ensures) _ _ (c .before .before .given .given .1) (c .stopped .ensures)
 
 returns-2 : tie.Need-returns-2
 returns-2 c =
-    let k = c .before .before .before .before .before in
-    let h = k .before .before .before .before .before in
-    let start = h .before .before .before .before .before .before in
+    let at-open = c .before .before .before .before .before in
+    let told = at-open .before .before .before .before .before in
+    let entry = told .before .before .before .before .before .before in
     let blank : Dataset = record { k = 1; n = 0; minima = record { b0 = 1; b = replicate 8 0 }; withdrawn = 0 } in
-    let s = stateOf blank (start .args .distances .now) (start .args .settings .now) in
-    open-goes (start .args .from) (h .before .before .number .ensures) s (k .«open» .result) _ _ (h .given2 .given .1) (start .pre .0)
-    (short-no s (start .pre .1 .0) (start .pre .1 .1)) (k .before .narrow .ensures) (k .«open» .ensures .0) (k .«open» .ensures .1)
+    let s = stateOf blank (entry .args .distances .now) (entry .args .settings .now) in
+    open-goes (entry .args .from) (told .before .before .number .ensures) s (at-open .«open» .result) _ _ (told .given2 .given .1) (entry .pre .0)
+    (short-no s (entry .pre .1 .0) (entry .pre .1 .1)) (at-open .before .narrow .ensures) (at-open .«open» .ensures)
     (c .called .ensures)
 
 pub read-open-spec : {M : Type 1} → statement M

@@ -7,8 +7,9 @@ use Rattle.study_text.proofs.calls.read_text.Tie as tie
 
 read-tides-requires : tie.Need-read-tides-requires
 read-tides-requires c κs =
-    let k = c .before .before .before .before .before .before .before .before .before .before .before in
-    let m = text-begins (k .read-head .ensures) (c .before .before .before .enum-told .given .1) in ((m .within, m .passed, omega arith), m .turns)
+    let told = c .before .before .before in
+    let head = told .before .before .before .before .before .before .before .before in
+    let m = text-begins (head .read-head .ensures) (told .enum-told .given .1) in ((m .within, m .passed, omega arith), m .turns)
 
 returns : tie.Need-returns
 returns c = text-stops (c .before .before .before .before .before .before .before .before .before .read-head .ensures) (c .before .step .given .1)

@@ -10,32 +10,32 @@ use Rattle.study_text.proofs.calls.read_tide.Tie as tie
 
 slice-aggregate-read-row : tie.Need-slice-aggregate-read-row
 slice-aggregate-read-row c =
-    let start = c .before .before .before .before .before in
-    sym (length-take-le (start .args .dataset .n) (start .args .row .now) (omega (arith, start .pre .1 .study .few, start .pre .2)))
+    let entry = c .before .before .before .before .before in
+    sym (length-take-le (entry .args .dataset .n) (entry .args .row .now) (omega (arith, entry .pre .1 .study .few, entry .pre .2)))
 
 slice-aggregate-enter : tie.Need-slice-aggregate-enter
 slice-aggregate-enter c = sym (length-take-le _ _ (omega arith))
 
 returns : tie.Need-returns
 returns c =
-    let k = c .before .before .before .before .before .before in
-    let start = k .before .before .before .before .before .before in
-    tide-stops (start .pre .0) (start .pre .1) (start .args .setting) (k .read-row .last .1 .1 .0) (k .read-row .ensures)
-    (length-take-le (start .args .dataset .n) (start .args .row .now) (omega (arith, start .pre .1 .study .few, start .pre .2)))
+    let at-row = c .before .before .before .before .before .before in
+    let entry = at-row .before .before .before .before .before .before in
+    tide-stops (entry .pre .0) (entry .pre .1) (entry .args .setting) (at-row .read-row .last .1 .1 .0) (at-row .read-row .ensures)
+    (length-take-le (entry .args .dataset .n) (entry .args .row .now) (omega (arith, entry .pre .1 .study .few, entry .pre .2)))
     (c .before .before .read .given .1) (c .stopped .ensures)
 
 returns-2 : tie.Need-returns-2
 returns-2 c =
-    let k = c .before .before .before .before .before in
-    let h = k .before .before .before .before .before .before in
-    let g = h .before .before .before .before in
-    let start = g .before .before .before .before .before .before in
-    let long = length-take-le (start .args .dataset .n) (start .args .row .now) (omega (arith, start .pre .1 .study .few, start .pre .2)) in
-    let row = g .read-row .last .1 .1 .0 in
-    tide-goes (start .pre .0) (start .pre .1) (start .args .setting) row (k .enter .result) (g .read-row .ensures) long
-    (h .read2 .given .1) (k .before .before .narrow .ensures)
-    (take-at row (drop (start .args .dataset .n) (start .args .row .now)) (start .args .dataset .n) (omega (arith, g .read-row .kept, long)))
-    (k .enter .ensures .0) (k .enter .ensures .1) (c .called .ensures)
+    let at-enter = c .before .before .before .before .before in
+    let told = at-enter .before .before .before .before .before .before in
+    let at-row = told .before .before .before .before in
+    let entry = at-row .before .before .before .before .before .before in
+    let long = length-take-le (entry .args .dataset .n) (entry .args .row .now) (omega (arith, entry .pre .1 .study .few, entry .pre .2)) in
+    let row = at-row .read-row .last .1 .1 .0 in
+    tide-goes (entry .pre .0) (entry .pre .1) (entry .args .setting) row (at-enter .enter .result) (at-row .read-row .ensures) long
+    (told .read2 .given .1) (at-enter .before .before .narrow .ensures)
+    (take-at row (drop (entry .args .dataset .n) (entry .args .row .now)) (entry .args .dataset .n) (omega (arith, at-row .read-row .kept, long)))
+    (at-enter .enter .ensures) (c .called .ensures)
 
 pub read-tide-spec : {M : Type 1} → statement M
 read-tide-spec =

@@ -1,4 +1,5 @@
--- `read_tides` meets its contract: the loop's invariant: after as many turns as tides are held, the text stands at this place. Assumes nothing.
+-- `read_tides` meets its contract. The loop's invariant: after as many turns as tides are held, the text stands at this place; 121 less the
+-- tides held falls. Assumes nothing.
 use borrow.Author.Needs.{needs}
 use native.Mathlib.Omega.{arith}
 use mathlib.Core.Path.{_≡_, refl}
@@ -18,29 +19,30 @@ abbrev μ-loop : tie.MeasureT-loop
 
 loop-holds : tie.Need-loop-holds Inv-loop μ-loop
 loop-holds c =
-    let start = c .before .before .before .before in
-    (record { within = start .pre .0 .0; passed = start .pre .0 .1; turns = start .pre .1 }, start .pre .0 .2, refl, refl, refl)
+    let entry = c .before .before .before .before in
+    (record { within = entry .pre .0 .0; passed = entry .pre .0 .1; turns = entry .pre .1 }, entry .pre .0 .2, refl, refl, refl)
 
 next-tide-requires : tie.Need-next-tide-requires Inv-loop μ-loop
 next-tide-requires c κs = let m = c .before .before .before .loop .inv .0 in (m .within, m .passed, c .before .before .before .loop .inv .1)
 
 returns : tie.Need-returns Inv-loop μ-loop
 returns c =
-    let k = c .before .before .before .before .before .before .before .before .before .before in
-    let h = k .before .before .before .before in
-    midway-ends (h .loop .inv .0) (k .next-tide .ensures) (c .before .before .step .given .1)
+    let at-tide = c .before .before .before .before .before .before .before .before .before .before in
+    let held = at-tide .before .before .before .before .loop .inv .0 in
+    midway-ends held (at-tide .next-tide .ensures) (c .before .before .step .given .1)
 
 loop-less : tie.Need-loop-less Inv-loop μ-loop
 loop-less c =
-    let k = c .before .before .before .before .before .before .before .before .before .before in
-    let h = k .before .before .before .before in
-    omega (arith, midway-size (h .loop .inv .0) (k .next-tide .ensures) (c .before .before .enum-told .given .1), h .loop .inv .0 .passed .study .few)
+    let at-tide = c .before .before .before .before .before .before .before .before .before .before in
+    let held = at-tide .before .before .before .before .loop .inv .0 in
+    omega (arith, midway-size held (at-tide .next-tide .ensures) (c .before .before .enum-told .given .1), held .passed .study .few)
 
 loop-again : tie.Need-loop-again Inv-loop μ-loop
 loop-again c =
-    let k = c .before .before .before .before .before .before .before .before .before .before in
-    let h = k .before .before .before .before in
-    (midway-more (h .loop .inv .0) (k .next-tide .ensures) (c .before .before .enum-told .given .1), omega arith, omega arith, omega arith, omega arith)
+    let at-tide = c .before .before .before .before .before .before .before .before .before .before in
+    let held = at-tide .before .before .before .before .loop .inv .0 in
+    let more = midway-more held (at-tide .next-tide .ensures) (c .before .before .enum-told .given .1) in
+    (more, omega arith, omega arith, omega arith, omega arith)
 
 pub read-tides-spec : {M : Type 1} → statement M
 read-tides-spec =

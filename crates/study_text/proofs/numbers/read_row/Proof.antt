@@ -1,4 +1,4 @@
--- `read_row` meets its contract: the loop's invariant: the first i numbers stand in the row. Assumes nothing.
+-- `read_row` meets its contract. The loop's invariant: the first i numbers stand in the row; length - i falls. Assumes nothing.
 use borrow.Author.Needs.{needs}
 use native.Mathlib.Omega.{arith}
 use Rattle.study_text.proofs.StepLaws.{ReadTo, row-none, row-more, row-stops, row-read}
@@ -14,37 +14,19 @@ Inv-loop text row₀ cursor₀ i₀ row cursor i = (i ≤ length row) × (length
 abbrev μ-loop : tie.MeasureT-loop
 μ-loop text row₀ cursor₀ i₀ row cursor i = length row - i
 
-loop-holds : tie.Need-loop-holds Inv-loop μ-loop
-loop-holds c = (omega arith, refl, row-none (c .before .before .pre))
-
-number-requires : tie.Need-number-requires Inv-loop μ-loop
-number-requires c κs = c .before .loop .inv .2 .within
-
-same-length : tie.Need-same-length Inv-loop μ-loop
-same-length c = c .before .before .before .before .before .loop .inv .1
-
 returns : tie.Need-returns Inv-loop μ-loop
 returns c =
-    let k = c .before .before .before .before .before in
-    row-stops _ (k .loop .inv .2) (c .before .before .before .number .ensures) (c .before .given .given .1) (omega arith)
-
-loop-less : tie.Need-loop-less Inv-loop μ-loop
-loop-less c = simp length-set (omega arith)
+    let at-loop = c .before .before .before .before .before in
+    row-stops _ (at-loop .loop .inv .2) (c .before .before .before .number .ensures) (c .before .given .given .1) (omega arith)
 
 loop-again : tie.Need-loop-again Inv-loop μ-loop
 loop-again c =
-    let k = c .before .before .before .before .before in (
+    let at-loop = c .before .before .before .before .before in (
       simp length-set (omega arith),
-      simp length-set (k .loop .inv .1),
-      row-more (k .loop .inv .2) (c .before .before .before .number .ensures)
+      simp length-set (at-loop .loop .inv .1),
+      row-more (at-loop .loop .inv .2) (c .before .before .before .number .ensures)
           (c .before .given2 .given .1) (omega arith),
     )
-
-same-length-2 : tie.Need-same-length-2 Inv-loop μ-loop
-same-length-2 c = c .before .loop .inv .1
-
-returns-2 : tie.Need-returns-2 Inv-loop μ-loop
-returns-2 c = row-read (c .before .loop .inv .2) (omega arith) (c .before .loop .inv .1)
 
 pub read-row-spec : {M : Type 1} → statement M
 read-row-spec =
@@ -52,16 +34,16 @@ read-row-spec =
     (tie.spec
     Inv-loop
     μ-loop
-    loop-holds
-    number-requires
+    (λ c. (omega arith, refl, row-none (c .before .before .pre)))
+    (λ c κs. c .before .loop .inv .2 .within)
     (λ c. search needs)
-    same-length
+    (λ c. c .before .before .before .before .before .loop .inv .1)
     returns
     (λ c. search needs)
     (λ c. omega arith)
     (λ c. omega arith)
     (λ c. omega arith)
-    loop-less
+    (λ c. simp length-set (omega arith))
     loop-again
-    same-length-2
-    returns-2)
+    (λ c. c .before .loop .inv .1)
+    (λ c. row-read (c .before .loop .inv .2) (omega arith) (c .before .loop .inv .1)))

@@ -23,8 +23,7 @@ returns-4 c =
       ne-eqb _ 32 (c .before .before .before .if1 .left),
       ne-eqb _ 9 (c .before .before .if2 .left),
       ne-eqb _ 10 (c .before .if3 .left),
-      eq-eqb _ 13
-          (c .if4 .taken),
+      eq-eqb _ 13 (c .if4 .taken),
     )
 
 returns-5 : tie.Need-returns-5
@@ -34,8 +33,7 @@ returns-5 c =
       ne-eqb _ 32 (c .before .before .before .if1 .left),
       ne-eqb _ 9 (c .before .before .if2 .left),
       ne-eqb _ 10 (c .before .if3 .left),
-      ne-eqb _ 13
-          (c .if4 .left),
+      ne-eqb _ 13 (c .if4 .left),
     )
 
 pub ends-word-spec : {M : Type 1} → statement M

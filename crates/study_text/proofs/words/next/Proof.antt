@@ -9,32 +9,28 @@ word-end-requires c κs = start-inside (c .before .before .pre) (c .skip .ensure
 
 returns : tie.Need-returns
 returns c =
-    let start = c .before .before .before .before in
-    next-end (start .args .text .now) (start .args .from) (c .before .before .skip .ensures) (c .before .word-end .result)
+    next-end _ _ (c .before .before .skip .ensures) (c .before .word-end .result)
     (c .before .word-end .ensures .0) (c .if1 .taken)
 
 returns-2 : tie.Need-returns-2
 returns-2 c =
-    let k = c .before .before .before .before .before in
-    let h = k .before in
-    let start = h .before .before .before in
-    next-number (start .args .text .now) (start .args .from) (h .before .skip .ensures) (h .word-end .result) (h .word-end .ensures .0) (k .if1 .left)
+    let at-test = c .before .before .before .before .before in
+    let at-end = at-test .before in
+    next-number _ _ (at-end .before .skip .ensures) (at-end .word-end .result) (at-end .word-end .ensures .0) (at-test .if1 .left)
     (c .before .before .before .numeral-of .ensures) (c .before .found .given .1)
 
 returns-3 : tie.Need-returns-3
 returns-3 c =
-    let k = c .before .before .before .before in
-    let h = k .before in
-    let start = h .before .before .before in
-    next-bad (start .args .text .now) (start .args .from) (h .before .skip .ensures) (h .word-end .result) (h .word-end .ensures .0) (k .if1 .left)
+    let at-test = c .before .before .before .before in
+    let at-end = at-test .before in
+    next-bad _ _ (at-end .before .skip .ensures) (at-end .word-end .result) (at-end .word-end .ensures .0) (at-test .if1 .left)
     (c .before .before .numeral-of .ensures) (c .enum-told .given .1)
 
 returns-4 : tie.Need-returns-4
 returns-4 c =
-    let k = c .before .before .before .before in
-    let h = k .before in
-    let start = h .before .before .before in
-    next-large (start .args .text .now) (start .args .from) (h .before .skip .ensures) (h .word-end .result) (h .word-end .ensures .0) (k .if1 .left)
+    let at-test = c .before .before .before .before in
+    let at-end = at-test .before in
+    next-large _ _ (at-end .before .skip .ensures) (at-end .word-end .result) (at-end .word-end .ensures .0) (at-test .if1 .left)
     (c .before .before .numeral-of .ensures) (c .enum-told2 .given .1)
 
 pub next-spec : {M : Type 1} → statement M

@@ -1,4 +1,5 @@
--- `skip` meets its contract: the loop's invariant: from here the next word begins where it begins from the start. Assumes nothing.
+-- `skip` meets its contract. The loop's invariant: from here the next word begins where it begins from the start; length - at falls.
+-- Assumes nothing.
 use borrow.Author.Needs.{needs}
 use native.Mathlib.Omega.{arith}
 use lib.ListN.{length, drop, getD}
@@ -17,32 +18,30 @@ Inv-loop text at₀ line₀ comment₀ at line comment =
 abbrev μ-loop : tie.MeasureT-loop
 μ-loop text at₀ line₀ comment₀ at line comment = length text - at
 
-loop-holds : tie.Need-loop-holds Inv-loop μ-loop
-loop-holds c = let w = c .before .pre in (w .inside, w .line-low, w .short, refl)
-
 returns : tie.Need-returns Inv-loop μ-loop
 returns c =
-    let k = c .before .before .before .before in
-    start-here (k .before .before .args .text .now) (k .loop .comment) (k .loop .at) (k .loop .line) (c .before .before .before .loop-test .taken)
-    (sym (c .before .begins .ensures) ∙ c .if1 .taken) (k .loop .inv .3)
+    let at-loop = c .before .before .before .before in
+    let turn = at-loop .loop in
+    start-here (at-loop .before .before .args .text .now) (turn .comment) (turn .at) (turn .line) (c .before .before .before .loop-test .taken)
+    (sym (c .before .begins .ensures) ∙ c .if1 .taken) (turn .inv .3)
 
 add-line : tie.Need-add-line Inv-loop μ-loop
 add-line c =
-    let k = c .before .before .before .before .before .before in
-    omega (arith, newline-small (getD (k .before .before .args .text .now) (k .loop .at) 0))
+    let at-loop = c .before .before .before .before .before .before in
+    omega (arith, newline-small (getD (at-loop .before .before .args .text .now) (at-loop .loop .at) 0))
 
 loop-again : tie.Need-loop-again Inv-loop μ-loop
 loop-again c =
-    let k = c .before .before .before .before .before in
-    let h = k .before in
-    let start = h .before .before in
-    let small = newline-small (getD (start .args .text .now) (h .loop .at) 0) in (
+    let at-test = c .before .before .before .before .before in
+    let at-loop = at-test .before in
+    let entry = at-loop .before .before in
+    let small = newline-small (getD (entry .args .text .now) (at-loop .loop .at) 0) in (
       omega arith,
       omega arith,
-      h .loop .inv .2,
-      start-goes (start .args .text .now) (h .loop .comment) (h .loop .at) (h .loop .line)
-          (k .loop-test .taken) (sym (c .before .before .before .begins .ensures) ∙ c .before .before .if1 .left) (c .before .comment-after .ensures)
-          (c .newline .ensures) (h .loop .inv .3),
+      at-loop .loop .inv .2,
+      start-goes (entry .args .text .now) (at-loop .loop .comment) (at-loop .loop .at) (at-loop .loop .line)
+          (at-test .loop-test .taken) (sym (c .before .before .before .begins .ensures) ∙ c .before .before .if1 .left)
+          (c .before .comment-after .ensures) (c .newline .ensures) (at-loop .loop .inv .3),
     )
 
 returns-2 : tie.Need-returns-2 Inv-loop μ-loop
@@ -56,7 +55,7 @@ skip-spec =
     (tie.spec
     Inv-loop
     μ-loop
-    loop-holds
+    (λ c. let w = c .before .pre in (w .inside, w .line-low, w .short, refl))
     (λ c. omega arith)
     (λ c κs. search needs)
     returns

@@ -1,4 +1,4 @@
--- `whole_lines` meets its contract: the loop's invariant: the lines counted and those to come are all. Assumes nothing.
+-- `whole_lines` meets its contract. The loop's invariant: the lines counted and those to come are all; length - i falls. Assumes nothing.
 use borrow.Author.Needs.{needs}
 use native.Mathlib.Omega.{arith}
 use lib.ListN.{length, drop, getD}
@@ -15,20 +15,17 @@ Inv-loop text lines₀ i₀ lines i = (i ≤ length text) × (lines ≤ i) × (l
 abbrev μ-loop : tie.MeasureT-loop
 μ-loop text lines₀ i₀ lines i = length text - i
 
-loop-holds : tie.Need-loop-holds Inv-loop μ-loop
-loop-holds c = (omega arith, omega arith, omega arith)
-
 add-lines : tie.Need-add-lines Inv-loop μ-loop
 add-lines c = omega (arith, newline-small (getD (c .before .before .before .before .before .args .text .now) (c .before .before .before .loop .i) 0))
 
 loop-again : tie.Need-loop-again Inv-loop μ-loop
 loop-again c =
-    let k = c .before .before .before in
-    let start = k .before .before in (
+    let at-loop = c .before .before .before in
+    let entry = at-loop .before .before in (
       omega arith,
-      omega (arith, newline-small (getD (start .args .text .now) (k .loop .i) 0)),
-      lines-more (start .args .text .now) (k .loop .lines)
-          (k .loop .i) (c .before .before .loop-test .taken) (c .newline .ensures) (k .loop .inv .2),
+      omega (arith, newline-small (getD (entry .args .text .now) (at-loop .loop .i) 0)),
+      lines-more (entry .args .text .now) (at-loop .loop .lines)
+          (at-loop .loop .i) (c .before .before .loop-test .taken) (c .newline .ensures) (at-loop .loop .inv .2),
     )
 
 returns : tie.Need-returns Inv-loop μ-loop
@@ -40,7 +37,7 @@ whole-lines-spec =
     (tie.spec
     Inv-loop
     μ-loop
-    loop-holds
+    (λ c. (omega arith, omega arith, omega arith))
     (λ c. omega arith)
     (λ c κs. search needs)
     add-lines

@@ -1,4 +1,5 @@
--- `word_end` meets its contract: the loop's invariant: what is passed and what is left of the word make it up. Assumes nothing.
+-- `word_end` meets its contract. The loop's invariant: what is passed and what is left of the word make it up; length - end falls.
+-- Assumes nothing.
 use borrow.Author.Needs.{needs}
 use native.Mathlib.Omega.{arith}
 use lib.ListN.{length, drop}
@@ -15,19 +16,16 @@ Inv-loop text at end₀ end = (end ≤ length text) × (at ≤ end) × (end + le
 abbrev μ-loop : tie.MeasureT-loop
 μ-loop text at end₀ end = length text - end
 
-loop-holds : tie.Need-loop-holds Inv-loop μ-loop
-loop-holds c = (c .before .pre, omega arith, refl)
-
 returns : tie.Need-returns Inv-loop μ-loop
 returns c =
-    let k = c .before .before .before .before in
-    let w = word-ends (k .before .before .args .text .now) (k .loop .end) (c .before .before .before .loop-test .taken)
+    let at-loop = c .before .before .before .before in
+    let w = word-ends (at-loop .before .before .args .text .now) (at-loop .loop .end) (c .before .before .before .loop-test .taken)
     (sym (c .before .ends-word .ensures) ∙ c .if1 .taken) in (omega arith, omega arith)
 
 loop-again : tie.Need-loop-again Inv-loop μ-loop
 loop-again c =
-    let k = c .before .before .before .before in
-    let w = word-more (k .before .before .args .text .now) (k .loop .end) (c .before .before .before .loop-test .taken)
+    let at-loop = c .before .before .before .before in
+    let w = word-more (at-loop .before .before .args .text .now) (at-loop .loop .end) (c .before .before .before .loop-test .taken)
     (sym (c .before .ends-word .ensures) ∙ c .if1 .left) in (omega arith, omega arith, omega arith)
 
 returns-2 : tie.Need-returns-2 Inv-loop μ-loop
@@ -39,7 +37,7 @@ word-end-spec =
     (tie.spec
     Inv-loop
     μ-loop
-    loop-holds
+    (λ c. (c .before .pre, omega arith, refl))
     (λ c. omega arith)
     (λ c κs. search needs)
     returns
