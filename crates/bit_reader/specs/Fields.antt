@@ -6,13 +6,13 @@ use lib.Dec.{leb}
 use lib.ListN.{length}
 use Rattle.file_format.specs.Bits.{bitsAt}
 use Rattle.bit_reader.specs.declared.FieldValue.{FieldValue}
-use Rattle.bit_reader.specs.declared.FieldValue.the-variants as FieldValues
+use Rattle.bit_reader.specs.declared.FieldValue.the-variants as FieldValueCase
 use Rattle.bit_reader.specs.declared.Start.{Start}
-use Rattle.bit_reader.specs.declared.Start.the-variants as Starts
+use Rattle.bit_reader.specs.declared.Start.the-variants as StartCase
 
 -- the number in the w bits at a position, or the end where the bytes stop before
 abbrev pub fieldAt : List ℕ → ℕ → ℕ → FieldValue
-fieldAt s at w = cond (leb (at + w) (8 * length s)) (FieldValues.Value (bitsAt s at w)) FieldValues.End
+fieldAt s at w = cond (leb (at + w) (8 * length s)) (FieldValueCase.Value (bitsAt s at w)) FieldValueCase.End
 
 -- a field that can be asked for: its width is that of a field of the file, and its position fits a word
 pub record Askable (at w : ℕ) : Type 0 where
@@ -22,6 +22,6 @@ pub record Askable (at w : ℕ) : Type 0 where
 
 -- the mark and the number of tides of two fields read; the end where one of them is
 abbrev pub startOf : FieldValue → FieldValue → Start
-startOf (FieldValues.Value m) (FieldValues.Value n) = Starts.Fields m n
-startOf (FieldValues.Value m) FieldValues.End = Starts.End
-startOf FieldValues.End f = Starts.End
+startOf (FieldValueCase.Value m) (FieldValueCase.Value n) = StartCase.Fields m n
+startOf (FieldValueCase.Value m) FieldValueCase.End = StartCase.End
+startOf FieldValueCase.End f = StartCase.End

@@ -43,7 +43,8 @@ module _ (R : RattleType) (n : ℕ) (b : ℕ) where
         qed W (‵ (InLocal xs vs) ∷ []) ∵ updating ! $ fpack ! (List Val) (λ us. InLocal xs us) vs $
         use1 W (‵ (arr-parts (shares R) n .part fullShare xs b 0)) (array-apart 𝓤 H A W R fullShare one n xs b 0) $ fsplit ! $ feqL ! (λ l.
         use1 W (‵ (cells (mem R) xs b 0)) (whole-in 𝓤 H A W R xs b 0) $
-        use1 W (later (some (λ (γ : GName). ‵ (MutSlice ℓ κ R .own (at-list γ xs) (sliceVal (b, 0) (length xs) ∷ [])) ⊛ ‵ (flent κ (Held R (length xs) b 0 γ))))) (lends-slice 𝓤 H A W R ℓ κ xs b 0 (subst (Room R) (sym l) room)) $ await ! tt $ pick ! (λ γ. split ! $
+        use1 W (later (some (λ (γ : GName). ‵ (MutSlice ℓ κ R .own (at-list γ xs) (sliceVal (b, 0) (length xs) ∷ [])) ⊛ ‵ (flent κ (Held R (length xs) b 0 γ)))))
+        (lends-slice 𝓤 H A W R ℓ κ xs b 0 (subst (Room R) (sym l) room)) $ await ! tt $ pick ! (λ γ. split ! $
         rewrite ! 0 (λ (m : ℕ). ‵ (MutSlice ℓ κ R .own (at-list γ xs) (sliceVal (b, 0) m ∷ []))) l refl $ rewrite ! 1 (λ (m : ℕ). ‵ (flent κ (Held R m b 0 γ))) l refl $
         at-once ! $ show ! (λ (δ : GName). sep 𝓤 (sem 𝓤 H A (MutSlice ℓ κ R .own (at-list δ xs) (sliceVal (b, 0) n ∷ []))) (A .lent κ (Held R n b 0 δ))) γ $ frame ! $ done !))
 
@@ -56,5 +57,6 @@ module _ (R : RattleType) (n : ℕ) (b : ℕ) where
         use1 W (‵ (row R fullShare ys b 0)) (whole-out 𝓤 H A W R ys b 0) $ feqI ! ℕ (length ys) n l $ fjoin ! $
         use1 W (‵ (partAt (Array R n) fullShare ys b 0)) (array-whole 𝓤 H A W R fullShare n ys b 0) $ fpick ! (λ vs. fsplit ! $ move ! (1 ∷ []) $
         peeks ! (Array R n) (Is (Array R n)) (shows 𝓤 H A (Array R n)) ys vs (λ p.
-        rewrite ! 0 (λ (us : List Val). ‵ (Array R n .own ys us)) (array-tells R vals tl n ys vs p) refl $ rewrite ! 1 (λ (us : List Val). ‵ (cellAt fullShare (Array R n .mir) us b 0)) (array-tells R vals tl n ys vs p) refl $
+        rewrite ! 0 (λ (us : List Val). ‵ (Array R n .own ys us)) (array-tells R vals tl n ys vs p) refl $
+        rewrite ! 1 (λ (us : List Val). ‵ (cellAt fullShare (Array R n .mir) us b 0)) (array-tells R vals tl n ys vs p) refl $
         at-once ! $ move ! (1 ∷ 0 ∷ []) $ fjoin ! $ done !)))

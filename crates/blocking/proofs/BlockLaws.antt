@@ -24,7 +24,7 @@ use Rattle.study.specs.Calls.{blockReasons, Figures, figures, blockRecord}
 use Rattle.study.proofs.CallLaws.{none-holds}
 use Rattle.promise.specs.Promise.{meeting, Able}
 use Rattle.radius_theory.specs.Arrays.{arrayProblem, ball, SizedArrays, ValidArrays}
-use Rattle.radius_search.specs.Inputs.{posed}
+use Rattle.radius_search.specs.Inputs.{inputProblem}
 use Rattle.blocking_core.specs.Core.{Blocks}
 use Rattle.validity.specs.Memory.{State, studyOf, contentsOf}
 use Rattle.validity.proofs.ValidityLaws.{study-size}
@@ -200,7 +200,7 @@ module _ (s : State) (list room : ℕ) where
 
 -- the list
 pub block-list : (s : State) (old : List ℕ) (room : ℕ) {new : List ℕ} → BlockAccepted s (length old) room
-    → new ≡ blocking (posed (s .distances) (s .settings) (s .dataset .n) (s .dataset .minima)) ++ drop (s .dataset .n) old → new ≡ blockList s old room
+    → new ≡ blocking (inputProblem (s .distances) (s .settings) (s .dataset .n) (s .dataset .minima)) ++ drop (s .dataset .n) old → new ≡ blockList s old room
 unfolding blockList
 block-list s old room A e =
     e

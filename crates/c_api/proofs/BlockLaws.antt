@@ -6,7 +6,7 @@ use mathlib.Core.Logic.{_⊎_, ⊎-elim}
 use mathlib.Core.Bool.{true}
 use mathlib.Core.List.{List, [], _∷_, _++_}
 use lib.ListN.{length, drop, getD, replicate, length-replicate}
-use Rattle.lists.specs.Lists.{tabulate, overwrite}
+use Rattle.lists.specs.Lists.{tabulate, overwrite, over}
 use Rattle.lists.proofs.Tests.{true-T, not-not, split}
 use Rattle.lists.proofs.Tables.{length-tabulate, getD-overwrite, getD-past, overwrite-ext}
 use Rattle.study.specs.declared.Refusal.{Refusal}
@@ -27,7 +27,7 @@ use Rattle.blocking.specs.declared.block.BlockRows.{BlockRows}
 use Rattle.blocking.specs.Answers.{blockAnswer, blockReply, blockList, blockRecords}
 use Rattle.blocking.specs.Rows.{rowAt, noRecord, RowsOf}
 use Rattle.guarantee.specs.Runs.{figureNumbers}
-use Rattle.c_api.specs.Api.{Lent, code, over, output, Places, places, recordRoom, blockVerdict, column, blockLeft}
+use Rattle.c_api.specs.Api.{Lent, code, output, Places, places, recordRoom, blockVerdict, column, blockLeft}
 use Rattle.c_api.proofs.RecordLaws.{withRecord, front-written}
 use Rattle.c_api.specs.Records.{Narrow, ColumnRoom}
 use Rattle.c_api.proofs.CodeLaws.{small, held-narrow}

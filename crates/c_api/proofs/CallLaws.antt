@@ -7,7 +7,7 @@ use mathlib.Core.Bool.{Bool, true, false, cond, _||_}
 use mathlib.Core.List.{List, flatMap}
 use lib.ListN.{length}
 use borrow.Author.Tests.{lt-ltb, le-ltb}
-use Rattle.lists.specs.Lists.{iota}
+use Rattle.lists.specs.Lists.{iota, over}
 use Rattle.lists.proofs.Tests.{true-T}
 use Rattle.study.specs.declared.Minima.{Minima}
 use Rattle.study.specs.declared.Dataset.{Dataset}
@@ -31,7 +31,7 @@ use Rattle.dataset.proofs.AnswerLaws.{fresh-own, accepted-held}
 use Rattle.narrowing.specs.Narrowing.{narrowed, narrowDataset}
 use Rattle.narrowing.proofs.Proofs.{unchanged, as-given}
 use Rattle.study_file.specs.Answers.{readAnswer, readLeaves}
-use Rattle.c_api.specs.Api.{Lent, lent, minimaAt, datasetOf, numbersOf, stateIn, code, roomFirst, lacks, over, left}
+use Rattle.c_api.specs.Api.{Lent, lent, minimaAt, datasetOf, numbersOf, stateIn, code, roomFirst, lacks, left}
 use Rattle.c_api.specs.Api.{openVerdict, openLeft, minimaVerdict, minimaLeft, enterVerdict, enterLeft}
 use Rattle.c_api.specs.Api.{withdrawVerdict, withdrawLeft, readVerdict, readLeft}
 use Rattle.c_api.specs.Records.{Narrow, Storable}
@@ -62,9 +62,9 @@ lacks-neither {n} {m} l k a b = rw (lacks-no n l a, lacks-no m k b)
 
 -- ---- a record that is written
 
-pub settle-done : {a : Answer} {new : List ℕ} (xs old : List ℕ) → a ≡ Done → new ≡ over xs old
+pub stored-outcome : {a : Answer} {new : List ℕ} (xs old : List ℕ) → a ≡ Done → new ≡ over xs old
     → (0 ≡ code (verdictOf a)) × (new ≡ settled (verdictOf a) (over xs old) old)
-settle-done xs old e q = (sym (ap (λ x. code (verdictOf x)) e), q ∙ sym (ap (λ x. settled (verdictOf x) (over xs old) old) e))
+stored-outcome xs old e q = (sym (ap (λ x. code (verdictOf x)) e), q ∙ sym (ap (λ x. settled (verdictOf x) (over xs old) old) e))
 
 -- ---- a call that answers v, and leaves H where it is accepted
 

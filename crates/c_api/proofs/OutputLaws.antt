@@ -29,7 +29,8 @@ use Rattle.study_file.specs.Answers.{writeReasons, writeAnswer, writtenOf, writ
 use Rattle.study_file.proofs.Lengths.{length-sum}
 use Rattle.blocking.specs.Answers.{centresAnswer, centresFront, centresLeaves}
 use Rattle.narrowing.specs.Narrowing.{narrowDataset}
-use Rattle.c_api.specs.Api.{Lent, datasetOf, stateIn, code, roomFirst, lacks, over, output}
+use Rattle.lists.specs.Lists.{over}
+use Rattle.c_api.specs.Api.{Lent, datasetOf, stateIn, code, roomFirst, lacks, output}
 use Rattle.c_api.specs.Api.{centresVerdict, centresList, centresCount, writeVerdict, writeFile, writeLength}
 use Rattle.c_api.specs.Records.{Narrow}
 use Rattle.c_api.proofs.RecordLaws.{withRecord}

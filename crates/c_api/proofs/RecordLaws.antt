@@ -5,13 +5,13 @@ use mathlib.Core.Path.{_≡_, refl, sym, ap, _∙_}
 use mathlib.Core.List.{List, [], _∷_, _++_, append-nil}
 use lib.ListN.{length, drop, getD, replicate, length-append, List·getD-append}
 use lib.Seq.{getD-at}
-use Rattle.lists.specs.Lists.{tabulate, overwrite}
+use Rattle.lists.specs.Lists.{tabulate, overwrite, over}
 use Rattle.lists.proofs.Tables.{tabulate-is}
 use Rattle.study.specs.declared.Minima.{Minima}
 use Rattle.study.specs.declared.Dataset.{Dataset}
 use Rattle.validity.specs.Memory.{State, stateOf}
 use Rattle.narrowing.specs.Narrowing.{narrowed, narrowMinima, narrowDataset}
-use Rattle.c_api.specs.Api.{Lent, minimaAt, datasetOf, numbersOf, over}
+use Rattle.c_api.specs.Api.{Lent, minimaAt, datasetOf, numbersOf}
 
 -- ---- read
 

@@ -6,7 +6,7 @@ use mathlib.Core.Logic.{inr, ⊎-elim}
 use mathlib.Core.Bool.{Bool, true, false, _||_}
 use mathlib.Core.List.{List, [], _∷_, _++_, flatMap}
 use lib.ListN.{length, drop, length-append, length-drop}
-use Rattle.lists.specs.Lists.{overwrite}
+use Rattle.lists.specs.Lists.{overwrite, over}
 use Rattle.lists.proofs.Tests.{split}
 use Rattle.lists.proofs.Tables.{length-tabulate}
 use Rattle.study.specs.Problem.{blocking}
@@ -19,7 +19,7 @@ use Rattle.guarantee.specs.Runs.{Query, make-blocks, inquiring, figureNumbers, 
 use Rattle.guarantee.specs.Runs.{output as outputs}
 use Rattle.guarantee.specs.Theorems.{AsContracts, Guaranteed, blocked}
 use Rattle.guarantee.proofs.Proofs.{demand1, demand3}
-use Rattle.c_api.specs.Api.{Lent, minimaAt, stateIn, roomFirst, lacks, over, output, left, openLeft, minimaVerdict, minimaLeft}
+use Rattle.c_api.specs.Api.{Lent, minimaAt, stateIn, roomFirst, lacks, output, left, openLeft, minimaVerdict, minimaLeft}
 use Rattle.c_api.specs.Api.{enterLeft, withdrawLeft, readLeft, Places, recordRoom, blockVerdict, blockLeft}
 use Rattle.c_api.specs.Runs.{CCall, c-open, c-read, c-minima, c-enter, c-withdraw, c-centres, c-block, c-judge, c-write}
 use Rattle.c_api.specs.Runs.{cAfter, cRun, recordsIn, unless, callsOf}

@@ -4,7 +4,7 @@ use mathlib.Core.Bool.{Bool, cond, _||_}
 use mathlib.Core.List.{List, [], _∷_, _++_}
 use lib.Dec.{ltb}
 use lib.ListN.{length, drop, getD}
-use Rattle.lists.specs.Lists.{tabulate}
+use Rattle.lists.specs.Lists.{tabulate, over}
 use Rattle.study.specs.declared.Minima.{Minima}
 use Rattle.study.specs.declared.Dataset.{Dataset}
 use Rattle.study.specs.declared.BlockRecord.{BlockRecord}
@@ -64,10 +64,6 @@ unfoldable pub lacks : ℕ → List ℕ → Bool
 lacks n l = ltb (length l) n
 
 -- ---- what stands afterwards
-
--- these in the front of a lent list; the places past them stay
-abbrev pub over : {A : Type 0} → List A → List A → List A
-over xs l = xs ++ drop (length xs) l
 
 -- what a call writes: these numbers where it is accepted
 unfoldable pub output : Verdict → List ℕ → List ℕ → List ℕ

@@ -10,7 +10,8 @@ use Rattle.study.specs.Calls.{Figures}
 use Rattle.guarantee.specs.Runs.{figureNumbers, run}
 use Rattle.guarantee.specs.History.{studyAfter}
 use Rattle.guarantee.specs.Theorems.{Guaranteed}
-use Rattle.c_api.specs.Api.{Lent, stateIn, over, Places, blockVerdict, blockLeft}
+use Rattle.lists.specs.Lists.{over}
+use Rattle.c_api.specs.Api.{Lent, stateIn, Places, blockVerdict, blockLeft}
 use Rattle.c_api.specs.Runs.{CCall, cRun, callsOf}
 
 -- a run of the calls for C, from any record of 12 numbers or more and any memory, is a run of the calls

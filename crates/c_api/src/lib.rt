@@ -6,7 +6,7 @@ use crate::code::answer_code;
 use crate::code::refusal_code;
 use crate::numbers::dataset_of;
 use crate::numbers::minima_of;
-use crate::numbers::settle;
+use crate::numbers::store_outcome;
 use crate::rows::least;
 use crate::rows::put_columns;
 use crate::rows::put_numbers;
@@ -44,7 +44,7 @@ pub extern "C" fn tides_open(
         return 1;
     }
     let outcome = dataset::open(dataset_of(numbers), distances, settings, narrow(k));
-    settle(numbers, outcome)
+    store_outcome(numbers, outcome)
 }
 
 // Minima: they are 9 bytes: b0, b1 .. b8.
@@ -67,7 +67,7 @@ pub extern "C" fn tides_minima(
         return 1;
     }
     let outcome = dataset::set_minima(dataset_of(numbers), distances, settings, minima_of(minima));
-    settle(numbers, outcome)
+    store_outcome(numbers, outcome)
 }
 
 // Enter: a tide with its setting, and its distances to the tides already there.
@@ -94,7 +94,7 @@ pub extern "C" fn tides_enter(
         narrow(setting),
         row,
     );
-    settle(numbers, outcome)
+    store_outcome(numbers, outcome)
 }
 
 // Withdraw: the tide of this number goes.
@@ -113,7 +113,7 @@ pub extern "C" fn tides_withdraw(
         return 1;
     }
     let outcome = dataset::withdraw(dataset_of(numbers), distances, settings, narrow(tide));
-    settle(numbers, outcome)
+    store_outcome(numbers, outcome)
 }
 
 // Read: the dataset of a study file.
@@ -133,7 +133,7 @@ pub extern "C" fn tides_read(
         return 1;
     }
     let outcome = study_file::read(dataset_of(numbers), distances, settings, file);
-    settle(numbers, outcome)
+    store_outcome(numbers, outcome)
 }
 
 // Centres at g: their number goes into `count`.

@@ -8,10 +8,10 @@ use study::Outcome;
 ghost use mathlib.Core.Path.{_≡_};
 ghost use Prim.Native.Nat.{ℕ, _+_, _≤_, _<_};
 ghost use lib.ListN.{length, getD};
-ghost use Rattle.lists.specs.Lists.{tabulate};
+ghost use Rattle.lists.specs.Lists.{tabulate, over};
 ghost use Rattle.study.specs.Refusals.{verdictOf, settled};
 ghost use Rattle.narrowing.specs.Narrowing.{narrowed, narrowDataset};
-ghost use Rattle.c_api.specs.Api.{minimaAt, datasetOf, numbersOf, over, code};
+ghost use Rattle.c_api.specs.Api.{minimaAt, datasetOf, numbersOf, code};
 ghost use Rattle.c_api.specs.Records.{Storable};
 
 // b0, b1 .. b8 of a record, each as a byte.
@@ -102,7 +102,7 @@ fn put_dataset(numbers: &mut [u16], dataset: Dataset)
 }
 
 // The number that a call answers. An accepted call's record is written; a refused one writes nothing.
-pub fn settle(numbers: &mut [u16], outcome: Outcome) -> u32
+pub fn store_outcome(numbers: &mut [u16], outcome: Outcome) -> u32
     requires { ⌜ Storable (now numbers) (verdictOf (outcome .answer)) (outcome .dataset) ⌝ }
     ensures code { λ r. ⌜ r ≡ code (verdictOf (outcome .answer)) ⌝ }
     ensures numbers { λ _. ⌜ now (numbers .exit)

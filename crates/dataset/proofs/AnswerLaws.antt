@@ -33,7 +33,7 @@ use Rattle.triangle.proofs.PairLaws.{found-nothing, found-pair, violations-same
 use Rattle.storage.proofs.PlaceLaws.{cleared-distances, cleared-settings, entered-distances, entered-settings, withdrawn-distances, withdrawn-settings}
 use Rattle.storage.specs.Places.{withRow, movedDistance, movedSetting}
 use Rattle.triangle.specs.declared.Violation.{Violation}
-use Rattle.triangle.specs.declared.Violation.the-variants as Violations
+use Rattle.triangle.specs.declared.Violation.the-variants as ViolationCase
 use Rattle.dataset.specs.Accepted.{Passed, EnterAccepted, WithdrawAccepted}
 
 -- a refused call leaves everything
@@ -233,13 +233,13 @@ module _ (s : State) (setting : ℕ) (row : List ℕ) where
                 (λ i j a b. study-distance s (P .study) i j (omega arith) (omega arith)) (λ i a. refl))
                 ∙ sym e
 
-            pub enter-7 : (i j : ℕ) → r ≡ Violations.Pair i j → refused (seven i j) ≡ enterAnswer s setting row
+            pub enter-7 : (i j : ℕ) → r ≡ ViolationCase.Pair i j → refused (seven i j) ≡ enterAnswer s setting row
             unfolding enterReasons firstOf studyOf
             enter-7 i j q =
                 let f = found-pair broken i j (same ∙ q) in
                 enter-own (refused (seven i j)) (rw (past-22, past-4, kind, row-fits, f .0) (ap refused (f .1)))
 
-            pub enter-done : r ≡ Violations.Nothing → accepted ≡ enterAnswer s setting row
+            pub enter-done : r ≡ ViolationCase.Nothing → accepted ≡ enterAnswer s setting row
             unfolding enterReasons firstOf studyOf
             enter-done q = enter-own accepted (rw (past-22, past-4, kind, row-fits, found-nothing broken (same ∙ q)))
 

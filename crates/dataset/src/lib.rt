@@ -1,15 +1,15 @@
 // Open, Minima, Enter, Withdraw: for any record and memory of any length, the answer and what stands afterwards.
 use study::Answer;
 use study::Dataset;
-use study::Minima;
 use study::MAX_K;
 use study::MAX_SETTINGS;
+use study::MAX_TIDES;
+use study::MAX_WITHDRAWALS;
+use study::Minima;
 use study::Outcome;
 use study::Refusal;
 use triangle::Violation;
 use validity::is_short;
-use study::MAX_TIDES;
-use study::MAX_WITHDRAWALS;
 ghost use mathlib.Core.Path.{_≡_};
 ghost use mathlib.Core.List.{[]};
 ghost use Rattle.study.specs.Refusals.{verdictOf};

@@ -142,7 +142,7 @@ count-classes k (suc n) q f h = turn (count-classes k n q f (λ t l. h t (omega 
           arith,
           count-hit n q t,
           sum-bump k (part n) (part (suc n)) (f n) 1 (h n (omega arith))
-          (count-hit n (λ u. q u && eqb (f u) (f n)) (and-T (q n) (eqb (f n) (f n)) t (eqb-refl (f n))))
+              (count-hit n (λ u. q u && eqb (f u) (f n)) (and-T (q n) (eqb (f n) (f n)) t (eqb-refl (f n))))
               (λ j l e. other j (λ s. e (sym (eqb→eq (f n) j (T-right (q n) (eqb (f n) j) s))))),
         )
     turn ih (inr t) =

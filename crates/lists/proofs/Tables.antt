@@ -104,8 +104,13 @@ module _ {A : Type 0} where
     pub overwrite-more : (n : ℕ) → n < length l → set (overwrite n f l) n (f n) ≡ overwrite (n + 1) f l
     unfolding overwrite
     overwrite-more n h =
-        rw (drop-cons l n (f n) h, set-at (tabulate n f) (getD l n (f n)) (drop (suc n) l) (f n) n (length-tabulate n f),
-        add-one n, tabulate-suc n f, append-assoc)
+        rw (
+          drop-cons l n (f n) h,
+          set-at (tabulate n f) (getD l n (f n)) (drop (suc n) l) (f n) n (length-tabulate n f),
+          add-one n,
+          tabulate-suc n f,
+          append-assoc,
+        )
 
     -- the same as a step of a loop that stores a value
     pub overwrite-step : {m : List A} {n : ℕ} (v : A) → m ≡ overwrite n f l → v ≡ f n → n < length l → set m n v ≡ overwrite (n + 1) f l

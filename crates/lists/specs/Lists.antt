@@ -7,7 +7,6 @@ use lib.Dec.{leb, eqb}
 use lib.ListN.{length, drop, getD}
 
 infix 40 _among_
-
 -- x is an element of xs
 abbrev pub _among_ : {A : Type 0} → A → List A → Type 0
 x among xs = List·Memᴰ x xs

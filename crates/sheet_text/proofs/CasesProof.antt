@@ -1,7 +1,7 @@
 -- The statements of specs/Cases.antt, by computation. Assumes nothing.
 use mathlib.Core.Path.{refl}
 use Rattle.sheet_text.specs.Text.{digits, decimal, heading, line, lines, closing, refusedText}
-use Rattle.sheet_text.specs.Cases.{HeadingLength, OneTide, TwoBlocks, TooFew, TriangleInequality, Decimals}
+use Rattle.sheet_text.specs.Cases.{HeadingLength, OneTide, TwoBlocks, TooFew, TriangleRefused, Decimals}
 
 pub heading-length : HeadingLength
 unfolding heading
@@ -19,7 +19,7 @@ pub too-few : TooFew
 unfolding refusedText decimal digits
 too-few = refl
 
-pub triangle-inequality : TriangleInequality
+pub triangle-inequality : TriangleRefused
 unfolding refusedText decimal digits
 triangle-inequality = refl
 

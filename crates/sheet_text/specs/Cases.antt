@@ -37,8 +37,8 @@ abbrev pub TooFew : Type 0
 TooFew = sheetText (refusal (number 25)) [] 0 ≡ ascii "refused 25\n"
 
 -- 7 too, without its pair
-abbrev pub TriangleInequality : Type 0
-TriangleInequality = sheetText (refusal (seven 1 2)) [] 0 ≡ ascii "refused 7\n"
+abbrev pub TriangleRefused : Type 0
+TriangleRefused = sheetText (refusal (seven 1 2)) [] 0 ≡ ascii "refused 7\n"
 
 -- numbers in decimal
 abbrev pub Decimals : Type 0

@@ -10,9 +10,9 @@ use Rattle.study.specs.Limits.{maxTides, maxSettings, maxDistance, maxWi
 use Rattle.study.specs.declared.Minima.{Minima}
 use Rattle.study.specs.declared.BlockRecord.{BlockRecord}
 use Rattle.study.specs.declared.Blocked.{Blocked}
-use Rattle.study.specs.declared.Blocked.the-variants as Blocks
+use Rattle.study.specs.declared.Blocked.the-variants as BlockedCase
 use Rattle.study.specs.declared.Judged.{Judged}
-use Rattle.study.specs.declared.Judged.the-variants as Judges
+use Rattle.study.specs.declared.Judged.the-variants as JudgedCase
 use Rattle.study.specs.Problem.{centres, block, labels, radius, blocking, diameter, greatestDiameter, feasible}
 use Rattle.study.specs.Study.{Tide, Study, Contents, withTides, withStudy, size, distance, sufficient, problem, validMinima}
 use Rattle.study.specs.Refusals.{Numbered, number, seven, numbered, Reply, value, refusal, Reason, _⇒_}
@@ -161,8 +161,8 @@ blockRecord S i =
 
 -- the code's answer, by document 01's number and values
 abbrev pub blockedOf : Blocked → Reply Figures
-blockedOf (Blocks.Done c r w) = value (record { blocks = c; radius = r; widest = w })
-blockedOf (Blocks.Refused r) = refusal (numbered r)
+blockedOf (BlockedCase.Done c r w) = value (record { blocks = c; radius = r; widest = w })
+blockedOf (BlockedCase.Refused r) = refusal (numbered r)
 
 -- ---- Judge, given a list
 
@@ -188,6 +188,6 @@ judgement S list = cond (approved S list) (approval (greatestDiameter (problem S
 
 -- the code's answer, by document 01's number and values
 abbrev pub judgedOf : Judged → Reply Judgement
-judgedOf (Judges.Approved w) = value (approval w)
-judgedOf Judges.Declined = value disapproval
-judgedOf (Judges.Refused r) = refusal (numbered r)
+judgedOf (JudgedCase.Approved w) = value (approval w)
+judgedOf JudgedCase.Declined = value disapproval
+judgedOf (JudgedCase.Refused r) = refusal (numbered r)

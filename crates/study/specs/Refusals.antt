@@ -3,7 +3,7 @@ use Prim.Native.Nat.{ℕ}
 use mathlib.Core.Bool.{Bool, cond, not}
 use mathlib.Core.List.{List, [], _∷_}
 use Rattle.study.specs.declared.Refusal.{Refusal}
-use Rattle.study.specs.declared.Refusal.the-variants as Because
+use Rattle.study.specs.declared.Refusal.the-variants as RefusalCase
 use Rattle.study.specs.declared.Answer.{Answer}
 use Rattle.study.specs.declared.Answer.the-variants.{Done, Refused}
 
@@ -19,24 +19,24 @@ pub data Verdict : Type 0 where
 
 -- document 01's number and values of each refusal of the code
 abbrev pub numbered : Refusal → Numbered
-numbered Because.ShortMemory = number 1
-numbered Because.SettingCount = number 2
-numbered Because.Minima = number 3
-numbered Because.RowLength = number 4
-numbered Because.Setting = number 5
-numbered Because.Distance = number 6
-numbered (Because.TriangleInequality i j) = seven i j
-numbered Because.FileLength = number 8
-numbered Because.Mark = number 9
-numbered Because.TideCount = number 10
-numbered Because.FillBits = number 11
-numbered Because.ListLength = number 12
-numbered Because.NotDataset = number 21
-numbered Because.Full = number 22
-numbered Because.NoSuchTide = number 23
-numbered Because.NoTides = number 24
-numbered Because.TooFewTides = number 25
-numbered Because.WithdrawalLimit = number 26
+numbered RefusalCase.ShortMemory = number 1
+numbered RefusalCase.SettingCount = number 2
+numbered RefusalCase.Minima = number 3
+numbered RefusalCase.RowLength = number 4
+numbered RefusalCase.Setting = number 5
+numbered RefusalCase.Distance = number 6
+numbered (RefusalCase.TriangleInequality i j) = seven i j
+numbered RefusalCase.FileLength = number 8
+numbered RefusalCase.Mark = number 9
+numbered RefusalCase.TideCount = number 10
+numbered RefusalCase.FillBits = number 11
+numbered RefusalCase.ListLength = number 12
+numbered RefusalCase.NotDataset = number 21
+numbered RefusalCase.Full = number 22
+numbered RefusalCase.NoSuchTide = number 23
+numbered RefusalCase.NoTides = number 24
+numbered RefusalCase.TooFewTides = number 25
+numbered RefusalCase.WithdrawalLimit = number 26
 
 -- the code's answer, by document 01's number and values
 abbrev pub verdictOf : Answer → Verdict
@@ -64,7 +64,6 @@ pub record Reason : Type 0 where
   pub because : Numbered
 
 infix 20 _⇒_
-
 -- where this holds, refused so
 abbrev pub _⇒_ : Bool → Numbered → Reason
 b ⇒ r = record { holds = b; because = r }

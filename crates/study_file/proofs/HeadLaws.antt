@@ -19,7 +19,7 @@ use Rattle.file_format.specs.File.{bitLength, byteLength, minimaAt, decoded, he
 use Rattle.file_format.proofs.DecodedLaws.{decoded-size}
 use Rattle.file_format.specs.Head.{Head}
 use Rattle.bit_reader.specs.declared.Start.{Start}
-use Rattle.bit_reader.specs.declared.Start.the-variants as Starts
+use Rattle.bit_reader.specs.declared.Start.the-variants as StartCase
 use Rattle.bit_reader.specs.Fields.{fieldAt, startOf}
 use Rattle.bit_reader.proofs.FieldLaws.{FieldGot, got-start}
 use Rattle.validity.specs.Memory.{setK, setSize, setMinima, setCount, recordOf}
@@ -62,7 +62,7 @@ pub record Started (s : List ℕ) (m n : ℕ) : Type 0 where
   pub mark : m ≡ bitsAt s 0 8
   pub tides : n ≡ bitsAt s 8 7
 
-pub started : {s : List ℕ} {r : Start} {m n : ℕ} → 6 ≤ length s → r ≡ startOf (fieldAt s 0 8) (fieldAt s 8 7) → r ≡ Starts.Fields m n
+pub started : {s : List ℕ} {r : Start} {m n : ℕ} → 6 ≤ length s → r ≡ startOf (fieldAt s 0 8) (fieldAt s 8 7) → r ≡ StartCase.Fields m n
     → Started s m n
 started {s} {r} {m} {n} h e q = let g : FieldGot s 0 8 m × FieldGot s 8 7 n = got-start e q in record { six = h; mark = g .0 .is; tides = g .1 .is }
 

@@ -7,7 +7,7 @@ use lib.ListN.{length, getD, set}
 use Rattle.lists.proofs.Tables.{length-tabulate, getD-tabulate}
 use Rattle.study.specs.Limits.{cell}
 use Rattle.study.specs.declared.Refusal.{Refusal}
-use Rattle.study.specs.declared.Refusal.the-variants as Because
+use Rattle.study.specs.declared.Refusal.the-variants as RefusalCase
 use Rattle.study.specs.declared.Answer.{Answer}
 use Rattle.study.specs.declared.Answer.the-variants.{Done, Refused}
 use Rattle.study.specs.Refusals.{seven, accepted, refused}
@@ -16,7 +16,7 @@ use Rattle.file_format.specs.Bits.{bitsAt}
 use Rattle.file_format.specs.File.{bitLength, byteLength, tideAt}
 use Rattle.bit_reader.proofs.FieldLaws.{FieldGot}
 use Rattle.triangle.specs.declared.Violation.{Violation}
-use Rattle.triangle.specs.declared.Violation.the-variants as Violations
+use Rattle.triangle.specs.declared.Violation.the-variants as ViolationCase
 use Rattle.triangle.specs.Pairs.{violationOf}
 use Rattle.triangle.proofs.PairLaws.{rowIn, part-found}
 use Rattle.storage.specs.Places.{withRow}
@@ -37,21 +37,21 @@ row-taken s start {t} {i} {x} l {matrix} h g e =
 
 -- ---- tested
 
-pair-told : (ps : List Pair) (i j : ℕ) → violationOf ps ≡ Violations.Pair i j → refused (seven i j) ≡ violationVerdict ps
+pair-told : (ps : List Pair) (i j : ℕ) → violationOf ps ≡ ViolationCase.Pair i j → refused (seven i j) ≡ violationVerdict ps
 pair-told [] i j e = absurd (let z : _≡_ {A = ℕ} 0 1 = cc in omega arith)
 pair-told (p ∷ ps) i j e = cc
 
-none-told : (ps : List Pair) → violationOf ps ≡ Violations.Nothing → accepted ≡ violationVerdict ps
+none-told : (ps : List Pair) → violationOf ps ≡ ViolationCase.Nothing → accepted ≡ violationVerdict ps
 none-told [] e = refl
 none-told (p ∷ ps) e = absurd (let z : _≡_ {A = ℕ} 0 1 = cc in omega arith)
 
 -- of tide t's row as a part of the memory
 module _ (d : List ℕ) (t : ℕ) (fits : 14400 ≤ length d) (few : t < 120) {r : Violation}
     (e : r ≡ violationOf (violations (cell d) (length (rowIn d t)) (λ i. getD (rowIn d t) i 0))) where
-  pub row-violates : {i j : ℕ} → r ≡ Violations.Pair i j → refused (seven i j) ≡ violationVerdict (violations (cell d) t (cell d t))
+  pub row-violates : {i j : ℕ} → r ≡ ViolationCase.Pair i j → refused (seven i j) ≡ violationVerdict (violations (cell d) t (cell d t))
   row-violates {i} {j} q = pair-told (violations (cell d) t (cell d t)) i j (sym (part-found d t fits few e) ∙ q)
 
-  pub row-obeys : r ≡ Violations.Nothing → accepted ≡ violationVerdict (violations (cell d) t (cell d t))
+  pub row-obeys : r ≡ ViolationCase.Nothing → accepted ≡ violationVerdict (violations (cell d) t (cell d t))
   row-obeys q = none-told (violations (cell d) t (cell d t)) (sym (part-found d t fits few e) ∙ q)
 
 -- ---- a tide, at each way out of the code
@@ -92,7 +92,7 @@ module _ {s : List ℕ} {k t start : ℕ} {matrix vector : List ℕ} (A : AtTide
   read : less ≡ bitsAt s (bitLength (bitsAt s 15 4) t) 3
   read = g .is ∙ ap (λ p. bitsAt s p 3) (A .begins)
 
-  pub tide-five : k ≤ less → Reading s (t + 1) (Refused Because.Setting) matrix vector
+  pub tide-five : k ≤ less → Reading s (t + 1) (Refused RefusalCase.Setting) matrix vector
   tide-five h = stopped refl (turn-five s t (A .more) matrix vector (A .loaded) less read (omega (arith, A .k-is)))
 
   module _ (fits : less < k) {new : List ℕ} {a : Answer} (r : RowRead s (start + 3) t matrix new a) where

@@ -10,7 +10,7 @@ use Rattle.file_format.specs.File.{fileOf, decoded, readReasons}
 use Rattle.validity.specs.Memory.{State, contentsOf, stored}
 use Rattle.dataset.specs.Answers.{freshAnswer, freshLeaves, heldAnswer}
 use Rattle.study_file.specs.declared.Written.{Written}
-use Rattle.study_file.specs.declared.Written.the-variants as Writes
+use Rattle.study_file.specs.declared.Written.the-variants as WrittenCase
 
 -- ---- Read
 
@@ -44,5 +44,5 @@ writeLeaves s bytes =
 
 -- the code's answer, by document 01's number and values
 abbrev pub writtenOf : Written → Reply ℕ
-writtenOf (Writes.Done n) = value n
-writtenOf (Writes.Refused r) = refusal (numbered r)
+writtenOf (WrittenCase.Done n) = value n
+writtenOf (WrittenCase.Refused r) = refusal (numbered r)

@@ -8,12 +8,12 @@ use crate::tides::read_tides;
 use crate::writing::put_fields;
 use dataset::check;
 use study::Answer;
-use validity::is_short;
 use study::Dataset;
 use study::MAX_TIDES;
 use study::Outcome;
 use study::Refusal;
 use study::TABLE_SIZE;
+use validity::is_short;
 
 mod head;
 mod length;

@@ -12,9 +12,9 @@ use Rattle.study_text.specs.Words.{newlines, endsWord, begins, commentAf
 use Rattle.study_text.specs.Words.{digit, withDigit, valueFrom, numeralOf, wordAt, nextOf}
 use Rattle.study_text.specs.Packing.{numberOf, numbersOf, minimaFrom, openingOf, minimaOf, headOf, tideOf}
 use Rattle.study_text.specs.Packing.{turnOf, turnsOf, textOf, packAnswer, packLeaves}
-use Rattle.study_text.specs.Cases.{cases, WorkedCases, OneTide}
+use Rattle.study_text.specs.Cases.{cases, TextCases, OneTideFile}
 
-pub worked-cases : WorkedCases
+pub worked-cases : TextCases
 unfolding cases packAnswer textOf turnsOf turnOf tideOf headOf minimaOf openingOf minimaFrom numbersOf numberOf
     nextOf wordAt numeralOf valueFrom withDigit digit wordOf startOf past commentAfter begins endsWord newlines
     openReasons opening opened minimaReasons settingMinima withMinima validMinima enterReasons entering entered
@@ -22,7 +22,7 @@ unfolding cases packAnswer textOf turnsOf turnOf tideOf headOf minimaOf openingO
     fileOf fields tideFields packed pack allBits binary
 worked-cases = refl
 
-pub one-tide : OneTide
+pub one-tide : OneTideFile
 unfolding packLeaves textOf turnsOf turnOf tideOf headOf minimaOf openingOf minimaFrom numbersOf numberOf
     nextOf wordAt numeralOf valueFrom withDigit digit wordOf startOf past commentAfter begins endsWord newlines
     openReasons opening opened minimaReasons settingMinima withMinima validMinima enterReasons entering entered

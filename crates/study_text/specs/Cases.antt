@@ -43,9 +43,9 @@ cases =
     ∷ []
 
 -- of each text is said what stands beside it
-abbrev pub WorkedCases : Type 0
-WorkedCases = map (λ (c : TextCase). packAnswer (ascii (c .text)) 8) cases ≡ map (λ (c : TextCase). c .report) cases
+abbrev pub TextCases : Type 0
+TextCases = map (λ (c : TextCase). packAnswer (ascii (c .text)) 8) cases ≡ map (λ (c : TextCase). c .report) cases
 
 -- the file of one tide, and a byte past it
-abbrev pub OneTide : Type 0
-OneTide = packLeaves (ascii "1 1 0 1\n") (replicate 8 170) ≡ 0x54 ∷ 0x02 ∷ 0x20 ∷ 0x40 ∷ 0x00 ∷ 0x00 ∷ 0x00 ∷ 170 ∷ []
+abbrev pub OneTideFile : Type 0
+OneTideFile = packLeaves (ascii "1 1 0 1\n") (replicate 8 170) ≡ 0x54 ∷ 0x02 ∷ 0x20 ∷ 0x40 ∷ 0x00 ∷ 0x00 ∷ 0x00 ∷ 170 ∷ []

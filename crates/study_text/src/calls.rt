@@ -20,7 +20,7 @@ ghost use mathlib.Core.Path.{_≡_};
 ghost use Prim.Native.Nat.{_≤_};
 ghost use lib.ListN.{length};
 ghost use Rattle.study.specs.Limits.{maxTides, tableSize};
-ghost use Rattle.validity.specs.Memory.{stateOf, contentsOf};
+ghost use Rattle.validity.specs.Memory.{stateOf, contentsOf, entryState};
 ghost use Rattle.dataset.specs.Accepted.{Passed};
 ghost use Rattle.study_text.specs.Packing.{minimaFrom, openingOf, minimaOf, headOf, tideOf, entered, turnOf, turnsOf, textOf, going};
 ghost use Rattle.study_text.specs.Words.{CursorWithin};
@@ -131,7 +131,7 @@ fn read_minima(
 ) -> Reached
     requires { ⌜ CursorWithin (now text) from × Passed (stateOf dataset (now distances) (now settings)) ⌝ }
     ensures { λ r. ⌜ Reaches (now (text .entry)) r (now (distances .entry)) (now (settings .entry))
-        (entered (minimaOf (now (text .entry)) (contentsOf (stateOf dataset (now (distances .entry)) (now (settings .entry)))) from)) ⌝ }
+        (entered (minimaOf (now (text .entry)) (contentsOf (entryState dataset distances settings)) from)) ⌝ }
 {
     let mut xs = [0u32; 9];
     let n = dataset.k as usize + 1;
@@ -157,7 +157,7 @@ fn read_tide(
 ) -> Reached
     requires { ⌜ CursorWithin (now text) from × Passed (stateOf dataset (now distances) (now settings)) × (maxTides ≤ length (now row)) ⌝ }
     ensures { λ r. ⌜ Reaches (now (text .entry)) r (now (distances .exit)) (now (settings .exit))
-        (entered (tideOf (now (text .entry)) (contentsOf (stateOf dataset (now (distances .entry)) (now (settings .entry)))) setting from)) ⌝ }
+        (entered (tideOf (now (text .entry)) (contentsOf (entryState dataset distances settings)) setting from)) ⌝ }
 {
     let n = dataset.n;
     let read = read_row(text, from, &mut row[..n]);
@@ -181,7 +181,7 @@ fn next_tide(
 ) -> Reached
     requires { ⌜ CursorWithin (now text) from × Passed (stateOf dataset (now distances) (now settings)) × (maxTides ≤ length (now row)) ⌝ }
     ensures { λ r. ⌜ Reaches (now (text .entry)) r (now (distances .exit)) (now (settings .exit))
-        (turnOf (now (text .entry)) (contentsOf (stateOf dataset (now (distances .entry)) (now (settings .entry)))) from) ⌝ }
+        (turnOf (now (text .entry)) (contentsOf (entryState dataset distances settings)) from) ⌝ }
 {
     let word = next(text, from);
     match word {

@@ -1,18 +1,18 @@
 // Document 01's cases 7 to 9: what Enter, Read, Write and Withdraw give.
 use blocking::records::block_by_value;
-use test_comparisons::given::is_done;
-use test_exhaustive::small::gap;
 use study::Dataset;
+use study::MAX_TIDES;
 use study::Minima;
 use study::Outcome;
 use study_file::Written;
+use test_comparisons::given::is_done;
+use test_exhaustive::small::gap;
 use test_tools::samples::nonsense;
 use test_tools::samples::opened;
 use test_tools::samples::two_tides;
 use test_tools::samples::with_minima;
 use test_tools::slices::front_row;
 use test_tools::tally::Tally;
-use study::MAX_TIDES;
 
 // A third tide beside two at 3.
 fn third(row: &[u32]) -> Outcome {

@@ -1,4 +1,8 @@
 // Document 01's cases 1 to 6 through the calls. A place of a list past the last tide is 0 here.
+use study::BlockRecord;
+use study::Blocked;
+use study::MAX_TIDES;
+use study::Minima;
 use test_comparisons::comparing;
 use test_comparisons::given::blocked;
 use test_comparisons::given::blocked_number;
@@ -9,11 +13,7 @@ use test_comparisons::judging::judged;
 use test_exhaustive::exhaustive;
 use test_exhaustive::small::Small;
 use test_exhaustive::small::table;
-use study::BlockRecord;
-use study::Blocked;
-use study::Minima;
 use test_tools::tally::Tally;
-use study::MAX_TIDES;
 
 // Tides on a line, k = 1 and each b 0.
 fn line(n: usize, positions: [u8; 7], b0: u8) -> Small {

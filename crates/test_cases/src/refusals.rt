@@ -3,20 +3,20 @@
 use blocking::centres::centres_into;
 use blocking::judge::judge;
 use blocking::records::block_by_value;
-use test_comparisons::given::all_blank;
-use test_comparisons::given::blocked_number;
-use study::refusals::number_of;
 use study::Dataset;
 use study::Judged;
+use study::MAX_TIDES;
 use study::Minima;
+use study::TABLE_SIZE;
+use study::refusals::number_of;
+use test_comparisons::given::all_blank;
+use test_comparisons::given::blocked_number;
 use test_tools::samples::nonsense;
 use test_tools::samples::opened;
 use test_tools::samples::two_tides;
 use test_tools::samples::with_minima;
 use test_tools::tally::Tally;
 use test_tools::tally::answer_number;
-use study::MAX_TIDES;
-use study::TABLE_SIZE;
 
 // Whether a list still holds 170 at every place.
 fn kept(list: &[u8]) -> bool {

@@ -2,13 +2,13 @@
 use crate::given::is_number;
 use blocking::centres::Counted;
 use blocking::centres::centres_into;
-use test_random::between;
-use test_random::next;
 use test_exhaustive::centres;
 use test_exhaustive::centres::Centres;
 use test_exhaustive::partitions::wide;
 use test_exhaustive::small::Small;
 use test_exhaustive::studies;
+use test_random::between;
+use test_random::next;
 use test_tools::tally;
 use test_tools::tally::Tally;
 use test_tools::tally::answer_number;

@@ -6,7 +6,8 @@ use crate::given::is_blank;
 use crate::given::is_done;
 use crate::given::is_list;
 use crate::given::is_number;
-use test_random::next;
+use study::BlockRecord;
+use study::MAX_TIDES;
 use test_exhaustive::centres;
 use test_exhaustive::centres::Centres;
 use test_exhaustive::exhaustive;
@@ -16,10 +17,9 @@ use test_exhaustive::partitions::members;
 use test_exhaustive::partitions::wide;
 use test_exhaustive::small::Small;
 use test_exhaustive::studies;
-use study::BlockRecord;
+use test_random::next;
 use test_tools::tally;
 use test_tools::tally::Tally;
-use study::MAX_TIDES;
 
 // Whether this is the record of block m, counted from 0; past the last block nothing was written.
 fn right_record(record: BlockRecord, small: Small, list: [u8; 7], centres: Centres, m: u8) -> bool {

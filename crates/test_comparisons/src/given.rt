@@ -1,11 +1,11 @@
 // What Block gives of a small study, and tests of it.
 use blocking::records::block_by_value;
-use test_exhaustive::small::Small;
-use test_exhaustive::small::at;
-use study::refusals::number_of;
 use study::BlockRecord;
 use study::Blocked;
 use study::MAX_TIDES;
+use study::refusals::number_of;
+use test_exhaustive::small::Small;
+use test_exhaustive::small::at;
 
 // Block's answer, records, and a list of nine places that held 170.
 pub struct Given {

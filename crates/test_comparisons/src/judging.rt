@@ -1,7 +1,7 @@
 // Judge beside a plain test.
 use blocking::judge::judge;
-use test_random::between;
-use test_random::next;
+use study::Judged;
+use study::refusals::number_of;
 use test_exhaustive::exhaustive;
 use test_exhaustive::partitions::diameter;
 use test_exhaustive::partitions::meets;
@@ -9,8 +9,8 @@ use test_exhaustive::small::Small;
 use test_exhaustive::small::at;
 use test_exhaustive::studies;
 use test_exhaustive::studies::numbers;
-use study::refusals::number_of;
-use study::Judged;
+use test_random::between;
+use test_random::next;
 use test_tools::slices::front;
 use test_tools::tally;
 use test_tools::tally::Tally;

@@ -1,18 +1,18 @@
 // Trials of the dataset's calls. Most refusals are tried where a later reason holds too, so that the order shows.
 // Each group prints how many of its answers and places came out as expected.
 use study::Dataset;
+use study::MAX_BLOCK_MINIMUM;
+use study::MAX_TIDES;
+use study::MAX_WITHDRAWALS;
 use study::Minima;
 use study::Outcome;
+use study::TABLE_SIZE;
 use test_tools::samples::entered;
 use test_tools::samples::nonsense;
 use test_tools::samples::opened;
 use test_tools::samples::two_tides;
 use test_tools::tally;
 use test_tools::tally::Tally;
-use study::MAX_BLOCK_MINIMUM;
-use study::MAX_TIDES;
-use study::TABLE_SIZE;
-use study::MAX_WITHDRAWALS;
 
 mod samples;
 mod spoiled;

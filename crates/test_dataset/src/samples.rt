@@ -1,10 +1,10 @@
 // Records and datasets to try the calls on.
 use study::Dataset;
+use study::MAX_TIDES;
 use study::Minima;
 use test_tools::samples::entered;
 use test_tools::samples::opened;
 use test_tools::samples::two_tides;
-use study::MAX_TIDES;
 
 pub fn minima(b0: u8, first: u8, third: u8) -> Minima {
     Minima {

@@ -2,10 +2,10 @@
 use crate::samples;
 use study::Answer;
 use study::Dataset;
-use study::Minima;
-use test_tools::tally::Tally;
 use study::MAX_TIDES;
+use study::Minima;
 use study::TABLE_SIZE;
+use test_tools::tally::Tally;
 
 fn record(k: u8, n: usize, b0: u8) -> Dataset {
     let minima = Minima { b0, b: [0; 8] };

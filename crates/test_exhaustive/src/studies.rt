@@ -1,9 +1,9 @@
 // Small studies from a fixed generator: up to seven tides on a line or in a plane, with tight minima.
 use crate::small::Small;
 use crate::small::table;
+use study::Minima;
 use test_random::between;
 use test_random::next;
-use study::Minima;
 
 // Seven numbers from low to high.
 pub fn numbers(seed: u64, low: u8, high: u8) -> [u8; 7] {

@@ -1,8 +1,8 @@
 // Counts of trials, and of those that came out as expected.
-use study::refusals::number_of;
 use study::Answer;
 use study::Outcome;
 use study::Refusal;
+use study::refusals::number_of;
 
 pub struct Tally {
     pub tried: u32,

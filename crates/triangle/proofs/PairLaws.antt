@@ -15,18 +15,18 @@ use Rattle.study.specs.Limits.{cell}
 use Rattle.study.specs.Refusals.{seven}
 use Rattle.study.specs.Calls.{triangle, Pair, violations, firstViolation}
 use Rattle.triangle.specs.declared.Violation.{Violation}
-use Rattle.triangle.specs.declared.Violation.the-variants as Violations
+use Rattle.triangle.specs.declared.Violation.the-variants as ViolationCase
 use Rattle.triangle.specs.Pairs.{violationOf}
 
-pub found-nothing : (ps : List Pair) → violationOf ps ≡ Violations.Nothing → isEmpty ps ≡ true
+pub found-nothing : (ps : List Pair) → violationOf ps ≡ ViolationCase.Nothing → isEmpty ps ≡ true
 found-nothing [] e = refl
 found-nothing (p ∷ ps) e = let z : _≡_ {A = ℕ} 0 1 = cc in absurd (omega arith)
 
-pub nothing-found : (ps : List Pair) → T (isEmpty ps) → Violations.Nothing ≡ violationOf ps
+pub nothing-found : (ps : List Pair) → T (isEmpty ps) → ViolationCase.Nothing ≡ violationOf ps
 nothing-found [] t = refl
 nothing-found (p ∷ ps) t = absurd t
 
-pub found-pair : (ps : List Pair) (i j : ℕ) → violationOf ps ≡ Violations.Pair i j → (isEmpty ps ≡ false) × (firstViolation ps ≡ seven i j)
+pub found-pair : (ps : List Pair) (i j : ℕ) → violationOf ps ≡ ViolationCase.Pair i j → (isEmpty ps ≡ false) × (firstViolation ps ≡ seven i j)
 found-pair [] i j e = let z : _≡_ {A = ℕ} 0 1 = cc in absurd (omega arith)
 found-pair (p ∷ ps) i j e = (refl, cc)
 
@@ -78,7 +78,7 @@ module _ (d row : List ℕ) where
   unfolding pairsAt
   violation-passes i j l q = rw (add-one j) (at-j i j l false q)
 
-  pub violation-finds : (i j : ℕ) → j < n → violates? i j ≡ true → Violations.Pair (i + 1) (j + 1) ≡ violationOf (pairsAt i j)
+  pub violation-finds : (i j : ℕ) → j < n → violates? i j ≡ true → ViolationCase.Pair (i + 1) (j + 1) ≡ violationOf (pairsAt i j)
   violation-finds i j l q = rw (add-one i, add-one j) (sym (ap violationOf (at-j i j l true q)))
 
   pub violation-leaves : (i j : ℕ) → n ≤ j → pairsAt i j ≡ pairsFrom (i + 1)
@@ -87,7 +87,7 @@ module _ (d row : List ℕ) where
       let e : n - j ≡ 0 = omega arith in
       rw (add-one i) (ap (λ (k : ℕ). with i (iota j k) ++ pairsFrom (suc i)) e)
 
-  pub violation-ends : (i : ℕ) → n ≤ i → Violations.Nothing ≡ violationOf (pairsFrom i)
+  pub violation-ends : (i : ℕ) → n ≤ i → ViolationCase.Nothing ≡ violationOf (pairsFrom i)
   unfolding pairsFrom flatMap
   violation-ends i l = let e : n - i ≡ 0 = omega arith in sym (ap (λ (k : ℕ). violationOf (after i k)) e)
 

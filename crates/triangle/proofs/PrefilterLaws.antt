@@ -15,7 +15,7 @@ use Rattle.study.proofs.TriangleLaws.{obeyed-of}
 use Rattle.triangle.specs.Prefilter.{SmallTriple, TripleFlags, RowFlags, Obeys, SmallRow}
 use Rattle.triangle.specs.Pairs.{violationOf}
 use Rattle.triangle.proofs.PairLaws.{nothing-found}
-use Rattle.triangle.specs.declared.Violation.the-variants as Violations
+use Rattle.triangle.specs.declared.Violation.the-variants as ViolationCase
 
 -- ---- one triple
 
@@ -173,6 +173,6 @@ module _ (d row : List ℕ) where
       (λ j k. let m : i + 1 + j < n = omega (arith, rest-length i) in
       rw (line-at i j m, rest-at i j m) (U .rule i (i + 1 + j) l (omega arith) m))
 
-  pub obeys-found : Obeys d row n → Violations.Nothing ≡ violationOf (violations (cell d) n (λ i. getD row i 0))
+  pub obeys-found : Obeys d row n → ViolationCase.Nothing ≡ violationOf (violations (cell d) n (λ i. getD row i 0))
   obeys-found U =
       nothing-found (violations (cell d) n (λ i. getD row i 0)) (obeyed-of (cell d) n (λ i. getD row i 0) (λ u v a b. U .rule u v (omega arith) a b))

@@ -3,9 +3,9 @@ use Prim.Native.Nat.{suc}
 use mathlib.Core.List.{List, [], _∷_}
 use Rattle.study.specs.Calls.{Pair}
 use Rattle.triangle.specs.declared.Violation.{Violation}
-use Rattle.triangle.specs.declared.Violation.the-variants as Violations
+use Rattle.triangle.specs.declared.Violation.the-variants as ViolationCase
 
 -- the first of these pairs, its tides numbered from 1; nothing where there is none
 abbrev pub violationOf : List Pair → Violation
-violationOf [] = Violations.Nothing
-violationOf (p ∷ ps) = Violations.Pair (suc (p .lower)) (suc (p .upper))
+violationOf [] = ViolationCase.Nothing
+violationOf (p ∷ ps) = ViolationCase.Pair (suc (p .lower)) (suc (p .upper))

@@ -23,7 +23,7 @@ use Rattle.study.proofs.StudyLaws.{validMinima-T, distance-both-ways, distance-
 use Rattle.study.specs.Triangle.{Triangle}
 use Rattle.study.proofs.TriangleLaws.{obeyed, obeyed-of, ordered-triangle}
 use Rattle.triangle.specs.declared.Violation.{Violation}
-use Rattle.triangle.specs.declared.Violation.the-variants as Violations
+use Rattle.triangle.specs.declared.Violation.the-variants as ViolationCase
 use Rattle.triangle.specs.Pairs.{violationOf}
 use Rattle.triangle.proofs.PairLaws.{found-nothing, found-pair, rowIn, part-found}
 use Rattle.validity.specs.Memory.{State, validSetting, validPlace, validRow, isStudy, validCount, isDataset, tideOf, studyOf, contentsOf}
@@ -307,11 +307,11 @@ module _ (k : ℕ) (M : Minima) where
 
 module _ (d : List ℕ) (t : ℕ) (fits : 14400 ≤ length d) (held : t < 120) {r : Violation}
     (e : r ≡ violationOf (violations (cell d) (length (rowIn d t)) (λ i. getD (rowIn d t) i 0))) where
-  pub row-holds : r ≡ Violations.Nothing → true ≡ validRow d t
+  pub row-holds : r ≡ ViolationCase.Nothing → true ≡ validRow d t
   unfolding validRow
   row-holds q = sym (found-nothing (violations (cell d) t (cell d t)) (sym (part-found d t fits held e) ∙ q))
 
-  pub row-breaks : {i j : ℕ} → r ≡ Violations.Pair i j → false ≡ validRow d t
+  pub row-breaks : {i j : ℕ} → r ≡ ViolationCase.Pair i j → false ≡ validRow d t
   unfolding validRow
   row-breaks {i} {j} q = sym (found-pair (violations (cell d) t (cell d t)) i j (sym (part-found d t fits held e) ∙ q) .0)
 
@@ -328,22 +328,22 @@ module _ (s : State) (D : IsStudy s) where
   unfolding studyOf tideOf
   valid-study =
       record {
-          k-low = D .k-low;
-          k-high = D .k-high;
-          few = omega (arith, study-size s, D .few);
-          minima = validMinima-T (s .dataset .k) (s .dataset .minima) .1 (D .minima);
-          setting-low = λ t l. rw (study-setting s t (held t l)) (D .setting-low t (held t l));
-          setting-high = λ t l. rw (study-setting s t (held t l)) (D .setting-high t (held t l));
-          row-length = λ t l. ap (λ (x : Tide). length (x .row)) (study-tide s t (held t l)) ∙ length-tabulate t (cell (s .distances) t);
-          distance-high = λ t u a b. omega (arith, study-distance t u (held t a) (held u b), D .distance-high t u (held t a) (held u b));
-          triangle = λ t u v a b c.
-              omega (
-                arith,
-                study-distance t v (held t a) (held v c),
-                study-distance t u (held t a) (held u b),
-                study-distance u v (held u b) (held v c),
-                D .triangle t u v (held t a) (held u b) (held v c),
-              );
+        k-low = D .k-low;
+        k-high = D .k-high;
+        few = omega (arith, study-size s, D .few);
+        minima = validMinima-T (s .dataset .k) (s .dataset .minima) .1 (D .minima);
+        setting-low = λ t l. rw (study-setting s t (held t l)) (D .setting-low t (held t l));
+        setting-high = λ t l. rw (study-setting s t (held t l)) (D .setting-high t (held t l));
+        row-length = λ t l. ap (λ (x : Tide). length (x .row)) (study-tide s t (held t l)) ∙ length-tabulate t (cell (s .distances) t);
+        distance-high = λ t u a b. omega (arith, study-distance t u (held t a) (held u b), D .distance-high t u (held t a) (held u b));
+        triangle = λ t u v a b c.
+            omega (
+              arith,
+              study-distance t v (held t a) (held v c),
+              study-distance t u (held t a) (held u b),
+              study-distance u v (held u b) (held v c),
+              D .triangle t u v (held t a) (held u b) (held v c),
+            );
       }
 
 pub valid-contents : (s : State) → IsDataset s → ValidContents (contentsOf s)

@@ -1,14 +1,14 @@
 // Reason 21: whether a record and memory are a dataset. Each function is one test of specs/Memory.antt.
 // A dataset (document 01: book) is a record and lent memory: 14,400 distances in rows of 120, and 120 setting bytes.
 use study::Dataset;
-use study::Minima;
+use study::MAX_BLOCK_MINIMUM;
+use study::MAX_DISTANCE;
 use study::MAX_K;
 use study::MAX_SETTINGS;
-use study::TABLE_SIZE;
-use study::MAX_BLOCK_MINIMUM;
-use triangle::Violation;
 use study::MAX_TIDES;
-use study::MAX_DISTANCE;
+use study::Minima;
+use study::TABLE_SIZE;
+use triangle::Violation;
 ghost use mathlib.Core.Path.{_≡_};
 ghost use mathlib.Core.Bool.{true, false, cond};
 ghost use Prim.Native.Nat.{_≤_, _<_};

@@ -1,6 +1,6 @@
 -- `bit_reader::start_of` meets its contract: each arm is given which constructor each field is. Assumes nothing.
 use mathlib.Core.Path.{sym, ap, _∙_}
-use Rattle.bit_reader.specs.declared.FieldValue.the-variants as FieldValues
+use Rattle.bit_reader.specs.declared.FieldValue.the-variants as FieldValueCase
 use Rattle.bit_reader.specs.Fields.{startOf}
 use borrow.Author.Needs.{needs}
 use Rattle.bit_reader.proofs.start_of.Statement.{statement}
@@ -8,7 +8,7 @@ use Rattle.bit_reader.proofs.start_of.Tie as tie
 
 returns-3 : tie.Need-returns-3
 returns-3 c =
-    ap (λ m. startOf m (FieldValues.Value (c .before .tides .given .0 .0))) (sym (c .before .before .before .before .mark .given .1))
+    ap (λ m. startOf m (FieldValueCase.Value (c .before .tides .given .0 .0))) (sym (c .before .before .before .before .mark .given .1))
     ∙ ap (startOf (c .before .before .before .before .before .before .args .mark)) (sym (c .before .tides .given .1))
 
 pub start-of-spec : {M : Type 1} → statement M

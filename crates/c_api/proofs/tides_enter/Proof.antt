@@ -10,9 +10,9 @@ returns : tie.Need-returns
 unfolding enterVerdict enterLeft
 returns c = left-too-short _ _ _ (lacks-yes 12 _ (c .if1 .taken))
 
-settle-requires : tie.Need-settle-requires
+store-outcome-requires : tie.Need-store-outcome-requires
 unfolding enterLeaves heldLeaves enterAnswer
-settle-requires c κs =
+store-outcome-requires c κs =
     let called = c .before .before .before .before .before in
     storable _ (enter-sound _ _ _) (called .before .before .before .before .before .before .if1 .left) (called .enter .ensures)
 
@@ -21,7 +21,7 @@ returns-2 c =
     let settled = c .before .before in
     let called = settled .before .before .before .before .before .before in
     let got = called .before .before .before .before in
-    enter-left (record { room = got .before .before .if1 .left; held = got .dataset-of .ensures; settles = settled .settle .ensures }) _ _
+    enter-left (record { room = got .before .before .if1 .left; held = got .dataset-of .ensures; settles = settled .store-outcome .ensures }) _ _
     (called .before .narrow .ensures) (called .enter .ensures)
 
 pub tides-enter-spec : {M : Type 1} → statement M
@@ -32,7 +32,7 @@ tides-enter-spec =
     (λ c κs. search needs)
     (λ c κs. search needs)
     (λ c κs. search needs)
-    settle-requires
+    store-outcome-requires
     (λ c. search needs)
     (λ c. search needs)
     (λ c. search needs)

@@ -15,9 +15,9 @@ returns-2 : tie.Need-returns-2
 unfolding minimaVerdict minimaLeft
 returns-2 c = left-too-short _ _ _ (lacks-one _ _ (inr (c .if2 .taken)))
 
-settle-requires : tie.Need-settle-requires
+store-outcome-requires : tie.Need-store-outcome-requires
 unfolding minimaLeaves heldLeaves minimaAnswer
-settle-requires c κs =
+store-outcome-requires c κs =
     let called = c .before in
     storable _ (minima-sound _ _) (called .before .before .before .before .before .if1 .left) (called .set-minima .ensures)
 
@@ -26,7 +26,7 @@ returns-3 c =
     let settled = c .before .before in
     let called = settled .before .before in
     let got = called .before .before in
-    minima-left (record { room = got .before .before .before .if1 .left; held = got .dataset-of .ensures; settles = settled .settle .ensures }) _
+    minima-left (record { room = got .before .before .before .if1 .left; held = got .dataset-of .ensures; settles = settled .store-outcome .ensures }) _
     (got .before .before .if2 .left) (called .before .minima-of .ensures) (called .set-minima .ensures)
 
 pub tides-minima-spec : {M : Type 1} → statement M
@@ -38,6 +38,6 @@ tides-minima-spec =
     (λ c κs. search needs)
     (λ c κs. search needs)
     (λ c κs. search needs)
-    settle-requires
+    store-outcome-requires
     (λ c. search needs)
     returns-3)

@@ -11,9 +11,9 @@ returns : tie.Need-returns
 unfolding readVerdict readLeft
 returns c = left-too-short _ _ _ (lacks-yes 12 _ (c .if1 .taken))
 
-settle-requires : tie.Need-settle-requires
+store-outcome-requires : tie.Need-store-outcome-requires
 unfolding readLeaves freshLeaves readAnswer
-settle-requires c κs =
+store-outcome-requires c κs =
     let called = c .before .before .before .before .before in
     storable _ (read-sound _ _) (called .before .before .before .before .before .if1 .left) (called .read .ensures)
 
@@ -22,7 +22,7 @@ returns-2 c =
     let settled = c .before .before in
     let called = settled .before .before .before .before .before .before in
     let got = called .before .before .before in
-    read-left (record { room = got .before .before .if1 .left; held = got .dataset-of .ensures; settles = settled .settle .ensures }) _
+    read-left (record { room = got .before .before .if1 .left; held = got .dataset-of .ensures; settles = settled .store-outcome .ensures }) _
     (called .read .ensures)
 
 pub tides-read-spec : {M : Type 1} → statement M
@@ -32,7 +32,7 @@ tides-read-spec =
     returns
     (λ c κs. search needs)
     (λ c κs. search needs)
-    settle-requires
+    store-outcome-requires
     (λ c. search needs)
     (λ c. search needs)
     (λ c. search needs)

@@ -28,15 +28,25 @@ returns-5 : tie.Need-returns-5
 unfolding validPlace
 returns-5 c =
     let e = c .before .before .before in
-    rw (lt-ltb _ _ (e .before .before .if1 .left), lt-ltb _ _ (e .before .if2 .left), le-leb _ _ (e .if3 .left), eq-eqb _ _ (c .before .if4 .left),
-    eq-eqb _ _ (c .if5 .taken)) (and-true _)
+    rw (
+      lt-ltb _ _ (e .before .before .if1 .left),
+      lt-ltb _ _ (e .before .if2 .left),
+      le-leb _ _ (e .if3 .left),
+      eq-eqb _ _ (c .before .if4 .left),
+      eq-eqb _ _ (c .if5 .taken),
+    ) (and-true _)
 
 returns-6 : tie.Need-returns-6
 unfolding validPlace
 returns-6 c =
     let e = c .before .before .before in
-    rw (lt-ltb _ _ (e .before .before .if1 .left), lt-ltb _ _ (e .before .if2 .left), le-leb _ _ (e .if3 .left), eq-eqb _ _ (c .before .if4 .left),
-    ne-eqb _ _ (c .if5 .left))
+    rw (
+      lt-ltb _ _ (e .before .before .if1 .left),
+      lt-ltb _ _ (e .before .if2 .left),
+      le-leb _ _ (e .if3 .left),
+      eq-eqb _ _ (c .before .if4 .left),
+      ne-eqb _ _ (c .if5 .left),
+    )
 
 pub valid-place-spec : {M : Type 1} → statement M
 valid-place-spec =

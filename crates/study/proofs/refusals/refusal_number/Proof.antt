@@ -3,7 +3,7 @@ use Prim.Native.Nat.{_<_}
 use native.Mathlib.Omega.{arith}
 use mathlib.Core.Path.{sym, ap, _∙_}
 use Rattle.study.specs.declared.Refusal.{Refusal}
-use Rattle.study.specs.declared.Refusal.the-variants as Because
+use Rattle.study.specs.declared.Refusal.the-variants as RefusalCase
 use Rattle.study.specs.Refusals.{numbered, verdictOf}
 use Rattle.study.specs.Numbers.{numberOf, refusalNumber}
 use borrow.Author.Needs.{needs}
@@ -11,24 +11,24 @@ use Rattle.study.proofs.refusals.refusal_number.Statement.{statement}
 use Rattle.study.proofs.refusals.refusal_number.Tie as tie
 
 small : (x : Refusal) → numberOf (numbered x) < 256
-small Because.ShortMemory = omega arith
-small Because.SettingCount = omega arith
-small Because.Minima = omega arith
-small Because.RowLength = omega arith
-small Because.Setting = omega arith
-small Because.Distance = omega arith
-small (Because.TriangleInequality i j) = omega arith
-small Because.FileLength = omega arith
-small Because.Mark = omega arith
-small Because.TideCount = omega arith
-small Because.FillBits = omega arith
-small Because.ListLength = omega arith
-small Because.NotDataset = omega arith
-small Because.Full = omega arith
-small Because.NoSuchTide = omega arith
-small Because.NoTides = omega arith
-small Because.TooFewTides = omega arith
-small Because.WithdrawalLimit = omega arith
+small RefusalCase.ShortMemory = omega arith
+small RefusalCase.SettingCount = omega arith
+small RefusalCase.Minima = omega arith
+small RefusalCase.RowLength = omega arith
+small RefusalCase.Setting = omega arith
+small RefusalCase.Distance = omega arith
+small (RefusalCase.TriangleInequality i j) = omega arith
+small RefusalCase.FileLength = omega arith
+small RefusalCase.Mark = omega arith
+small RefusalCase.TideCount = omega arith
+small RefusalCase.FillBits = omega arith
+small RefusalCase.ListLength = omega arith
+small RefusalCase.NotDataset = omega arith
+small RefusalCase.Full = omega arith
+small RefusalCase.NoSuchTide = omega arith
+small RefusalCase.NoTides = omega arith
+small RefusalCase.TooFewTides = omega arith
+small RefusalCase.WithdrawalLimit = omega arith
 
 cast-result : tie.Need-cast-result
 cast-result c = omega (arith, c .number-of .ensures, small (c .before .before .answer .given .0 .0))

@@ -3,9 +3,9 @@ use borrow.Author.Needs.{needs}
 use mathlib.Core.Path.{ap}
 use Rattle.study.specs.Refusals.{verdictOf}
 use Rattle.c_api.specs.Api.{numbersOf}
-use Rattle.c_api.proofs.CallLaws.{settle-done}
-use Rattle.c_api.proofs.numbers.settle.Statement.{statement}
-use Rattle.c_api.proofs.numbers.settle.Tie as tie
+use Rattle.c_api.proofs.CallLaws.{stored-outcome}
+use Rattle.c_api.proofs.numbers.store_outcome.Statement.{statement}
+use Rattle.c_api.proofs.numbers.store_outcome.Tie as tie
 
 put-dataset-requires : tie.Need-put-dataset-requires
 put-dataset-requires c κs =
@@ -16,10 +16,10 @@ returns-2 : tie.Need-returns-2
 returns-2 c =
     let told = c .before .before .before .before .before in
     let outcome = told .before .before .before .args .outcome in
-    settle-done (numbersOf (outcome .dataset)) _ (told .enum-told .given .1) (c .before .before .put-dataset .ensures)
+    stored-outcome (numbersOf (outcome .dataset)) _ (told .enum-told .given .1) (c .before .before .put-dataset .ensures)
 
-pub settle-spec : {M : Type 1} → statement M
-settle-spec =
+pub store-outcome-spec : {M : Type 1} → statement M
+store-outcome-spec =
     tie.close
     (tie.spec
     (λ c. search needs)
