@@ -19,7 +19,7 @@ pub enum Start {
 }
 
 // A byte as a wider number.
-fn wide(x: u8) -> u32
+pub fn wide(x: u8) -> u32
     ensures { λ r. ⌜ (r ≡ x) × (r < 256) ⌝ }
 {
     x as u32

@@ -1,6 +1,6 @@
 // Sizes and diameters of the blocks.
-use radius_search::counts::wide;
 use study::MAX_TIDES;
+use study::wide;
 ghost use mathlib.Core.Path.{_≡_};
 ghost use mathlib.Core.Bool.{cond};
 ghost use Prim.Native.Nat.{ℕ, _*_, _<_, _≤_, max};

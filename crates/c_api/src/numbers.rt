@@ -61,6 +61,7 @@ pub fn dataset_of(numbers: &[u16]) -> Dataset
     }
 }
 
+// A byte as a number of the record.
 fn wide(x: u8) -> u16
     ensures { λ r. ⌜ r ≡ x ⌝ }
 {

@@ -30,6 +30,7 @@ pub fn put_numbers(row: &[u32], count: usize, list: &mut [u32])
     }
 }
 
+// The lesser of two numbers.
 fn lesser(x: usize, y: usize) -> usize
     ensures { λ r. ⌜ r ≡ min x y ⌝ }
 {

@@ -2,16 +2,12 @@
 use crate::augment::edge;
 use crate::augment::swap;
 use study::MAX_TIDES;
+use study::wide;
 ghost use Prim.Native.Nat.{_<_, _≤_};
 ghost use lib.ListN.{length};
 ghost use Rattle.study.specs.Limits.{maxTides};
 ghost use Rattle.matching.specs.Matching.{Matching};
 ghost use Rattle.matching.specs.Graph.{Edge, GraphMatching};
-
-// A byte as a number that can stand for a place.
-fn wide(x: u8) -> usize {
-    x as usize
-}
 
 // Gives the tide t, where it has no slot yet, the next slot of block m and kind k, where there is one
 // that can hold it.

@@ -1,15 +1,9 @@
 // Counts of tides by their settings, against the minima.
 use study::Minima;
+use study::wide;
 ghost use mathlib.Core.Path.{_≡_};
 ghost use lib.ListN.{length};
 ghost use Rattle.radius_search.specs.Tally.{TallyRoom, TallyStep, met};
-
-// A byte as a number that can stand for a place.
-pub fn wide(x: u8) -> usize
-    ensures { λ r. ⌜ r ≡ x ⌝ }
-{
-    x as usize
-}
 
 // Counts tide t where one is 1, by its setting and among those found, and changes nothing where it is 0: a loop over tides has no branch.
 // Hands back how many are found.

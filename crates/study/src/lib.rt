@@ -1,6 +1,8 @@
 // The types that all calls share. The mathematics stands in specs/.
 pub mod refusals;
 
+ghost use mathlib.Core.Path.{_≡_};
+
 // The limits that document 01 sets.
 
 // The most tides that a dataset holds.
@@ -23,6 +25,13 @@ pub const MAX_DISTANCE: u32 = 1048575;
 
 // The greatest count of withdrawals.
 pub const MAX_WITHDRAWALS: u16 = 65535;
+
+// A byte as a number that can stand for a place.
+pub fn wide(x: u8) -> usize
+    ensures { λ r. ⌜ r ≡ x ⌝ }
+{
+    x as usize
+}
 
 // The minima: b0 for a whole block, and b for each of the 8 settings.
 pub struct Minima {
@@ -61,6 +70,7 @@ pub enum Refusal {
     WithdrawalLimit,
 }
 
+// Whether a call is done, or why not.
 pub enum Answer {
     Done,
     Refused(Refusal),
@@ -79,12 +89,14 @@ pub struct BlockRecord {
     pub diameter: u32,
 }
 
+// Block's answer.
 pub enum Blocked {
     // The number of blocks, the radius, the greatest diameter.
     Done(usize, u32, u32),
     Refused(Refusal),
 }
 
+// Judge's answer.
 pub enum Judged {
     // The greatest diameter.
     Approved(u32),

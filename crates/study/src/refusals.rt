@@ -11,6 +11,7 @@ pub enum Number {
     Seven(usize, usize),
 }
 
+// The number of a refusal; of 7 with its pair.
 pub fn numbered(refusal: Refusal) -> Number
     ensures { λ r. ⌜ saidBy r ≡ numbered refusal ⌝ }
 {

@@ -1,5 +1,6 @@
 // A file is written over the front of the lent bytes, field after field. A byte's first bits clear it, so that zero bits fill the last one.
 use crate::length::bit_length;
+use bit_reader::wide;
 use study::Dataset;
 use study::MAX_TIDES;
 ghost use mathlib.Core.Path.{_≡_};
@@ -16,13 +17,6 @@ ghost use Rattle.validity.specs.Memory.{stateOf, entryState, tideOf, contentsOf
 ghost use Rattle.study_file.specs.Writing.{InByte, Adds};
 ghost use Rattle.study_file.specs.Rows.{RowInside};
 ghost use Rattle.study_file.specs.Putting.{PutFields, Writable, TideInside, headFields};
-
-// A byte as a wider number.
-fn wide(x: u8) -> u32
-    ensures { λ r. ⌜ (r ≡ x) × (r < 256) ⌝ }
-{
-    x as u32
-}
 
 // What a byte keeps when its bits from j on are written.
 fn kept(x: u8, j: usize) -> u32

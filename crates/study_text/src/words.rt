@@ -55,6 +55,7 @@ pub fn whole_lines(text: &[u8]) -> usize
     lines
 }
 
+// A byte that ends a word.
 fn ends_word(b: u8) -> bool
     ensures { λ r. ⌜ r ≡ endsWord b ⌝ }
 {
@@ -131,6 +132,7 @@ fn word_end(text: &[u8], at: usize) -> usize
     end
 }
 
+// A byte that is a digit.
 fn is_digit(b: u8) -> bool
     ensures { λ r. ⌜ r ≡ digit b ⌝ }
 {
@@ -152,6 +154,7 @@ fn with_digit(value: u64, b: u8) -> u64
     4294967296
 }
 
+// What a word says.
 fn numeral_of(word: &[u8]) -> Numeral
     ensures { λ r. ⌜ r ≡ numeralOf (now (word .entry)) ⌝ }
 {

@@ -2,9 +2,9 @@
 use crate::given::is_number;
 use blocking::centres::Counted;
 use blocking::centres::centres_into;
+use study::wide;
 use test_exhaustive::centres;
 use test_exhaustive::centres::Centres;
-use test_exhaustive::partitions::wide;
 use test_exhaustive::small::Small;
 use test_exhaustive::studies;
 use test_random::between;

@@ -1,11 +1,8 @@
 // What a list of block numbers makes of a small study: the tides of a block, and its diameter.
 use crate::small::Small;
 use crate::small::at;
+use study::wide;
 ghost use Prim.Native.Nat.{_≤_};
-
-pub fn wide(x: u8) -> usize {
-    x as usize
-}
 
 // 1 where tide t is in the block and has the setting, else 0.
 fn counted(small: Small, list: [u8; 7], block: u8, setting: u8, t: usize) -> usize

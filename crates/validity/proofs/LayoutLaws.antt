@@ -16,7 +16,7 @@ use Rattle.study.specs.Limits.{cell}
 use Rattle.study.specs.Study.{Tide, Study, Contents, size, noTide, tide, distance}
 use Rattle.study.specs.Theorems.{ValidContents}
 use Rattle.study.proofs.StudyLaws.{validMinima-T, distance-both-ways, distance-itself}
-use Rattle.validity.specs.Memory.{State, tooShort, short, isDataset, tideOf, studyOf, contentsOf, recordOf, distancesOf, settingsOf, stored}
+use Rattle.validity.specs.Memory.{State, stateOf, setSize, tooShort, short, isDataset, tideOf, studyOf, contentsOf, recordOf, distancesOf, settingsOf, stored}
 use Rattle.validity.specs.Validity.{IsStudy, Long}
 use Rattle.validity.proofs.ValidityLaws.{isDataset-T, study-size, study-setting, study-distance}
 
@@ -221,9 +221,4 @@ module _ (s : State) (D : IsStudy s) where
     -- so a dataset's memory is that of its contents, and nothing else is in it
     pub own-layout : stored (contentsOf s) s ≡ s
     unfolding stored recordOf contentsOf studyOf
-    own-layout =
-        λ i. record {
-          dataset = record { k = s .dataset .k; n = study-size s i; minima = s .dataset .minima; withdrawn = s .dataset .withdrawn };
-          distances = own-distances i;
-          settings = own-settings i;
-        }
+    own-layout = λ i. stateOf (setSize (study-size s i) (s .dataset)) (own-distances i) (own-settings i)

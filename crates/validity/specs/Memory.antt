@@ -99,19 +99,19 @@ contentsOf s = record { study = studyOf s; withdrawals = s .dataset .withdrawn }
 
 -- ---- the record and the memory that hold given contents; what stands past the 14,400 and the 120 places stays
 
--- a record with one of its fields changed: no other definition writes a record anew
+-- a record with another k. What a call changes of a record is said by these four, so that all else stays
 abbrev pub setK : ℕ → Dataset → Dataset
 setK k r = record { k = k; n = r .n; minima = r .minima; withdrawn = r .withdrawn }
 
--- the number of tides
+-- with another number of tides
 abbrev pub setSize : ℕ → Dataset → Dataset
 setSize n r = record { k = r .k; n = n; minima = r .minima; withdrawn = r .withdrawn }
 
--- the minima
+-- with other minima
 abbrev pub setMinima : Minima → Dataset → Dataset
 setMinima M r = record { k = r .k; n = r .n; minima = M; withdrawn = r .withdrawn }
 
--- the count of withdrawals
+-- with another count of withdrawals
 abbrev pub setCount : ℕ → Dataset → Dataset
 setCount w r = record { k = r .k; n = r .n; minima = r .minima; withdrawn = w }
 

@@ -19,6 +19,7 @@ ghost use Rattle.study.specs.Limits.{maxTides, tableSize, maxDistance, maxSetti
 ghost use Rattle.study.specs.Study.{validMinima};
 ghost use Rattle.validity.specs.Memory.{tooShort, validSetting, validPlace, validRow, isStudy, isDataset, entryState};
 
+// A byte as a number that may be summed.
 fn byte(x: u8) -> usize
     ensures { λ r. ⌜ (r ≡ x) × (r < 256) ⌝ }
 {
@@ -126,6 +127,7 @@ fn valid_row(distances: &[u32], t: usize) -> bool
     }
 }
 
+// All rows of n tides.
 fn valid_rows(distances: &[u32], n: usize) -> bool
     requires { ⌜ tableSize ≤ length (now distances) ⌝ }
     requires { ⌜ n ≤ maxTides ⌝ }
@@ -154,6 +156,7 @@ fn zero_above(b: [u8; MAX_SETTINGS], k: u8, j: usize) -> bool
     x == 0
 }
 
+// All minima of settings above k are 0.
 fn zeros_above(b: [u8; MAX_SETTINGS], k: u8) -> bool
     ensures { λ r. ⌜ r ≡ every maxSettings (λ j. cond (ltb j k) true (eqb (getD b j 0) 0)) ⌝ }
 {
@@ -198,6 +201,7 @@ pub fn valid_minima(minima: Minima, k: u8) -> bool
     zeros_above(b, k)
 }
 
+// One distance of a row.
 fn in_range(row: &[u32], i: usize) -> bool
     requires { ⌜ i < length (now row) ⌝ }
     ensures { λ r. ⌜ r ≡ leb (getD (now (row .entry)) i 0) maxDistance ⌝ }

@@ -1,4 +1,4 @@
--- `row_in_range` meets its contract: the distances passed so far are in range. Assumes nothing.
+-- `row_in_range` meets its contract: the distances passed so far are in range; (length row) - i falls. Assumes nothing.
 use Prim.Native.Nat.{_≤_, _-_}
 use native.Mathlib.Omega.{arith}
 use mathlib.Core.Bool.{true}

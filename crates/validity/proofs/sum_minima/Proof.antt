@@ -1,4 +1,4 @@
--- `sum_minima` meets its contract: the sum of the minima passed so far. Assumes nothing.
+-- `sum_minima` meets its contract: the sum of the minima passed so far; 8 - j falls. Assumes nothing.
 use Prim.Native.Nat.{_≤_, _-_, _*_}
 use native.Mathlib.Omega.{arith}
 use mathlib.Core.Path.{_≡_, sym}

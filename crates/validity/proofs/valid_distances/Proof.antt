@@ -1,4 +1,4 @@
--- `valid_distances` meets its contract: the rows of places passed so far are valid. Assumes nothing.
+-- `valid_distances` meets its contract: the rows of places passed so far are valid; 120 - i falls. Assumes nothing.
 use Prim.Native.Nat.{_≤_, _-_}
 use native.Mathlib.Omega.{arith}
 use mathlib.Core.Bool.{true}

@@ -1,4 +1,4 @@
--- `valid_places` meets its contract: the places of the row passed so far are valid. Assumes nothing.
+-- `valid_places` meets its contract: the places of the row passed so far are valid; 120 - j falls. Assumes nothing.
 use Prim.Native.Nat.{_≤_, _-_}
 use native.Mathlib.Omega.{arith}
 use mathlib.Core.Bool.{true}

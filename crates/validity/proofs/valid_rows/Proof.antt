@@ -1,4 +1,4 @@
--- `valid_rows` meets its contract: the rows passed so far obey the triangle rule. Assumes nothing.
+-- `valid_rows` meets its contract: the rows passed so far obey the triangle rule; n - t falls. Assumes nothing.
 use Prim.Native.Nat.{_≤_, _-_}
 use native.Mathlib.Omega.{arith}
 use mathlib.Core.Bool.{true}

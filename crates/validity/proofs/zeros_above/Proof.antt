@@ -1,4 +1,4 @@
--- `zeros_above` meets its contract: the minima passed so far are 0 above k. Assumes nothing.
+-- `zeros_above` meets its contract: the minima passed so far are 0 above k; 8 - j falls. Assumes nothing.
 use Prim.Native.Nat.{_≤_, _-_}
 use native.Mathlib.Omega.{arith}
 use mathlib.Core.Bool.{cond, true}

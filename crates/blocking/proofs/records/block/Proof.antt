@@ -158,10 +158,10 @@ module _ {M : Type 1} (𝓤 : URA M) (H : Heap 𝓤) (A : Atoms 𝓤) (W : Given
   exits : (r : Computed) (zs : List ℕ) (ws : List BlockRecord) → blockedOf (r .answer) ≡ blockReply state (length (l .now)) n → zs ≡ blockList state (l .now) n → ws ≡ blockRecords state (length (l .now)) (x .now)
       → length zs ≡ length (l .now) → length ws ≡ length (x .now) → Is S.the-row d (sd ∷ []) → Is N.the-row (r .answer) (EL.val N.the-type N′.the-laws (r .answer) ∷ [])
       → ent 𝓤 (⋆ 𝓤 H A (‵ (finally R (x .name) ws) ∷ (‵ (flft κ₃ q₃) ⊛ ‵ ftrue) ∷ ‵ (finally u8 (l .name) zs) ∷ (‵ (flft κ₀ q₀) ⊛ (‵ (flft κ₁ q₁) ⊛ (‵ (flft κ₂ q₂) ⊛ ‵ ftrue))) ∷ ‵ (OwnV κ₀ v) ∷ ‵ (OwnW κ₁ w) ∷ [])) (Post (EL.val N.the-type N′.the-laws (r .answer)))
-  exits r zs ws answered judged-arrays recorded long long′ isD is =
+  exits r zs ws answered listed recorded long long′ isD is =
       qed W (‵ (finally R (x .name) ws) ∷ (‵ (flft κ₃ q₃) ⊛ ‵ ftrue) ∷ ‵ (finally u8 (l .name) zs) ∷ (‵ (flft κ₀ q₀) ⊛ (‵ (flft κ₁ q₁) ⊛ (‵ (flft κ₂ q₂) ⊛ ‵ ftrue))) ∷ ‵ (OwnV κ₀ v) ∷ ‵ (OwnW κ₁ w) ∷ []) ∵
       suffices ! _ (ends-at 𝓤 H A f.ended stayed (f.clauses 𝓤 H A mem run) W bound (EL.val N.the-type N′.the-laws (r .answer)) (r .answer) (tt, (tt, (tt, (zs, (ws, tt))))) (tt, (tt, (tt, (long, (long′, tt)))))) $
-      says3 ! answered judged-arrays recorded $
+      says3 ! answered listed recorded $
       -- the tokens
       move ! (3 ∷ []) $ split ! $ move ! (1 ∷ []) $ split ! $ move ! (1 ∷ []) $ split ! $
       -- [κ₂; true; κ₁; κ₀; records; κ₃; list; distances; settings]
@@ -195,7 +195,7 @@ module _ {M : Type 1} (𝓤 : URA M) (H : Heap 𝓤) (A : Atoms 𝓤) (W : Given
         -- [block_core's pre; κ₃; records; distances; settings; _12; …]
         returns-from ! (fmOf 𝓤 H (W .laws) 𝓣) core.ended (core.clauses 𝓤 H A mem run) known-core to-core
         (and-then ! (reads ! 27 refl) (and-then ! (reads ! 25 refl) (and-then ! (reads ! 23 refl) (and-then ! (reads ! 11 refl) (and-then ! (reads ! 17 refl) (no-more !)))))) (λ u r zs.
-        heard3 ! (λ answered told judged-arrays. fsplit ! $ drop ! $ fsplit ! $ drop ! $ fsplit ! $ drop ! $ fsplit ! $ fsplit ! $ move ! (1 ∷ []) $ feqL ! (λ long. move ! (1 ∷ []) $ drop ! $
+        heard3 ! (λ answered told listed. fsplit ! $ drop ! $ fsplit ! $ drop ! $ fsplit ! $ drop ! $ fsplit ! $ fsplit ! $ move ! (1 ∷ []) $ feqL ! (λ long. move ! (1 ∷ []) $ drop ! $
         -- [the list's last value; the result; the tokens; κ₃; records; distances; settings; _12; …]
         move ! (1 ∷ []) $ peeks ! D.the-row (Is D.the-row) (shows 𝓤 H A D.the-row) r (u ∷ []) (λ is.
         let parts = LL.owed D.the-type D′.the-laws r _ is in
@@ -212,7 +212,7 @@ module _ {M : Type 1} (𝓤 : URA M) (H : Heap 𝓤) (A : Atoms 𝓤) (W : Given
         land ! (from ! (stop !)) (init ! 11 refl (typed-unit u′ is′)) $
         assigns ! (of-opd ! (load ! (from ! (fld ! answer-in (stop !))) (look-in ! 17 (sub ! 0 answer-in (whole !))))) (from ! (stop !)) (init ! 31 refl (typed-answer 𝓤 H A W (r .answer) _ (parts .0))) $
         returns ! (look ! 31 refl) $ frees-all ! 7 (full _ ∷ full _ ∷ full _ ∷ full _ ∷ full _ ∷ full _ ∷ full _ ∷ full _ ∷ full _ ∷ full _ ∷ full _ ∷ full _ ∷ full _ ∷ []) tt refl $
-        keep ! (1 ∷ 2 ∷ 3 ∷ 4 ∷ 5 ∷ 6 ∷ []) $ by ! (exits r (zs .1 .1 .1 .0) (ws .0) answered judged-arrays (stored ∙ told .records (x .now) refl) long long′ gd (parts .0)))))))))))))))))))))))
+        keep ! (1 ∷ 2 ∷ 3 ∷ 4 ∷ 5 ∷ 6 ∷ []) $ by ! (exits r (zs .1 .1 .1 .0) (ws .0) answered listed (stored ∙ told .records (x .now) refl) long long′ gd (parts .0)))))))))))))))))))))))
 
 module _ {M : Type 1} (𝓤 : URA M) (H : Heap 𝓤) (A : Atoms 𝓤) (W : Given 𝓤 H A) where
   goes : AllGo 𝓤 H A W 4 (f.ended .signature .params) (f.ended .kept) stayed

@@ -172,10 +172,10 @@ module _ {M : Type 1} (𝓤 : URA M) (H : Heap 𝓤) (A : Atoms 𝓤) (W : Given
   exits : (r : Blocked) (zs : List ℕ) (ws : List BlockRecord) (u m : Val) → blockedOf r ≡ blockReply state (length (l .now)) (length noRecords) → zs ≡ blockList state (l .now) (length noRecords) → ws ≡ blockRecords state (length (l .now)) noRecords
       → length zs ≡ length (l .now) → Is S.the-row d (sd ∷ []) → Is D.the-row (record { answer = r; records = ws }) (made u m ∷ [])
       → ent 𝓤 (⋆ 𝓤 H A (‵ (flft κ₂ q₂) ∷ ‵ (flft κ₁ q₁) ∷ ‵ (flft κ₀ q₀) ∷ ‵ (finally u8 (l .name) zs) ∷ ‵ (OwnV κ₀ v) ∷ ‵ (OwnW κ₁ w) ∷ [])) (Post (made u m))
-  exits r zs ws u m answered judged-arrays recorded long isD is =
+  exits r zs ws u m answered listed recorded long isD is =
       qed W (‵ (flft κ₂ q₂) ∷ ‵ (flft κ₁ q₁) ∷ ‵ (flft κ₀ q₀) ∷ ‵ (finally u8 (l .name) zs) ∷ ‵ (OwnV κ₀ v) ∷ ‵ (OwnW κ₁ w) ∷ []) ∵
       suffices ! _ (ends-at 𝓤 H A f.ended stayed (f.clauses 𝓤 H A mem run) W bound (made u m) (record { answer = r; records = ws }) (tt, (tt, (tt, (zs, tt)))) (tt, (tt, (tt, (long, tt))))) $
-      says3 ! (answered ∙ ap (λ (k : ℕ). blockReply state (length (l .now)) k) length-none) (judged-arrays ∙ ap (λ (k : ℕ). blockList state (l .now) k) length-none) recorded $
+      says3 ! (answered ∙ ap (λ (k : ℕ). blockReply state (length (l .now)) k) length-none) (listed ∙ ap (λ (k : ℕ). blockList state (l .now) k) length-none) recorded $
       nothing ! $ move ! (1 ∷ 0 ∷ []) $ join ! $ move ! (1 ∷ 0 ∷ []) $ join ! $ move ! (1 ∷ 0 ∷ []) $ join ! $ frame ! $
       -- [list; distances; settings]
       nothing ! $ move ! (1 ∷ 0 ∷ []) $ fjoin ! $ move ! (2 ∷ 0 ∷ []) $ fjoin ! $ move ! (1 ∷ 0 ∷ []) $ fjoin ! $
@@ -219,7 +219,7 @@ module _ {M : Type 1} (𝓤 : URA M) (H : Heap 𝓤) (A : Atoms 𝓤) (W : Given
         -- [block's pre; distances; settings; the lender's part; _12; …; of _6 only that it is freed]
         returns-from ! (fmOf 𝓤 H (W .laws) 𝓣) block.ended (block.clauses 𝓤 H A mem run) known-block (to-block ν l₆ γ)
         (and-then ! (reads ! 25 refl) (and-then ! (reads ! 23 refl) (and-then ! (reads ! 21 refl) (and-then ! (reads ! 10 refl) (and-then ! (reads ! 6 refl) (no-more !)))))) (λ u r zs.
-        heard3 ! (λ answered judged-arrays recorded. fsplit ! $ drop ! $ fsplit ! $ drop ! $ fsplit ! $ drop ! $ fsplit ! $ fsplit ! $ move ! (1 ∷ []) $ feqL ! (λ long. move ! (1 ∷ []) $ fsplit ! $ fsplit ! $ move ! (1 ∷ []) $ feqL ! (λ long′.
+        heard3 ! (λ answered listed recorded. fsplit ! $ drop ! $ fsplit ! $ drop ! $ fsplit ! $ drop ! $ fsplit ! $ fsplit ! $ move ! (1 ∷ []) $ feqL ! (λ long. move ! (1 ∷ []) $ fsplit ! $ fsplit ! $ move ! (1 ∷ []) $ feqL ! (λ long′.
         -- [the records' last list; true; the list's; the result; the tokens; distances; settings; the lender's part; _12; …]
         move ! (3 ∷ []) $ peeks ! N.the-row (Is N.the-row) (shows 𝓤 H A N.the-row) r (u ∷ []) (λ is.
         land ! (from ! (stop !)) (init ! 18 refl (typed-answer 𝓤 H A W r u is)) $ drop ! $
@@ -234,7 +234,7 @@ module _ {M : Type 1} (𝓤 : URA M) (H : Heap 𝓤) (A : Atoms 𝓤) (W : Given
         assigns ! (of-opd ! (reads ! 0 refl)) (from ! (stop !)) (init ! 10 refl (typed-array (zs .1 .1 .1 .1 .0) (whole-val (zs .1 .1 .1 .1 .0)) isW)) $
         assigns ! (agg ! (and-then ! (reads ! 20 refl) (and-then ! (reads ! 10 refl) (no-more !)))) (from ! (stop !)) (init ! 33 refl (typed-made (record { answer = r; records = zs .1 .1 .1 .1 .0 }) (made u (whole-val (zs .1 .1 .1 .1 .0))) isR)) $
         returns ! (look ! 33 refl) $ move ! (iota 1 21) $ frees-all ! 9 (full _ ∷ full _ ∷ full _ ∷ full _ ∷ full _ ∷ full _ ∷ full _ ∷ full _ ∷ full _ ∷ full _ ∷ full _ ∷ full _ ∷ full _ ∷ []) tt refl $
-        keep ! (2 ∷ 3 ∷ 4 ∷ 6 ∷ 7 ∷ 8 ∷ []) $ by ! (exits r (zs .1 .1 .1 .0) (zs .1 .1 .1 .1 .0) u (whole-val (zs .1 .1 .1 .1 .0)) answered judged-arrays recorded long gd isR)))))))))))))))))))))))
+        keep ! (2 ∷ 3 ∷ 4 ∷ 6 ∷ 7 ∷ 8 ∷ []) $ by ! (exits r (zs .1 .1 .1 .0) (zs .1 .1 .1 .1 .0) u (whole-val (zs .1 .1 .1 .1 .0)) answered listed recorded long gd isR)))))))))))))))))))))))
 
 module _ {M : Type 1} (𝓤 : URA M) (H : Heap 𝓤) (A : Atoms 𝓤) (W : Given 𝓤 H A) where
   goes : AllGo 𝓤 H A W 3 (f.ended .signature .params) (f.ended .kept) stayed

@@ -1,4 +1,4 @@
--- `full` is safe and ends. Assumes nothing.
+-- `full` is safe and ends: 120 - t falls. Assumes nothing.
 use borrow.Author.Needs.{needs}
 use lib.ListN.{length}
 use mathlib.Core.Path.{_≡_}

@@ -1,4 +1,4 @@
--- `kept` is safe and ends. Assumes nothing.
+-- `kept` is safe and ends: length list - i falls. Assumes nothing.
 use borrow.Author.Needs.{needs}
 use lib.ListN.{length}
 use Prim.Native.Nat.{_≤_, _-_}

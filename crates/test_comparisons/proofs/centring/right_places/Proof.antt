@@ -1,4 +1,4 @@
--- `right_places` is safe and ends. Assumes nothing.
+-- `right_places` is safe and ends: length list - m falls. Assumes nothing.
 use borrow.Author.Needs.{needs}
 use lib.ListN.{length}
 use Prim.Native.Nat.{_≤_, _-_}

@@ -1,4 +1,4 @@
--- `trials` is safe and ends. Assumes nothing.
+-- `trials` is safe and ends: count - i falls. Assumes nothing.
 use borrow.Author.Needs.{needs}
 use Prim.Native.Nat.{_≤_, _-_}
 use Rattle.test_comparisons.proofs.centring.trials.Statement.{statement}

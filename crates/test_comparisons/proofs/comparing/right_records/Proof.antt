@@ -1,4 +1,4 @@
--- `right_records` is safe and ends. Assumes nothing.
+-- `right_records` is safe and ends: 120 - m falls. Assumes nothing.
 use borrow.Author.Needs.{needs}
 use Prim.Native.Nat.{_≤_, _-_}
 use Rattle.test_comparisons.proofs.comparing.right_records.Statement.{statement}

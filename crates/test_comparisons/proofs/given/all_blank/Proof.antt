@@ -1,4 +1,4 @@
--- `all_blank` is safe and ends. Assumes nothing.
+-- `all_blank` is safe and ends: 120 - m falls. Assumes nothing.
 use borrow.Author.Needs.{needs}
 use Prim.Native.Nat.{_≤_, _-_}
 use Rattle.test_comparisons.proofs.given.all_blank.Statement.{statement}

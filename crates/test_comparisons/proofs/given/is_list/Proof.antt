@@ -1,4 +1,4 @@
--- `is_list` is safe and ends. Assumes nothing.
+-- `is_list` is safe and ends: 9 - t falls. Assumes nothing.
 use borrow.Author.Needs.{needs}
 use Prim.Native.Nat.{_≤_, _-_}
 use Rattle.test_comparisons.proofs.given.is_list.Statement.{statement}

@@ -1,4 +1,4 @@
--- `is_feasible` is safe and ends. Assumes nothing.
+-- `is_feasible` is safe and ends: n - t falls. Assumes nothing.
 use borrow.Author.Needs.{needs}
 use Prim.Native.Nat.{_≤_, _-_}
 use Rattle.test_comparisons.proofs.judging.is_feasible.Statement.{statement}

@@ -1,4 +1,4 @@
--- `enter_all` is safe and ends: the memory keeps its length. Assumes nothing.
+-- `enter_all` is safe and ends: the memory keeps its length; length row - n falls. Assumes nothing.
 use native.Mathlib.Omega.{arith}
 use mathlib.Core.Path.{_≡_, sym}
 use lib.Seq.{length-take-le}

@@ -1,4 +1,4 @@
--- `at_radius` is safe and ends. Assumes nothing.
+-- `at_radius` is safe and ends: n - t falls. Assumes nothing.
 use borrow.Author.Needs.{needs}
 use Prim.Native.Nat.{_≤_, _-_}
 use Rattle.test_exhaustive.proofs.centres.at_radius.Statement.{statement}

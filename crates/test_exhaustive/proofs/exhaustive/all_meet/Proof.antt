@@ -1,4 +1,4 @@
--- `all_meet` is safe and ends. Assumes nothing.
+-- `all_meet` is safe and ends: last - m falls. Assumes nothing.
 use borrow.Author.Needs.{needs}
 use Prim.Native.Nat.{_≤_, _-_}
 use Rattle.test_exhaustive.proofs.exhaustive.all_meet.Statement.{statement}

@@ -1,4 +1,4 @@
--- `assignment` is safe and ends. Assumes nothing.
+-- `assignment` is safe and ends: 823543 - tried falls. Assumes nothing.
 use borrow.Author.Needs.{needs}
 use Prim.Native.Nat.{_≤_, _-_}
 use Rattle.test_exhaustive.proofs.exhaustive.assignment.Statement.{statement}

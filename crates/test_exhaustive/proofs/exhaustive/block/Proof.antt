@@ -1,4 +1,4 @@
--- `block` is safe and ends. Assumes nothing.
+-- `block` is safe and ends: 22 - turn falls. Assumes nothing.
 use borrow.Author.Needs.{needs}
 use Prim.Native.Nat.{_≤_, _-_}
 use Rattle.test_exhaustive.proofs.exhaustive.block.Statement.{statement}

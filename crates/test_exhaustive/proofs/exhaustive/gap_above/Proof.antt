@@ -1,4 +1,4 @@
--- `gap_above` is safe and ends. Assumes nothing.
+-- `gap_above` is safe and ends: 22 - turn falls. Assumes nothing.
 use borrow.Author.Needs.{needs}
 use Prim.Native.Nat.{_≤_, _-_}
 use Rattle.test_exhaustive.proofs.exhaustive.gap_above.Statement.{statement}

@@ -1,4 +1,4 @@
--- `last_after` is safe and ends. Assumes nothing.
+-- `last_after` is safe and ends: i falls. Assumes nothing.
 use borrow.Author.Needs.{needs}
 use Prim.Native.Nat.{_≤_}
 use Rattle.test_exhaustive.proofs.exhaustive.last_after.Statement.{statement}

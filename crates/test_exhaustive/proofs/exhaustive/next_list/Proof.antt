@@ -1,4 +1,4 @@
--- `next_list` is safe and ends. Assumes nothing.
+-- `next_list` is safe and ends: i falls. Assumes nothing.
 use borrow.Author.Needs.{needs}
 use Prim.Native.Nat.{_≤_}
 use Rattle.test_exhaustive.proofs.exhaustive.next_list.Statement.{statement}

@@ -1,4 +1,4 @@
--- `diameter` is safe and ends. Assumes nothing.
+-- `diameter` is safe and ends: 49 - p falls. Assumes nothing.
 use borrow.Author.Needs.{needs}
 use Prim.Native.Nat.{_≤_, _-_}
 use Rattle.test_exhaustive.proofs.partitions.diameter.Statement.{statement}

@@ -1,4 +1,4 @@
--- `meets` is safe and ends. Assumes nothing.
+-- `meets` is safe and ends: 8 - j falls. Assumes nothing.
 use borrow.Author.Needs.{needs}
 use Prim.Native.Nat.{_≤_, _-_}
 use Rattle.test_exhaustive.proofs.partitions.meets.Statement.{statement}

@@ -1,4 +1,4 @@
--- `numbers` is safe and ends. Assumes nothing.
+-- `numbers` is safe and ends: 7 - i falls. Assumes nothing.
 use borrow.Author.Needs.{needs}
 use Prim.Native.Nat.{_≤_, _-_}
 use Rattle.test_exhaustive.proofs.studies.numbers.Statement.{statement}

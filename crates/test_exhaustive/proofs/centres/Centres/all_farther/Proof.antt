@@ -1,4 +1,4 @@
--- `all_farther` is safe and ends. Assumes nothing.
+-- `all_farther` is safe and ends: count - m falls. Assumes nothing.
 use borrow.Author.Needs.{needs}
 use Prim.Native.Nat.{_≤_, _-_}
 use Rattle.test_exhaustive.proofs.centres.Centres.all_farther.Statement.{statement}

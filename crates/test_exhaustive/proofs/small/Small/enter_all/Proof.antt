@@ -1,4 +1,4 @@
--- `enter_all` is safe and ends. Assumes nothing.
+-- `enter_all` is safe and ends: n - t falls. Assumes nothing.
 use borrow.Author.Needs.{needs}
 use lib.ListN.{length}
 use mathlib.Core.Path.{_≡_}

@@ -1,4 +1,4 @@
--- `row` is safe and ends. Assumes nothing.
+-- `row` is safe and ends: 7 - i falls. Assumes nothing.
 use borrow.Author.Needs.{needs}
 use Prim.Native.Nat.{_≤_, _-_}
 use Rattle.test_exhaustive.proofs.small.Small.row.Statement.{statement}
