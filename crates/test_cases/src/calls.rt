@@ -76,11 +76,14 @@ pub fn case_8(so_far: Tally) -> Tally {
         .outcome(read(&[0x54, 0, 0x20, 0x40, 0, 0]), 8)
 }
 
+// MAX_TIDES as the position of a tide.
+const TIDES: u8 = 120;
+
 // The distances from position t to 0, 1, 2, ...
 fn row(t: u8) -> [u32; MAX_TIDES] {
     let mut row = [0u32; MAX_TIDES];
     let mut i: u8 = 0;
-    while i < MAX_TIDES {
+    while i < TIDES {
         row[i as usize] = gap(t, i);
         i += 1;
     }
@@ -97,7 +100,7 @@ fn enter_at(held: Dataset, distances: &mut [u32], settings: &mut [u8], t: u8) ->
 fn full(distances: &mut [u32], settings: &mut [u8]) -> Dataset {
     let mut next = opened(distances, settings, 1);
     let mut t: u8 = 0;
-    while t < MAX_TIDES {
+    while t < TIDES {
         let entered = enter_at(next, distances, settings, t);
         next = entered.dataset;
         t += 1;
@@ -116,7 +119,7 @@ fn blocks_in_pairs(dataset: Dataset, distances: &[u32], settings: &[u8]) -> bool
 
 // Tide 121 is refused.
 fn one_more(so_far: Tally, full: Dataset, distances: &mut [u32], settings: &mut [u8]) -> Tally {
-    let refused = enter_at(full, distances, settings, MAX_TIDES);
+    let refused = enter_at(full, distances, settings, TIDES);
     so_far
         .outcome(refused, 22)
         .see(full.n == MAX_TIDES)
