@@ -9,7 +9,7 @@ use mathlib.Core.List.{List, _++_}
 use lib.Dec.{T, leb, leb→le}
 use lib.ListN.{length, getD, drop}
 use borrow.Author.Tests.{le-leb, lt-leb, eq-eqb}
-use Rattle.lists.specs.Lists.{countBelow, overwrite}
+use Rattle.lists.specs.Lists.{countBelow, overwrite, over}
 use Rattle.lists.proofs.Tests.{not-not, T-left, T-right, split}
 use Rattle.lists.proofs.Tables.{overwrite-none, overwrite-ext, getD-overwrite}
 use Rattle.study.specs.Limits.{cell, maxDistance}
@@ -22,12 +22,14 @@ use Rattle.study.specs.Study.{Study, size, sufficient, problem}
 use Rattle.study.specs.Refusals.{number, numbered, Verdict, accepted, refused, verdictOf, settled, value, refusal, replied, firstOf}
 use Rattle.study.specs.Calls.{blockReasons, Figures, figures, blockRecord}
 use Rattle.study.proofs.CallLaws.{none-holds}
+use Rattle.study.proofs.Proofs.{for-problem, for-study}
 use Rattle.promise.specs.Promise.{meeting, Able}
 use Rattle.radius_theory.specs.Arrays.{arrayProblem, ball, SizedArrays, ValidArrays}
 use Rattle.radius_search.specs.Inputs.{inputProblem}
 use Rattle.blocking_core.specs.Core.{Blocks}
 use Rattle.validity.specs.Memory.{State, studyOf, contentsOf}
-use Rattle.validity.proofs.ValidityLaws.{study-size}
+use Rattle.validity.proofs.ValidityLaws.{study-size, valid-study}
+use Rattle.dataset.specs.Accepted.{Passed}
 use Rattle.dataset.proofs.AnswerLaws.{held-own, accepted-held, passed-by}
 use Rattle.blocking.specs.declared.block.BlockRows.{BlockRows}
 use Rattle.blocking.specs.Answers.{blockAnswer, blockReply, blockList, blockRecords}
@@ -198,17 +200,24 @@ module _ (s : State) (list room : ℕ) where
                   (A .answer ∙ ap (blockAnswer s list) (sym k));
             }
 
+-- the blocking gives every tide a block
+blocking-long : (s : State) → Passed s → T (sufficient (studyOf s) (λ t. true)) → length (blocking (problem (studyOf s))) ≡ s .dataset .n
+unfolding problem
+blocking-long s P w =
+    let S = studyOf s in
+    for-problem (problem S) (for-study S (valid-study s (P .study)) .lawful) .canonical w .assignment .long ∙ study-size s
+
 -- the list
 pub block-list : (s : State) (old : List ℕ) (room : ℕ) {new : List ℕ} → BlockAccepted s (length old) room
     → new ≡ blocking (inputProblem (s .distances) (s .settings) (s .dataset .n) (s .dataset .minima)) ++ drop (s .dataset .n) old → new ≡ blockList s old room
 unfolding blockList
 block-list s old room A e =
     e
-    ∙ ap₂ (λ (Q : Problem) (k : ℕ). blocking Q ++ drop k old) (sym (problem-of-arrays s (A .passed .study))) (sym (study-size s))
-    ∙ ap (λ v. settled v (blocking (problem (studyOf s)) ++ drop (size (studyOf s)) old) old) (A .answer)
+    ∙ ap₂ (λ (Q : Problem) (k : ℕ). blocking Q ++ drop k old) (sym (problem-of-arrays s (A .passed .study))) (sym (blocking-long s (A .passed) (A .enough)))
+    ∙ ap (λ v. settled v (over (blocking (problem (studyOf s))) old) old) (A .answer)
 
 pub block-list-stays : (s : State) (list : List ℕ) (room : ℕ) {a : Answer} {x : Refusal} → a ≡ Refused x → verdictOf a ≡ blockAnswer s (length list) room
     → list ≡ blockList s list room
 unfolding blockList
 block-list-stays s list room e f =
-    ap (λ v. settled v (blocking (problem (studyOf s)) ++ drop (size (studyOf s)) list) list) (sym (ap verdictOf e) ∙ f)
+    ap (λ v. settled v (over (blocking (problem (studyOf s))) list) list) (sym (ap verdictOf e) ∙ f)

@@ -5,7 +5,7 @@ use mathlib.Core.Bool.{true}
 use mathlib.Core.List.{List, _∷_}
 use lib.Dec.{T, eqb}
 use lib.ListN.{length, getD}
-use Rattle.study.specs.Limits.{maxTides}
+use Rattle.study.specs.Limits.{maxTides, maxSettings}
 use Rattle.study.specs.declared.Refusal.{Refusal}
 use Rattle.study.specs.declared.Answer.{Answer}
 use Rattle.study.specs.declared.Answer.the-variants.{Done, Refused}
@@ -46,5 +46,5 @@ pub record CentresAccepted (s : State) (list : List ℕ) : Type 0 where
 pub record JudgedArrays (s : List ℕ) (n : ℕ) (list : List ℕ) : Type 0 where
   pub few : n ≤ maxTides
   pub settings-long : n ≤ length s
-  pub setting-high : (t : ℕ) → t < n → getD s t 0 ≤ 8
+  pub setting-high : (t : ℕ) → t < n → getD s t 0 ≤ maxSettings
   pub list-long : n ≤ length list

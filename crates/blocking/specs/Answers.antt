@@ -1,11 +1,11 @@
 -- What Centres, Block and Judge answer and leave, of the record, the memory and the list that they get. Assumes nothing.
 use Prim.Native.Nat.{ℕ}
-use mathlib.Core.List.{List, [], _++_}
-use lib.ListN.{length, drop}
+use mathlib.Core.List.{List, []}
+use lib.ListN.{length}
 use Rattle.lists.specs.Lists.{overwrite, over}
 use Rattle.study.specs.declared.BlockRecord.{BlockRecord}
 use Rattle.study.specs.Problem.{blocking}
-use Rattle.study.specs.Study.{size, problem}
+use Rattle.study.specs.Study.{problem}
 use Rattle.study.specs.Refusals.{Verdict, settled, Reply, replied}
 use Rattle.study.specs.Calls.{centresReasons, centreNumbers, blockReasons, Figures, figures, blockRecord, judgeReasons, Judgement, judgement}
 use Rattle.validity.specs.Memory.{State, studyOf}
@@ -39,7 +39,7 @@ blockReply s list records = replied (blockAnswer s list records) (figures (study
 unfoldable pub blockList : State → List ℕ → ℕ → List ℕ
 blockList s list records =
     let S = studyOf s in
-    settled (blockAnswer s (length list) records) (blocking (problem S) ++ drop (size S) list) list
+    settled (blockAnswer s (length list) records) (over (blocking (problem S)) list) list
 
 -- the records: those past the last block stay
 unfoldable pub blockRecords : State → ℕ → List BlockRecord → List BlockRecord

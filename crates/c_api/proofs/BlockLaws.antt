@@ -3,11 +3,10 @@ use Prim.Native.Nat.{ℕ, zero, suc, _≤_, _<_, min}
 use native.Mathlib.Omega.{arith}
 use mathlib.Core.Path.{_≡_, refl, sym, ap, _∙_, subst}
 use mathlib.Core.Logic.{_⊎_, ⊎-elim}
-use mathlib.Core.Bool.{true}
 use mathlib.Core.List.{List, [], _∷_, _++_}
 use lib.ListN.{length, drop, getD, replicate, length-replicate}
 use Rattle.lists.specs.Lists.{tabulate, overwrite, over}
-use Rattle.lists.proofs.Tests.{true-T, not-not, split}
+use Rattle.lists.proofs.Tests.{split}
 use Rattle.lists.proofs.Tables.{length-tabulate, getD-overwrite, getD-past, overwrite-ext}
 use Rattle.study.specs.declared.Refusal.{Refusal}
 use Rattle.study.specs.declared.Dataset.{Dataset}
@@ -15,14 +14,10 @@ use Rattle.study.specs.declared.BlockRecord.{BlockRecord}
 use Rattle.study.specs.declared.Blocked.{Blocked}
 use Rattle.study.specs.declared.Blocked.the-variants as BlockedCase
 use Rattle.study.specs.Problem.{blocking}
-use Rattle.study.specs.Study.{Study, Contents, size, sufficient, problem}
-use Rattle.study.specs.Refusals.{numbered, Verdict, accepted, refused, settled, Reason}
+use Rattle.study.specs.Study.{Study, Contents, problem}
+use Rattle.study.specs.Refusals.{numbered, accepted, refused, settled, Reason}
 use Rattle.study.specs.Calls.{blockReasons, Figures, figures, blockRecord, blockedOf}
-use Rattle.study.proofs.CallLaws.{none-holds}
-use Rattle.study.proofs.Proofs.{for-problem, for-study}
-use Rattle.validity.specs.Memory.{State, isDataset, studyOf, contentsOf}
-use Rattle.validity.proofs.Proofs.{for-datasets}
-use Rattle.dataset.proofs.AnswerLaws.{accepted-held}
+use Rattle.validity.specs.Memory.{State, studyOf, contentsOf}
 use Rattle.blocking.specs.declared.block.BlockRows.{BlockRows}
 use Rattle.blocking.specs.Answers.{blockAnswer, blockReply, blockList, blockRecords}
 use Rattle.blocking.specs.Rows.{rowAt, noRecord, RowsOf}
@@ -41,22 +36,9 @@ module _ (s : State) (list : List ℕ) (room : ℕ) where
   abbrev S : Study
   S = studyOf s
 
-  blocking-long : blockAnswer s (length list) room ≡ accepted → length (blocking (problem S)) ≡ size S
-  unfolding blockAnswer blockReasons contentsOf problem
-  blocking-long e =
-      let A = accepted-held s (λ H. blockReasons (H .study) (length list) room) e in
-      let w = none-holds (blockReasons S (length list) room) (A .reasons) in
-      let ok = for-datasets .valid s (true-T (isDataset s) (A .tested)) .study in
-      for-problem (problem S) (for-study S ok .lawful) .canonical (not-not (sufficient S (λ t. true)) (w .1 .0)) .assignment .long
-
   pub list-output : blockList s list room ≡ output (blockAnswer s (length list) room) (blocking (problem S)) list
   unfolding blockList output
-  list-output = by (blockAnswer s (length list) room) blocking-long
-    where
-      by : (v : Verdict) → (v ≡ accepted → length (blocking (problem S)) ≡ size S)
-          → settled v (blocking (problem S) ++ drop (size S) list) list ≡ settled v (over (blocking (problem S)) list) list
-      by accepted h = ap (λ m. blocking (problem S) ++ drop m list) (sym (h refl))
-      by (refused y) h = refl
+  list-output = refl
 
 -- ---- the rows of an accepted call hold the blocks' records
 

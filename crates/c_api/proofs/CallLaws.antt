@@ -3,7 +3,7 @@ use Prim.Native.Nat.{ℕ, _≤_, _<_}
 use native.Mathlib.Omega.{arith}
 use mathlib.Core.Path.{_≡_, refl, sym, ap, _∙_, subst}
 use mathlib.Core.Logic.{_⊎_, inl, inr}
-use mathlib.Core.Bool.{Bool, true, false, cond, _||_}
+use mathlib.Core.Bool.{Bool, true, false, _||_}
 use mathlib.Core.List.{List, flatMap}
 use lib.ListN.{length}
 use borrow.Author.Tests.{lt-ltb, le-ltb}
@@ -14,7 +14,7 @@ use Rattle.study.specs.declared.Dataset.{Dataset}
 use Rattle.study.specs.declared.Answer.{Answer}
 use Rattle.study.specs.declared.Answer.the-variants.{Done}
 use Rattle.study.specs.Study.{Study, Contents, size}
-use Rattle.study.specs.Refusals.{number, Verdict, accepted, refused, verdictOf, settled, Reason, firstOf}
+use Rattle.study.specs.Refusals.{Verdict, accepted, refused, verdictOf, settled, Reason, firstOf}
 use Rattle.study.specs.Calls.{openReasons, opening, minimaReasons, settingMinima, enterReasons, entering, withdrawReasons, withdrawing}
 use Rattle.study.specs.Theorems.{ValidContents}
 use Rattle.study.proofs.StudyLaws.{validMinima-T}
@@ -36,7 +36,7 @@ use Rattle.c_api.specs.Api.{openVerdict, openLeft, minimaVerdict, minima
 use Rattle.c_api.specs.Api.{withdrawVerdict, withdrawLeft, readVerdict, readLeft}
 use Rattle.c_api.specs.Records.{Narrow, Storable}
 use Rattle.c_api.proofs.RecordLaws.{withRecord, read-back}
-use Rattle.c_api.proofs.CodeLaws.{AllNarrow, small, first-narrow, append-narrow, runs-narrow, pair-narrow, fresh-narrow, held-narrow}
+use Rattle.c_api.proofs.CodeLaws.{AllNarrow, small, append-narrow, runs-narrow, pair-narrow, fresh-narrow, held-narrow}
 
 -- ---- a list of fixed size
 

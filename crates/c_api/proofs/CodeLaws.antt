@@ -1,5 +1,5 @@
 -- The code of every verdict fits 32 bits: a pair has numbers of tides. Assumes nothing.
-use Prim.Native.Nat.{ℕ, zero, suc, _+_, _-_, _*_, _≤_, _<_}
+use Prim.Native.Nat.{ℕ, zero, suc, _+_, _-_, _≤_, _<_}
 use native.Mathlib.Omega.{arith}
 use mathlib.Core.Path.{_≡_, refl, sym, ap, _∙_, subst}
 use mathlib.Core.Bool.{Bool, true, false, cond, not}
@@ -8,7 +8,7 @@ use lib.Dec.{T, leb, leb→le}
 use Rattle.lists.specs.Lists.{_among_, iota, filter}
 use Rattle.lists.proofs.Members.{filter-mem, map-mem, flatMap-mem, range-mem}
 use Rattle.study.specs.Study.{Contents}
-use Rattle.study.specs.Refusals.{Numbered, number, seven, Verdict, refused, Reason, firstOf, freshReasons, heldReasons}
+use Rattle.study.specs.Refusals.{Numbered, number, seven, refused, Reason, firstOf, freshReasons, heldReasons}
 use Rattle.study.specs.declared.refusals.Number.{Number}
 use Rattle.study.specs.declared.refusals.Number.the-variants.{Seven}
 use Rattle.study.specs.Numbers.{saidBy}

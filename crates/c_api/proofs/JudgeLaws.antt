@@ -1,6 +1,6 @@
 -- From the reply of Judge to what the call for C answers and writes. Assumes nothing.
 use Prim.Native.Nat.{ℕ, _<_}
-use mathlib.Core.Path.{_≡_, refl, sym, ap, _∙_, subst}
+use mathlib.Core.Path.{_≡_, sym, ap, _∙_, subst}
 use mathlib.Core.Logic.{_⊎_}
 use mathlib.Core.List.{List}
 use lib.ListN.{length, getD}
@@ -14,7 +14,7 @@ use Rattle.study.specs.Refusals.{numbered, accepted, refused, value, Reason}
 use Rattle.study.specs.Calls.{judgeReasons, Judgement, judgement, judgedOf}
 use Rattle.validity.specs.Memory.{State, studyOf, contentsOf}
 use Rattle.blocking.specs.Answers.{judgeAnswer, judgeReply}
-use Rattle.c_api.specs.Api.{Lent, code, output, judgementPair, judgeVerdict, judgeResult}
+use Rattle.c_api.specs.Api.{Lent, code, judgementPair, judgeVerdict, judgeResult}
 use Rattle.c_api.proofs.RecordLaws.{withRecord, front-written}
 use Rattle.c_api.specs.Records.{Narrow}
 use Rattle.c_api.proofs.CodeLaws.{small, held-narrow}

@@ -5,12 +5,12 @@ use mathlib.Core.Path.{_≡_, refl, sym, ap, _∙_, subst}
 use mathlib.Core.Logic.{inr, ⊎-elim}
 use mathlib.Core.Bool.{Bool, true, false, _||_}
 use mathlib.Core.List.{List, [], _∷_, _++_, flatMap}
-use lib.ListN.{length, drop, length-append, length-drop}
+use lib.ListN.{length, length-append, length-drop}
 use Rattle.lists.specs.Lists.{overwrite, over}
 use Rattle.lists.proofs.Tests.{split}
 use Rattle.lists.proofs.Tables.{length-tabulate}
 use Rattle.study.specs.Problem.{blocking}
-use Rattle.study.specs.Study.{Study, size, problem}
+use Rattle.study.specs.Study.{Study, problem}
 use Rattle.study.specs.Refusals.{Verdict, accepted, refused, settled}
 use Rattle.study.specs.Calls.{figures, blockRecord}
 use Rattle.validity.specs.Memory.{State, studyOf, contentsOf}
@@ -108,7 +108,7 @@ module _ (s : State) (p : Places) (e : blockAnswer s (length (p .list)) (recordR
   S = studyOf s
 
   abbrev list : List ℕ
-  list = blocking (problem S) ++ drop (size S) (p .list)
+  list = over (blocking (problem S)) (p .list)
 
   -- what the caller of the call learns
   answered : response s (call-ask (make-blocks (p .list) (recordsIn p)))

@@ -3,8 +3,9 @@ use Prim.Native.Nat.{ℕ, _+_, _*_, min}
 use mathlib.Core.Bool.{Bool, cond, _||_}
 use mathlib.Core.List.{List, [], _∷_, _++_}
 use lib.Dec.{ltb}
-use lib.ListN.{length, drop, getD}
+use lib.ListN.{length, getD}
 use Rattle.lists.specs.Lists.{tabulate, over}
+use Rattle.study.specs.Limits.{maxSettings}
 use Rattle.study.specs.declared.Minima.{Minima}
 use Rattle.study.specs.declared.Dataset.{Dataset}
 use Rattle.study.specs.declared.BlockRecord.{BlockRecord}
@@ -33,7 +34,7 @@ lent n d s = record { numbers = n; distances = d; settings = s }
 
 -- minima in 9 numbers from place p on: b0, b1 .. b8
 unfoldable pub minimaAt : ℕ → List ℕ → Minima
-minimaAt p l = record { b0 = getD l p 0; b = tabulate 8 (λ j. getD l (p + 1 + j) 0) }
+minimaAt p l = record { b0 = getD l p 0; b = tabulate maxSettings (λ j. getD l (p + 1 + j) 0) }
 
 -- the dataset's record in 12 numbers, each as it is given
 unfoldable pub datasetOf : List ℕ → Dataset

@@ -3,7 +3,7 @@ use Prim.Native.Nat.{ℕ}
 use mathlib.Core.List.{List}
 use Rattle.study.specs.declared.Minima.{Minima}
 use Rattle.study.specs.Study.{Contents}
-use Rattle.study.specs.Refusals.{number, Verdict, refused, settled, Reason, firstOf, freshReasons, heldReasons}
+use Rattle.study.specs.Refusals.{Verdict, settled, Reason, firstOf, freshReasons, heldReasons}
 use Rattle.study.specs.Calls.{openReasons, opening, minimaReasons, settingMinima, enterReasons, entering, withdrawReasons, withdrawing}
 use Rattle.validity.specs.Memory.{State, short, isDataset, contentsOf, stored}
 

@@ -10,7 +10,7 @@ use mathlib.Core.Option.{some}
 use lib.Dec.{T, leb, eqb, eqb→eq, not-T, T-not}
 use lib.ListN.{length, drop, getD, length-append, List·getD-append}
 use borrow.Author.Tests.{ne-eqb}
-use Rattle.lists.specs.Lists.{overwrite}
+use Rattle.lists.specs.Lists.{overwrite, over}
 use Rattle.lists.proofs.Tests.{not-not}
 use Rattle.lists.proofs.Counting.{nth, nth-is}
 use Rattle.study.specs.declared.BlockRecord.{BlockRecord}
@@ -147,7 +147,7 @@ module _ (H : Contents) (ok : ValidContents H) where
     unfolding inquiring figures
     figures-are = ap (λ (o : Output). figures-by (o .numbers)) tells
 
-    list-is : blocking (problem S) ++ drop (size S) list₀ ≡ list
+    list-is : over (blocking (problem S)) list₀ ≡ list
     unfolding inquiring headD
     list-is = ap (λ (o : Output). headD (o .lists) []) tells
 
@@ -158,7 +158,7 @@ module _ (H : Contents) (ok : ValidContents H) where
     pub block-guaranteed : Guaranteed S F list
     block-guaranteed =
         subst (λ G. Guaranteed S G list) figures-are
-        (subst (Guaranteed S (figures S)) list-is (guaranteed S (ok .study) ample (drop (size S) list₀)))
+        (subst (Guaranteed S (figures S)) list-is (guaranteed S (ok .study) ample (drop (length (blocking (problem S))) list₀)))
 
     pub block-canonical : CanonicalBlock S F list₀ list records₀ records
     unfolding figures

@@ -3,8 +3,8 @@
 use Prim.Native.Nat.{ℕ, _≤_}
 use native.Mathlib.Omega.{arith}
 use mathlib.Core.Path.{_≡_, refl, sym, ap, ap₂, _∙_, subst}
-use mathlib.Core.Bool.{Bool, true, false}
-use mathlib.Core.List.{List, [], _∷_, _++_}
+use mathlib.Core.Bool.{false}
+use mathlib.Core.List.{List, [], _∷_}
 use lib.Dec.{T, ltb}
 use lib.Arith.{le→nltb}
 use lib.ListN.{length, take, drop}
@@ -12,9 +12,9 @@ use lib.Seq.{take-append-seam}
 use Rattle.lists.specs.Lists.{over}
 use Rattle.lists.proofs.Tests.{T-true, true-T, T-false}
 use Rattle.study.specs.Problem.{blocking}
-use Rattle.study.specs.Study.{Study, Contents, size, problem}
-use Rattle.study.specs.Refusals.{Numbered, Verdict, accepted, refused, settled, value, replied, Reason, firstOf}
-use Rattle.study.specs.Calls.{opening, centreNumbers, figures, judgement}
+use Rattle.study.specs.Study.{Study, problem}
+use Rattle.study.specs.Refusals.{Numbered, Verdict, accepted, refused, settled, value, replied, firstOf}
+use Rattle.study.specs.Calls.{centreNumbers, figures, judgement}
 use Rattle.file_format.specs.File.{fileOf, decoded, readReasons}
 use Rattle.file_format.specs.Theorems.{Bytes}
 use Rattle.validity.specs.Memory.{State, short, isDataset, studyOf, contentsOf, stored}
@@ -26,7 +26,7 @@ use Rattle.study_file.specs.Answers.{readAnswer, readLeaves, writeReasons, writ
 use Rattle.study_file.proofs.Proofs.{for-files}
 use Rattle.blocking.specs.Answers.{centresAnswer, centresFront, centresLeaves, blockAnswer, blockReply, blockList, blockRecords, judgeAnswer, judgeReply}
 use Rattle.guarantee.specs.Runs.{updating, find-centres, make-blocks, judge-list, write-file, Output, inquiring, figureNumbers, judgementNumbers, Call}
-use Rattle.guarantee.specs.Runs.{call-open, call-read, call-change, call-ask, Query, reasons, answer, made, after, lent, told, output}
+use Rattle.guarantee.specs.Runs.{call-ask, Query, reasons, answer, made, after, lent, told, output}
 use Rattle.guarantee.specs.Theorems.{replyNumbers, AsContracts, FilesAndDatasets}
 
 -- ---- demand 1
@@ -97,7 +97,7 @@ module _ (s : State) where
             let tells = Q .tells (contentsOf s) in (
               refl,
               part-settled (λ (o : Output). o .numbers) v tells (Q .lent) ∙ numbers-settled figureNumbers v (figures S),
-              part-settled (λ (o : Output). o .lists) v tells (Q .lent) ∙ sym (part-settled (λ l. l ∷ []) v (blocking (problem S) ++ drop (size S) list) list),
+              part-settled (λ (o : Output). o .lists) v tells (Q .lent) ∙ sym (part-settled (λ l. l ∷ []) v (over (blocking (problem S)) list) list),
               part-settled (λ (o : Output). o .records) v tells (Q .lent),
             );
         on-judge = λ list.

@@ -13,7 +13,7 @@ use Rattle.study.specs.Refusals.{Numbered, number, accepted, refused, firstOf, 
 use Rattle.study.specs.Calls.{Figures}
 use Rattle.study.specs.Theorems.{ValidContents}
 use Rattle.validity.specs.Memory.{State, short}
-use Rattle.guarantee.specs.Runs.{make-blocks, inquiring, Call, call-ask, answer, after, Response, response, run}
+use Rattle.guarantee.specs.Runs.{make-blocks, inquiring, Call, call-ask, answer, Response, response, run}
 use Rattle.guarantee.specs.History.{reasonsAfter, verdict, contentsAfter, studyIn, studyAfter, learnt}
 use Rattle.guarantee.specs.Theorems.{Guaranteed, CanonicalBlock, blocked, Demand1, Demand2, Demand3}
 use Rattle.guarantee.proofs.Follows.{held-some, holds-valid, holds, as-short, settles}

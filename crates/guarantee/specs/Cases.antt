@@ -5,7 +5,7 @@ use mathlib.Core.Bool.{Bool, true, false}
 use mathlib.Core.List.{List, [], _∷_, map}
 use mathlib.Core.Option.{Option, none, some}
 use lib.ListN.{replicate}
-use Rattle.study.specs.Limits.{maxTides, maxWithdrawals}
+use Rattle.study.specs.Limits.{maxTides, maxWithdrawals, maxSettings}
 use Rattle.study.specs.declared.Minima.{Minima}
 use Rattle.study.specs.declared.BlockRecord.{BlockRecord}
 use Rattle.study.specs.Study.{Tide, Contents, noTide}
@@ -16,7 +16,7 @@ use Rattle.guarantee.specs.History.{verdict, following}
 
 -- b0, and the same b for each setting
 abbrev pub minima : ℕ → ℕ → Minima
-minima b0 b = record { b0 = b0; b = replicate 8 b }
+minima b0 b = record { b0 = b0; b = replicate maxSettings b }
 
 -- k = 1, these tides, a count of withdrawals
 abbrev pub holding : Minima → List Tide → ℕ → Option Contents

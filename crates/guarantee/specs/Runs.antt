@@ -2,13 +2,13 @@
 -- stands once, in the tables `updating` and `inquiring`; `AsContracts` (Theorems) says that it is what the call's contract cites. Assumes
 -- nothing.
 use Prim.Native.Nat.{ℕ}
-use mathlib.Core.List.{List, [], _∷_, _++_}
-use lib.ListN.{length, drop}
+use mathlib.Core.List.{List, [], _∷_}
+use lib.ListN.{length}
 use Rattle.lists.specs.Lists.{overwrite, over}
 use Rattle.study.specs.declared.Minima.{Minima}
 use Rattle.study.specs.declared.BlockRecord.{BlockRecord}
 use Rattle.study.specs.Problem.{blocking}
-use Rattle.study.specs.Study.{Contents, size, problem}
+use Rattle.study.specs.Study.{Contents, problem}
 use Rattle.study.specs.Refusals.{Verdict, settled, Reason, firstOf, freshReasons, heldReasons}
 use Rattle.study.specs.Calls.{openReasons, opening, minimaReasons, settingMinima, enterReasons, entering, withdrawReasons, withdrawing, centresReasons}
 use Rattle.study.specs.Calls.{centreNumbers, blockReasons, Figures, figures, blockRecord, judgeReasons, Judgement, approval, disapproval, judgement}
@@ -93,7 +93,7 @@ inquiring (make-blocks list records) =
       lent = record { numbers = []; lists = list ∷ []; records = records };
       tells = λ H. let S = H .study in record {
         numbers = figureNumbers (figures S);
-        lists = (blocking (problem S) ++ drop (size S) list) ∷ [];
+        lists = over (blocking (problem S)) list ∷ [];
         records = overwrite (figures S .blocks) (blockRecord S) records;
       };
     }

@@ -7,8 +7,8 @@ use mathlib.Core.Bool.{false}
 use mathlib.Core.List.{List, [], _∷_, _++_}
 use mathlib.Core.Option.{none, some}
 use lib.Dec.{T}
-use lib.ListN.{length, take, drop}
-use Rattle.lists.specs.Lists.{greatest, overwrite}
+use lib.ListN.{length, take}
+use Rattle.lists.specs.Lists.{greatest, overwrite, over}
 use Rattle.study.specs.declared.Minima.{Minima}
 use Rattle.study.specs.declared.BlockRecord.{BlockRecord}
 use Rattle.study.specs.Problem.{centres, labels, radius, blocking, diameter, greatestDiameter, Feasible}
@@ -108,7 +108,7 @@ pub record CanonicalBlock (S : Study) (F : Figures) (list₀ list : List ℕ) (r
   pub radius : F .radius ≡ radius (problem S)
   pub blocks : F .blocks ≡ length (centres (problem S) (F .radius))
   pub widest : F .widest ≡ greatestDiameter (problem S) (labels (blocking (problem S)))
-  pub list-is : list ≡ blocking (problem S) ++ drop (size S) list₀
+  pub list-is : list ≡ over (blocking (problem S)) list₀
   pub records-are : records ≡ overwrite (F .blocks) (blockRecord S) records₀
   -- an assignment at the radius, the first in dictionary order; no smaller candidate has one
   pub canonical : Canonical (problem S)
@@ -122,13 +122,13 @@ pub record Anew (start : State) (before since : List Call) : Type 0 where
 
 -- files and datasets correspond one to one, of what Write and Read leave
 pub record FilesAndDatasets : Type 0 where
-  -- what Write writes, Read reads back: over the same record and memory nothing changes, over any other there is the same dataset
+  -- what Write writes, Read reads back: onto the same record and memory nothing changes, onto any other there is the same dataset
   pub same : (s : State) (bytes : List ℕ) (n : ℕ) → writeReply s (length bytes) ≡ value n → readLeaves s (take n (writeLeaves s bytes)) ≡ s
-  pub read-back : (s over : State) (bytes : List ℕ) (n : ℕ) → writeReply s (length bytes) ≡ value n → short over ≡ false
-      → let read = readLeaves over (take n (writeLeaves s bytes)) in T (isDataset read) × (contentsOf read ≡ contentsOf s)
+  pub read-back : (s onto : State) (bytes : List ℕ) (n : ℕ) → writeReply s (length bytes) ≡ value n → short onto ≡ false
+      → let read = readLeaves onto (take n (writeLeaves s bytes)) in T (isDataset read) × (contentsOf read ≡ contentsOf s)
   -- a file that Read accepts is what Write then writes
-  pub written-again : (over : State) (file bytes : List ℕ) → Bytes file → readAnswer over file ≡ accepted → length file ≤ length bytes
-      → let read = readLeaves over file in
+  pub written-again : (onto : State) (file bytes : List ℕ) → Bytes file → readAnswer onto file ≡ accepted → length file ≤ length bytes
+      → let read = readLeaves onto file in
       (writeReply read (length bytes) ≡ value (length file)) × (take (length file) (writeLeaves read bytes) ≡ file)
 
 -- for every start and every list of calls

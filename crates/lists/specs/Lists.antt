@@ -1,5 +1,5 @@
 -- Finite lists, and sums, counts and tables over the numbers below a bound. Everything here computes. Assumes nothing.
-use Prim.Native.Nat.{ℕ, zero, suc, _+_, _*_, max, min}
+use Prim.Native.Nat.{ℕ, zero, suc, _+_, max, min}
 use mathlib.Core.Path.{_≡_}
 use mathlib.Core.Bool.{Bool, true, false, cond, _&&_}
 use mathlib.Core.List.{List, [], _∷_, _++_, map, flatMap, List·Memᴰ}

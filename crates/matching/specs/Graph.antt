@@ -6,7 +6,7 @@ use mathlib.Core.Logic.{_⊎_}
 use Prim.Native.Nat.{ℕ, _+_, _*_, _≤_, _<_}
 use lib.Dec.{T}
 use lib.ListN.{length}
-use Rattle.study.specs.Limits.{maxTides, tableSize}
+use Rattle.study.specs.Limits.{maxTides, tableSize, maxSettings}
 use Rattle.promise.specs.Promise.{allows}
 use Rattle.lists.specs.Lists.{at}
 use Rattle.matching.specs.Matching.{Matching, Tree, Path, TidesKept, Unsaturable}
@@ -32,8 +32,8 @@ pub record SizedGraph (allowed settings owner kind : List ℕ) (slots tides : �
   pub allowed-long : tableSize ≤ length allowed
   pub settings-long : tides ≤ length settings
   pub blocks : (s : ℕ) → s < slots → at owner s < maxTides
-  pub kind-high : (s : ℕ) → s < slots → at kind s ≤ 8
-  pub high : (t : ℕ) → t < tides → at settings t ≤ 8
+  pub kind-high : (s : ℕ) → s < slots → at kind s ≤ maxSettings
+  pub high : (t : ℕ) → t < tides → at settings t ≤ maxSettings
 
 -- such a graph, and a matching in it
 pub record GraphMatching (allowed settings owner kind : List ℕ) (slots tides : ℕ) (tide slot : List ℕ) : Type 0 where
@@ -59,7 +59,7 @@ pub record Scanning (E : ℕ → ℕ → Type 0) (slots tides s start upto tail 
 -- a mark at m * 9 + k says that every tide that a slot of block m and kind k can hold is seen
 pub record Marked (allowed settings : List ℕ) (slots tides : ℕ) (mark from : List ℕ) : Type 0 where
   pub long : length mark ≡ 1080
-  pub seen : (m k : ℕ) → m < maxTides → k ≤ 8 → (at mark (m * 9 + k) ≡ 0 → ⊥) → (t : ℕ) → t < tides → EdgeAt allowed settings m k t → at from t < slots
+  pub seen : (m k : ℕ) → m < maxTides → k ≤ maxSettings → (at mark (m * 9 + k) ≡ 0 → ⊥) → (t : ℕ) → t < tides → EdgeAt allowed settings m k t → at from t < slots
 
 -- no free tide was met
 pub record NoFreeTide (allowed settings : List ℕ) (slots tides f : ℕ) (mark from : List ℕ) : Type 0 where

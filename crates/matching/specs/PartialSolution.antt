@@ -7,6 +7,7 @@ use mathlib.Core.Bool.{_&&_}
 use lib.Dec.{T, eqb}
 use lib.ListN.{length, getD}
 use Rattle.lists.specs.Lists.{countBelow}
+use Rattle.study.specs.Limits.{maxSettings}
 use Rattle.study.specs.Problem.{centres, centreOf, block, assignable}
 use Rattle.study.specs.Study.{Study, size, tide, problem, Valid}
 
@@ -16,7 +17,7 @@ pub record PartialSolution (S : Study) (g : ℕ) (D : ℕ → ℕ) : Type 0 wher
   pub inside : (t : ℕ) → t < size S → D t ≤ length (centres (problem S) g)
   pub in-radius : (t : ℕ) → t < size S → 1 ≤ D t → problem S .dist (centreOf (centres (problem S) g) (D t)) t ≤ g
   pub whole : (m : ℕ) → 1 ≤ m → m ≤ length (centres (problem S) g) → countBelow (size S) (block D m) ≡ S .minima .b0
-  pub each : (m : ℕ) → 1 ≤ m → m ≤ length (centres (problem S) g) → (j : ℕ) → j < 8
+  pub each : (m : ℕ) → 1 ≤ m → m ≤ length (centres (problem S) g) → (j : ℕ) → j < maxSettings
       → getD (S .minima .b) j 0 ≤ countBelow (size S) (λ t. block D m t && eqb (tide S t .setting) (suc j))
 
 -- document 01's remark: in a valid study a partial solution exists at a radius exactly when an assignment does

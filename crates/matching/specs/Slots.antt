@@ -6,15 +6,15 @@ use mathlib.Core.Bool.{Bool, cond}
 use Prim.Native.Nat.{ℕ, _+_, _*_, _-_}
 use lib.ListN.{length}
 use Rattle.lists.specs.Lists.{sumBelow, countBelow, at}
-use Rattle.study.specs.Limits.{maxTides}
+use Rattle.study.specs.Limits.{maxTides, maxSettings}
 
 -- the minima of the settings together
 abbrev pub total : List ℕ → ℕ
-total b = sumBelow 8 (λ j. at b j)
+total b = sumBelow maxSettings (λ j. at b j)
 
 -- how many of the slots of block m pass a test of block and kind: at b j of the kind j + 1, and the rest of b0 of kind 0
 unfoldable pub blockSum : (Q : ℕ → ℕ → Bool) (b0 : ℕ) (b : List ℕ) (m : ℕ) → ℕ
-blockSum Q b0 b m = sumBelow 8 (λ j. cond (Q m (j + 1)) (at b j) 0) + cond (Q m 0) (b0 - total b) 0
+blockSum Q b0 b m = sumBelow maxSettings (λ j. cond (Q m (j + 1)) (at b j) 0) + cond (Q m 0) (b0 - total b) 0
 
 -- a test of a slot's block and kind
 abbrev pub slotTest : (Q : ℕ → ℕ → Bool) (owner kind : List ℕ) → ℕ → Bool

@@ -1,9 +1,10 @@
 // The minima of all blocks as slots. Slot s belongs to the block owner[s] and takes tides of the
 // setting kind[s], or of any setting where kind[s] is 0. The slots of block m and kind k stand in a
 // row, and next[m * 9 + k] has the first of them.
+use study::MAX_SETTINGS;
 use study::MAX_TIDES;
 ghost use Prim.Native.Nat.{_+_, _*_, _<_, _≤_};
-ghost use Rattle.study.specs.Limits.{maxTides};
+ghost use Rattle.study.specs.Limits.{maxTides, maxSettings};
 ghost use Rattle.matching.specs.Slots.{total, Slots, Tables, Added, BlockAdded};
 
 // Adds count slots of block m and kind k at the place pos.
@@ -19,7 +20,7 @@ fn add_slots(
     requires { ⌜ Tables (now owner) (now kind) ⌝ }
     requires { ⌜ pos + count ≤ maxTides ⌝ }
     requires { ⌜ m < maxTides ⌝ }
-    requires { ⌜ k ≤ 8 ⌝ }
+    requires { ⌜ k ≤ maxSettings ⌝ }
     ensures { λ _. ⌜ Added pos m k count (now (owner .entry)) (now (kind .entry)) (now (owner .exit)) (now (kind .exit)) ⌝ }
 {
     next[m * 9 + (k as usize)] = pos as u8;
@@ -39,7 +40,7 @@ fn add_block(
     start: usize,
     m: usize,
     b0: usize,
-    b: [u8; 8],
+    b: [u8; MAX_SETTINGS],
 )
     requires { ⌜ Tables (now owner) (now kind) ⌝ }
     requires { ⌜ start + b0 ≤ maxTides ⌝ }
@@ -49,7 +50,7 @@ fn add_block(
 {
     let mut pos = start;
     let mut j: usize = 0;
-    while j < 8 {
+    while j < MAX_SETTINGS {
         let count = b[j] as usize;
         add_slots(owner, kind, next, pos, m, (j + 1) as u8, count);
         pos += count;
@@ -65,7 +66,7 @@ pub fn lay_out(
     next: &mut [u8; 1080],
     blocks: usize,
     b0: usize,
-    b: [u8; 8],
+    b: [u8; MAX_SETTINGS],
 )
     requires { ⌜ Tables (now owner) (now kind) ⌝ }
     requires { ⌜ blocks ≤ maxTides ⌝ }

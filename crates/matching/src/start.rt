@@ -5,7 +5,7 @@ use study::MAX_TIDES;
 use study::wide;
 ghost use Prim.Native.Nat.{_<_, _≤_};
 ghost use lib.ListN.{length};
-ghost use Rattle.study.specs.Limits.{maxTides};
+ghost use Rattle.study.specs.Limits.{maxTides, maxSettings};
 ghost use Rattle.matching.specs.Matching.{Matching};
 ghost use Rattle.matching.specs.Graph.{Edge, GraphMatching};
 
@@ -26,7 +26,7 @@ fn take_next(
     t: usize,
 )
     requires { ⌜ GraphMatching (now allowed) (now settings) (now owner) (now kind) slots n (now tide) (now slot) ⌝ }
-    requires { ⌜ (m < maxTides) × (k ≤ 8) × (t < n) ⌝ }
+    requires { ⌜ (m < maxTides) × (k ≤ maxSettings) × (t < n) ⌝ }
     ensures { λ _. ⌜ Matching (Edge (now (allowed .entry)) (now (settings .entry)) (now (owner .entry)) (now (kind .entry)))
         slots n (now (tide .exit)) (now (slot .exit)) ⌝ }
 {

@@ -25,7 +25,7 @@ use Rattle.study.proofs.CallLaws.{none-holds}
 use Rattle.validity.specs.Memory.{State, stateOf, setK, setMinima, short, isDataset, contentsOf, stored}
 use Rattle.validity.specs.Validity.{IsStudy}
 use Rattle.validity.proofs.Proofs.{for-datasets}
-use Rattle.dataset.specs.Answers.{freshAnswer, freshLeaves, heldAnswer, heldLeaves, openAnswer, openLeaves, minimaAnswer, minimaLeaves}
+use Rattle.dataset.specs.Answers.{freshLeaves, heldAnswer, heldLeaves, openAnswer, openLeaves, minimaAnswer, minimaLeaves}
 use Rattle.dataset.specs.Answers.{enterAnswer, enterLeaves, withdrawAnswer, withdrawLeaves}
 use Rattle.dataset.proofs.AnswerLaws.{fresh-own, accepted-held}
 use Rattle.narrowing.specs.Narrowing.{narrowed, narrowMinima, narrowDataset, narrowState, Unchanged}

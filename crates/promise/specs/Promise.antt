@@ -8,7 +8,7 @@ use mathlib.Core.Bool.{Bool, true, false, not}
 use lib.Dec.{T, eqb}
 use lib.ListN.{length, getD}
 use Rattle.lists.specs.Lists.{sumBelow, countBelow, TailKept}
-use Rattle.study.specs.Limits.{maxTides, tableSize, cell}
+use Rattle.study.specs.Limits.{maxTides, tableSize, cell, maxSettings}
 use Rattle.study.specs.declared.Minima.{Minima}
 use Rattle.study.specs.Study.{meets}
 use Rattle.study.specs.Problem.{block, labels}
@@ -78,7 +78,7 @@ meeting M n s = meets M n (λ t. getD s t 0)
 -- what a search may assume of minima and settings
 pub record Able (M : Minima) (n : ℕ) (s : List ℕ) : Type 0 where
   pub small : M .b0 ≤ maxTides
-  pub fit : sumBelow 8 (λ j. getD (M .b) j 0) ≤ M .b0
+  pub fit : sumBelow maxSettings (λ j. getD (M .b) j 0) ≤ M .b0
   pub settings-long : n ≤ length s
   pub setting-low : (t : ℕ) → t < n → 1 ≤ getD s t 0
-  pub setting-high : (t : ℕ) → t < n → getD s t 0 ≤ 8
+  pub setting-high : (t : ℕ) → t < n → getD s t 0 ≤ maxSettings

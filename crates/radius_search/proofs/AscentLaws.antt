@@ -10,7 +10,6 @@ use lib.ListN.{length, getD}
 use Rattle.lists.specs.Lists.{_among_, every, TailKept}
 use Rattle.lists.proofs.Tests.{split, test, every-at, not-every, not-not, eq→eqb}
 use Rattle.lists.proofs.Members.{place}
-use Rattle.lists.proofs.Tables.{tail-same, tail-trans}
 use Rattle.study.specs.Limits.{cell}
 use Rattle.study.specs.Problem.{Problem, centres, candidates, labels}
 use Rattle.promise.specs.Promise.{Test, Assigned, Promise, AtLeast}

@@ -6,7 +6,7 @@ use mathlib.Core.List.{List}
 use lib.Dec.{leb, eqb}
 use lib.ListN.{length, getD}
 use Rattle.lists.specs.Lists.{every, bit, countBelow, tabulate}
-use Rattle.study.specs.Limits.{maxTides}
+use Rattle.study.specs.Limits.{maxTides, maxSettings}
 use Rattle.study.specs.declared.Minima.{Minima}
 
 -- how many of the tides below t that pass p have each setting; place 0 is unused
@@ -21,7 +21,7 @@ pub record Tallied (s : List ℕ) (p : ℕ → Bool) (t found : ℕ) (counts : L
 -- tide t can be counted, once or not at all: it has one of the settings, and no count is near its type's greatest number
 pub record TallyRoom (s : List ℕ) (t one found : ℕ) (counts : List ℕ) : Type 0 where
   pub inside : t < length s
-  pub setting-high : getD s t 0 ≤ 8
+  pub setting-high : getD s t 0 ≤ maxSettings
   pub long : length counts ≡ 9
   pub small : (j : ℕ) → j < 9 → getD counts j 0 ≤ maxTides
   pub few : found ≤ maxTides
@@ -37,4 +37,4 @@ enough b counts j = leb (getD b j 0) (getD counts (j + 1) 0)
 
 -- so many tides, of which each setting has so many, meet the minima
 unfoldable pub met : Minima → ℕ → List ℕ → Bool
-met M found counts = leb (M .b0) found && every 8 (enough (M .b) counts)
+met M found counts = leb (M .b0) found && every maxSettings (enough (M .b) counts)

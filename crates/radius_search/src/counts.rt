@@ -1,4 +1,5 @@
 // Counts of tides by their settings, against the minima.
+use study::MAX_SETTINGS;
 use study::Minima;
 use study::wide;
 ghost use mathlib.Core.Path.{_≡_};
@@ -32,7 +33,7 @@ pub fn counts_meet(minima: Minima, found: usize, counts: &[usize; 9]) -> bool
     }
     let b = minima.b;
     let mut j: usize = 0;
-    while j < 8 {
+    while j < MAX_SETTINGS {
         if counts[j + 1] < wide(b[j]) {
             return false;
         }

@@ -6,6 +6,7 @@ use study::Answer;
 use study::BlockRecord;
 use study::Blocked;
 use study::Dataset;
+use study::MAX_SETTINGS;
 use study::MAX_TIDES;
 use study::Minima;
 use study::Refusal;
@@ -19,7 +20,10 @@ ghost use Rattle.sheet_of_file.specs.Sheet.{sheetOf, blockedText};
 
 // A record to read over: Read takes any.
 fn blank() -> Dataset {
-    let minima = Minima { b0: 0, b: [0; 8] };
+    let minima = Minima {
+        b0: 0,
+        b: [0; MAX_SETTINGS],
+    };
     Dataset {
         k: 0,
         n: 0,

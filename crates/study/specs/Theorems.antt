@@ -8,7 +8,7 @@ use mathlib.Core.List.{List}
 use lib.Dec.{T, eqb}
 use lib.ListN.{length, getD, take}
 use Rattle.lists.specs.Lists.{_among_, countBelow, greatest}
-use Rattle.study.specs.Limits.{maxWithdrawals}
+use Rattle.study.specs.Limits.{maxWithdrawals, maxSettings}
 use Rattle.study.specs.declared.Minima.{Minima}
 use Rattle.study.specs.Problem.{Problem, centres, centreOf, block, labels, assignments, assignable, candidates, radius, blocking}
 use Rattle.study.specs.Problem.{diameter, greatestDiameter, Feasible, feasible}
@@ -93,7 +93,7 @@ pub record ForProblem (P : Problem) : Type 0 where
 -- at least b0 tides, and at least b of each setting
 pub record Ample (S : Study) : Type 0 where
   pub whole : S .minima .b0 ≤ size S
-  pub each : (j : ℕ) → j < 8 → getD (S .minima .b) j 0 ≤ countBelow (size S) (λ t. eqb (tide S t .setting) (suc j))
+  pub each : (j : ℕ) → j < maxSettings → getD (S .minima .b) j 0 ≤ countBelow (size S) (λ t. eqb (tide S t .setting) (suc j))
 
 -- for every valid study
 pub record ForStudy (S : Study) : Type 0 where

@@ -36,7 +36,7 @@ pub fn wide(x: u8) -> usize
 // The minima: b0 for a whole block, and b for each of the 8 settings.
 pub struct Minima {
     pub b0: u8,
-    pub b: [u8; 8],
+    pub b: [u8; MAX_SETTINGS],
 }
 
 // The record of a dataset (document 01: book); the distances and settings stand in memory that the caller lends.

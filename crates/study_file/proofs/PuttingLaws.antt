@@ -11,7 +11,7 @@ use Rattle.lists.specs.Lists.{tabulate, over}
 use Rattle.lists.proofs.Tables.{length-tabulate, getD-tabulate, tabulate-suc, tabulate-is}
 use Rattle.study.specs.Limits.{cell}
 use Rattle.study.specs.declared.Dataset.{Dataset}
-use Rattle.study.specs.Study.{Tide, Contents, noTide}
+use Rattle.study.specs.Study.{Contents, noTide}
 use Rattle.file_format.specs.Bits.{Field, field, bitsOf, allBits, pack, packed}
 use Rattle.file_format.specs.File.{tideFields, fields, fileOf, bitLength}
 use Rattle.file_format.proofs.BitLaws.{total, length-allBits}

@@ -3,10 +3,10 @@ use Prim.Native.Nat.{ℕ, _≤_, _<_}
 use native.Mathlib.Omega.{arith}
 use mathlib.Core.Path.{_≡_, sym, ap, _∙_, subst}
 use mathlib.Core.Bool.{Bool, true, false, cond}
-use mathlib.Core.List.{List, [], _++_}
+use mathlib.Core.List.{List, []}
 use lib.Dec.{ltb, lt→ltb}
 use lib.Arith.{le→nltb}
-use lib.ListN.{length, drop}
+use lib.ListN.{length}
 use Rattle.lists.specs.Lists.{over}
 use Rattle.lists.proofs.Tests.{T-true, T-false}
 use Rattle.study.specs.declared.Refusal.{Refusal}
@@ -18,7 +18,7 @@ use Rattle.file_format.specs.File.{fields, fileOf, byteLength}
 use Rattle.file_format.proofs.WrittenLaws.{file-length}
 use Rattle.validity.specs.Memory.{State, studyOf, contentsOf}
 use Rattle.dataset.specs.Answers.{heldAnswer}
-use Rattle.validity.proofs.ValidityLaws.{study-size, valid-contents}
+use Rattle.validity.proofs.ValidityLaws.{study-size}
 use Rattle.dataset.specs.Accepted.{Passed}
 use Rattle.dataset.proofs.AnswerLaws.{held-own, held-refused, passed-valid}
 use Rattle.study_file.specs.Answers.{writeReasons, writeAnswer, writeReply, writeLeaves}

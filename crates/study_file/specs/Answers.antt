@@ -5,9 +5,9 @@ use lib.Dec.{ltb}
 use lib.ListN.{length}
 use Rattle.lists.specs.Lists.{over}
 use Rattle.study.specs.Study.{Contents}
-use Rattle.study.specs.Refusals.{number, Verdict, settled, Reply, value, refusal, replied, Reason, _⇒_, firstOf, numbered}
+use Rattle.study.specs.Refusals.{number, Verdict, settled, Reply, value, refusal, replied, Reason, _⇒_, numbered}
 use Rattle.file_format.specs.File.{fileOf, decoded, readReasons}
-use Rattle.validity.specs.Memory.{State, contentsOf, stored}
+use Rattle.validity.specs.Memory.{State, contentsOf}
 use Rattle.dataset.specs.Answers.{freshAnswer, freshLeaves, heldAnswer}
 use Rattle.study_file.specs.declared.Written.{Written}
 use Rattle.study_file.specs.declared.Written.the-variants as WrittenCase

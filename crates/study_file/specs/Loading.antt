@@ -4,7 +4,7 @@ use mathlib.Core.Path.{_≡_}
 use mathlib.Core.List.{List, [], _∷_}
 use lib.ListN.{length}
 use Rattle.lists.specs.Lists.{tabulate}
-use Rattle.study.specs.Limits.{maxTides, tableSize}
+use Rattle.study.specs.Limits.{maxTides, tableSize, maxSettings}
 use Rattle.study.specs.Study.{Contents}
 use Rattle.study.specs.Refusals.{Verdict, accepted, refused, firstOf, numbered}
 use Rattle.file_format.specs.Bits.{bitsAt}
@@ -24,7 +24,7 @@ pub record Begun (s : List ℕ) (k n : ℕ) : Type 0 where
   pub few : n ≤ maxTides
   pub k-is : k ≡ bitsAt s 15 4
   pub low : 1 ≤ k
-  pub high : k ≤ 8
+  pub high : k ≤ maxSettings
 
 -- the file's contents with its first t tides
 unfoldable pub part : List ℕ → ℕ → Contents

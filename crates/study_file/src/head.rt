@@ -7,6 +7,7 @@ use bit_reader::read_field;
 use bit_reader::read_start;
 use study::Answer;
 use study::Dataset;
+use study::MAX_SETTINGS;
 use study::MAX_TIDES;
 use study::Minima;
 use study::Refusal;
@@ -15,6 +16,7 @@ ghost use mathlib.Core.Path.{_≡_};
 ghost use Prim.Native.Nat.{_+_, _-_, _*_, _^_, _≤_, _<_};
 ghost use lib.Dec.{eqb};
 ghost use lib.ListN.{length};
+ghost use Rattle.study.specs.Limits.{maxSettings};
 ghost use Rattle.study.specs.Refusals.{verdictOf, firstOf};
 ghost use Rattle.file_format.specs.Bits.{bitsAt};
 ghost use Rattle.file_format.specs.File.{minimaAt, decoded, headReasons};
@@ -37,10 +39,10 @@ fn number(file: &[u8], at: usize, width: usize) -> u32
 
 // The minima of the file; those above k are 0.
 fn minima_of(file: &[u8], k: usize) -> Minima
-    requires { ⌜ (k ≤ 8) × (42 + 7 * k ≤ 8 * length (now file)) ⌝ }
+    requires { ⌜ (k ≤ maxSettings) × (42 + 7 * k ≤ 8 * length (now file)) ⌝ }
     ensures { λ r. ⌜ r ≡ minimaAt (now (file .entry)) k ⌝ }
 {
-    let mut b = [0u8; 8];
+    let mut b = [0u8; MAX_SETTINGS];
     let mut j: usize = 0;
     while j < k {
         b[j] = number(file, 42 + 7 * j, 7) as u8;
@@ -100,7 +102,7 @@ pub fn head_answer(file: &[u8]) -> Answer
     if k < 1 {
         return Answer::Refused(Refusal::SettingCount);
     }
-    if 8 < k {
+    if MAX_SETTINGS < k {
         return Answer::Refused(Refusal::SettingCount);
     }
     body_answer(file, k, n)

@@ -2,6 +2,7 @@
 use crate::length::bit_length;
 use bit_reader::wide;
 use study::Dataset;
+use study::MAX_SETTINGS;
 use study::MAX_TIDES;
 ghost use mathlib.Core.Path.{_≡_};
 ghost use mathlib.Core.Bool.{cond};
@@ -10,7 +11,7 @@ ghost use Prim.Native.Nat.{ℕ, _+_, _*_, _%_, _^_, _≤_, _<_};
 ghost use lib.Dec.{eqb};
 ghost use lib.ListN.{length, getD};
 ghost use Rattle.lists.specs.Lists.{tabulate};
-ghost use Rattle.study.specs.Limits.{maxTides, cell};
+ghost use Rattle.study.specs.Limits.{maxTides, cell, maxSettings};
 ghost use Rattle.file_format.specs.Bits.{field, bitsOf};
 ghost use Rattle.file_format.specs.File.{tideFields, fields, bitLength};
 ghost use Rattle.validity.specs.Memory.{stateOf, entryState, tideOf, contentsOf};
@@ -82,8 +83,8 @@ fn put_head(file: &mut [u8], dataset: Dataset)
 }
 
 // The b's of the settings 1 to k.
-fn put_minima(file: &mut [u8], k: usize, b: [u8; 8])
-    requires { ⌜ (k ≤ 8) × (42 + 7 * k ≤ 8 * length (now file)) ⌝ }
+fn put_minima(file: &mut [u8], k: usize, b: [u8; MAX_SETTINGS])
+    requires { ⌜ (k ≤ maxSettings) × (42 + 7 * k ≤ 8 * length (now file)) ⌝ }
     ensures { λ _. ⌜ PutFields (now (file .entry)) 42 (map (field 7) (tabulate k (λ (j : ℕ). getD b j 0))) (now (file .exit)) ⌝ }
 {
     let mut j: usize = 0;

@@ -6,6 +6,7 @@ use mathlib.Core.List.{List, [], _∷_, _++_}
 use lib.Dec.{ltb}
 use lib.ListN.{length, drop, getD}
 use Rattle.lists.specs.Lists.{tabulate}
+use Rattle.study.specs.Limits.{maxSettings}
 use Rattle.study.specs.declared.Minima.{Minima}
 use Rattle.study.specs.Study.{Contents, size}
 use Rattle.study.specs.Refusals.{Numbered, number, numbered, Verdict, accepted, refused, firstOf}
@@ -73,7 +74,7 @@ called (refused r) H c = stop (refusedAt (c .line) r)
 
 -- b0, and the b's; those above k are 0
 unfoldable pub minimaFrom : List ℕ → Minima
-minimaFrom xs = record { b0 = getD xs 0 0; b = tabulate 8 (λ j. getD xs (suc j) 0) }
+minimaFrom xs = record { b0 = getD xs 0 0; b = tabulate maxSettings (λ j. getD xs (suc j) 0) }
 
 -- Open with the k that stands next
 unfoldable pub openingOf : List ℕ → Cursor → Got Contents

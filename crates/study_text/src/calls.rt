@@ -13,6 +13,7 @@ use dataset::set_minima;
 use narrowing::narrow;
 use study::Answer;
 use study::Dataset;
+use study::MAX_SETTINGS;
 use study::MAX_TIDES;
 use study::Minima;
 use study::Outcome;
@@ -87,7 +88,10 @@ fn read_open(text: &[u8], distances: &mut [u32], settings: &mut [u8], from: Curs
     requires { ⌜ (tableSize ≤ length (now distances)) × (maxTides ≤ length (now settings)) ⌝ }
     ensures { λ r. ⌜ Begins (now (text .entry)) r (now (distances .exit)) (now (settings .exit)) (openingOf (now (text .entry)) from) ⌝ }
 {
-    let minima = Minima { b0: 1, b: [0; 8] };
+    let minima = Minima {
+        b0: 1,
+        b: [0; MAX_SETTINGS],
+    };
     let dataset = Dataset {
         k: 1,
         n: 0,

@@ -1,5 +1,4 @@
 -- The matching is left as it is, or the slot gets a free tide that it can hold. Assumes nothing.
-use native.Mathlib.Omega.{arith}
 use borrow.Author.Tests.{not-false}
 use borrow.Author.Needs.{needs}
 use Rattle.matching.proofs.Turns.{given}
