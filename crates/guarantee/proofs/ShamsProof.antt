@@ -2,13 +2,13 @@
 use Prim.Native.Nat.{ℕ, _≤_}
 use native.Mathlib.Omega.{arith}
 use mathlib.Core.Path.{_≡_, refl, ap, _∙_}
-use mathlib.Core.List.{List, [], _∷_, _++_, flatMap, headD}
+use mathlib.Core.List.{List, [], _∷_, flatMap, headD}
 use lib.Dec.{T}
-use lib.ListN.{getD, drop, replicate}
-use Rattle.lists.specs.Lists.{every, sumBelow, countBelow, greatest, tabulate}
+use lib.ListN.{getD, replicate}
+use Rattle.lists.specs.Lists.{over, every, sumBelow, countBelow, greatest, tabulate}
 use Rattle.study.specs.Problem.{centresAmong, centres, centreOf, choices, block, labels, allSufficient, assignments, assignable, candidates}
 use Rattle.study.specs.Problem.{radius, blocking, greatestDiameter, Feasible, feasible}
-use Rattle.study.specs.Study.{size, tide, distance, meets, sufficient, problem}
+use Rattle.study.specs.Study.{tide, distance, meets, sufficient, problem}
 use Rattle.study.specs.Calls.{opened, Figures}
 use Rattle.study.proofs.ProblemLaws.{feasible-T}
 use Rattle.study.proofs.RenumberingLaws.{renumberings}
@@ -62,8 +62,8 @@ unfolding mixed plain line tideOn centresAmong centres centreOf choices block la
 blocking-of-mixed = refl
 
 -- a list that begins with a blocking begins with its numbers
-begins : {list bs cs : List ℕ} (past : List ℕ) → list ≡ bs ++ past → bs ≡ cs → list ≡ cs ++ past
-begins past e q = e ∙ ap (λ b. b ++ past) q
+begins : {list bs cs : List ℕ} (list₀ : List ℕ) → list ≡ over bs list₀ → bs ≡ cs → list ≡ over cs list₀
+begins list₀ e q = e ∙ ap (λ b. over b list₀) q
 
 pub shams : Shams
 unfolding opened remaining withArrival emptyLedger
@@ -74,11 +74,11 @@ shams =
       zero-radius = λ F list₀ list records₀ records A e. omega (arith, A .radius, radius-of-pairs);
       only-acknowledged = λ setting row A. omega (arith, A .as-many);
       same-list = λ F G list₀ list records₀ records records′ A B.
-          let a : getD list 1 0 ≡ 1 = ap (λ (l : List ℕ). getD l 1 0) (begins (drop (size pairs) list₀) (A .list-is) blocking-of-pairs) in
-          let b : getD list 1 0 ≡ 2 = ap (λ (l : List ℕ). getD l 1 0) (begins (drop (size mixed) list₀) (B .list-is) blocking-of-mixed) in
+          let a : getD list 1 0 ≡ 1 = ap (λ (l : List ℕ). getD l 1 0) (begins list₀ (A .list-is) blocking-of-pairs) in
+          let b : getD list 1 0 ≡ 2 = ap (λ (l : List ℕ). getD l 1 0) (begins list₀ (B .list-is) blocking-of-mixed) in
           omega (arith, a, b);
       untouched = λ F records₀ records A.
-          let a : _≡_ {A = ℕ} 0 1 = ap (λ (l : List ℕ). getD l 0 0) (begins (drop (size pairs) (replicate 6 0)) (A .list-is) blocking-of-pairs) in
+          let a : _≡_ {A = ℕ} 0 1 = ap (λ (l : List ℕ). getD l 0 0) (begins (replicate 6 0) (A .list-is) blocking-of-pairs) in
           omega (arith, a);
       not-too-few = (labels honest, honest-feasible);
     }

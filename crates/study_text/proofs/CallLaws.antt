@@ -26,13 +26,13 @@ use Rattle.dataset.proofs.AnswerLaws.{held-own}
 use Rattle.narrowing.specs.Narrowing.{narrowed, narrowMinima}
 use Rattle.narrowing.proofs.Proofs.{unchanged, as-given}
 use Rattle.study_text.specs.declared.Packed.{Packed}
-use Rattle.study_text.specs.declared.words.Cursor.{Cursor}
+use Rattle.text_words.specs.declared.Cursor.{Cursor}
 use Rattle.study_text.specs.declared.numbers.Given.{Given}
 use Rattle.study_text.specs.declared.numbers.Given.the-variants as GivenCase
 use Rattle.study_text.specs.declared.numbers.Row.{Row}
 use Rattle.study_text.specs.declared.numbers.Row.the-variants as RowCase
 use Rattle.study_text.specs.declared.calls.Reached.{Reached}
-use Rattle.study_text.specs.Words.{CursorWithin}
+use Rattle.text_words.specs.Words.{CursorWithin}
 use Rattle.study_text.specs.Packing.{Got, got, numberOf, numbersOf, minimaFrom, openingOf, minimaOf, tideOf, entered}
 use Rattle.study_text.specs.Steps.{givenOf, readOf}
 use Rattle.study_text.proofs.StepLaws.{number-within, numbers-within}

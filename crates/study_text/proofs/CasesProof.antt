@@ -8,8 +8,8 @@ use Rattle.study.specs.Calls.{openReasons, opened, opening, minimaReasons, with
 use Rattle.study.specs.Calls.{triangle, violations, enterReasons, entered, entering}
 use Rattle.file_format.specs.Bits.{binary, allBits, pack, packed}
 use Rattle.file_format.specs.File.{tideFields, fields, fileOf}
-use Rattle.study_text.specs.Words.{newlines, endsWord, begins, commentAfter, past, startOf, wordOf}
-use Rattle.study_text.specs.Words.{digit, withDigit, valueFrom, numeralOf, wordAt, nextOf}
+use Rattle.text_words.specs.Words.{newlines, endsWord, begins, commentAfter, past, startOf, wordOf}
+use Rattle.text_words.specs.Words.{digit, withDigit, valueFrom, numeralOf, wordAt, nextOf}
 use Rattle.study_text.specs.Packing.{numberOf, numbersOf, minimaFrom, openingOf, minimaOf, headOf, tideOf}
 use Rattle.study_text.specs.Packing.{turnOf, turnsOf, textOf, packAnswer, packLeaves}
 use Rattle.study_text.specs.Cases.{cases, TextCases, OneTideFile}

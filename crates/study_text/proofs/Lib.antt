@@ -1,5 +1,4 @@
 -- Laws, cited by the proofs of this crate and of those above it.
-pub mod WordLaws
 pub mod StepLaws
 pub mod ReachedLaws
 pub mod CallLaws

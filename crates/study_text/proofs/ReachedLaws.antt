@@ -17,9 +17,9 @@ use Rattle.dataset.specs.Accepted.{Passed}
 use Rattle.dataset.proofs.AnswerLaws.{passed-by}
 use Rattle.lists.proofs.Tests.{T-true, true-T}
 use Rattle.study_text.specs.declared.Packed.the-variants as PackedCase
-use Rattle.study_text.specs.declared.words.Cursor.{Cursor}
+use Rattle.text_words.specs.declared.Cursor.{Cursor}
 use Rattle.study_text.specs.declared.calls.Step.the-variants as StepCase
-use Rattle.study_text.specs.Words.{CursorWithin}
+use Rattle.text_words.specs.Words.{CursorWithin}
 use Rattle.study_text.specs.Packing.{called, going, entered}
 use Rattle.study_text.specs.Reached.{stepIs, Reaches, Begins, stoppedAt, stepAfter, afterCall}
 

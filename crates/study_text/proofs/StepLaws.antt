@@ -8,13 +8,13 @@ use mathlib.Core.List.{List, [], _∷_, _++_}
 use lib.ListN.{length, take, set}
 use lib.Seq.{take-suc-set, take-all}
 use Rattle.study_text.specs.declared.Packed.{Packed}
-use Rattle.study_text.specs.declared.words.Cursor.{Cursor}
-use Rattle.study_text.specs.declared.words.Word.{Word}
-use Rattle.study_text.specs.declared.words.Word.the-variants as WordCase
+use Rattle.text_words.specs.declared.Cursor.{Cursor}
+use Rattle.text_words.specs.declared.Word.{Word}
+use Rattle.text_words.specs.declared.Word.the-variants as WordCase
 use Rattle.study_text.specs.declared.numbers.Given.{Given}
 use Rattle.study_text.specs.declared.numbers.Given.the-variants as GivenCase
-use Rattle.study_text.specs.Words.{nextOf, CursorWithin}
-use Rattle.study_text.proofs.WordLaws.{next-within}
+use Rattle.text_words.specs.Words.{nextOf, CursorWithin}
+use Rattle.text_words.proofs.WordLaws.{next-within}
 use Rattle.study_text.specs.Packing.{Report, reportOf, Got, got, stop, numberFrom, numberOf, onward, numbersOf}
 use Rattle.study_text.specs.Steps.{givenOf}
 

@@ -13,14 +13,14 @@ use Rattle.validity.specs.Memory.{State, stateOf, contentsOf}
 use Rattle.validity.proofs.ValidityLaws.{study-size}
 use Rattle.dataset.specs.Accepted.{Passed}
 use Rattle.study_text.specs.declared.Packed.{Packed}
-use Rattle.study_text.specs.declared.words.Cursor.{Cursor}
-use Rattle.study_text.specs.declared.words.Word.{Word}
-use Rattle.study_text.specs.declared.words.Word.the-variants as WordCase
+use Rattle.text_words.specs.declared.Cursor.{Cursor}
+use Rattle.text_words.specs.declared.Word.{Word}
+use Rattle.text_words.specs.declared.Word.the-variants as WordCase
 use Rattle.study_text.specs.declared.calls.Over.{Over}
 use Rattle.study_text.specs.declared.calls.Over.the-variants as OverCase
 use Rattle.study_text.specs.declared.calls.Step.the-variants as StepCase
 use Rattle.study_text.specs.declared.calls.Reached.{Reached}
-use Rattle.study_text.specs.Words.{nextOf, CursorWithin}
+use Rattle.text_words.specs.Words.{nextOf, CursorWithin}
 use Rattle.study_text.specs.Packing.{reportOf, Got, got, stop, numberOf, numbersOf, onward, called, minimaFrom}
 use Rattle.study_text.specs.Packing.{openingOf, minimaOf, headOf, tideOf, Turn, going, ended, stopped, entered}
 use Rattle.study_text.specs.Packing.{turnFrom, turnOf, further, turnsOf, textOf}

@@ -19,7 +19,7 @@ use Rattle.study_text.specs.declared.Packed.{Packed}
 use Rattle.study_text.specs.declared.Packed.the-variants as PackedCase
 use Rattle.study_text.specs.declared.calls.Over.the-variants as OverCase
 use Rattle.study_text.specs.declared.calls.Finished.{Finished}
-use Rattle.study_text.specs.Words.{newlines}
+use Rattle.text_words.specs.Words.{newlines}
 use Rattle.study_text.specs.Packing.{Report, done, refusedAt, tooLong, reportOf, ended, textOf, answered, written, packAnswer, packLeaves}
 use Rattle.study_text.specs.Reached.{overIs, finishedOf, Live, Finishes}
 

@@ -1,5 +1,4 @@
--- Statements, to be read: Words, Packing, Cases. Inner promises, which only contracts of private functions cite: Steps, Reached.
-pub mod Words
+-- Statements, to be read: Packing, Cases. Inner promises, which only contracts of private functions cite: Steps, Reached.
 pub mod Packing
 pub mod Cases
 pub mod Steps

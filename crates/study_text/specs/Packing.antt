@@ -14,10 +14,10 @@ use Rattle.study.specs.Calls.{openReasons, opening, minimaReasons, settingMinim
 use Rattle.file_format.specs.File.{fileOf}
 use Rattle.study_text.specs.declared.Packed.{Packed}
 use Rattle.study_text.specs.declared.Packed.the-variants as PackedCase
-use Rattle.study_text.specs.declared.words.Cursor.{Cursor}
-use Rattle.study_text.specs.declared.words.Word.{Word}
-use Rattle.study_text.specs.declared.words.Word.the-variants as WordCase
-use Rattle.study_text.specs.Words.{newlines, nextOf}
+use Rattle.text_words.specs.declared.Cursor.{Cursor}
+use Rattle.text_words.specs.declared.Word.{Word}
+use Rattle.text_words.specs.declared.Word.the-variants as WordCase
+use Rattle.text_words.specs.Words.{newlines, nextOf}
 
 -- what is said of a text: the file's length, or a line and what is wrong there
 pub data Report : Type 0 where

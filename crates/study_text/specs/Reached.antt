@@ -11,14 +11,14 @@ use Rattle.validity.specs.Memory.{stateOf, contentsOf}
 use Rattle.dataset.specs.Accepted.{Passed}
 use Rattle.study_text.specs.declared.Packed.{Packed}
 use Rattle.study_text.specs.declared.Packed.the-variants as PackedCase
-use Rattle.study_text.specs.declared.words.Cursor.{Cursor}
+use Rattle.text_words.specs.declared.Cursor.{Cursor}
 use Rattle.study_text.specs.declared.calls.Over.{Over}
 use Rattle.study_text.specs.declared.calls.Over.the-variants as OverCase
 use Rattle.study_text.specs.declared.calls.Step.{Step}
 use Rattle.study_text.specs.declared.calls.Step.the-variants as StepCase
 use Rattle.study_text.specs.declared.calls.Reached.{Reached}
 use Rattle.study_text.specs.declared.calls.Finished.{Finished}
-use Rattle.study_text.specs.Words.{CursorWithin}
+use Rattle.text_words.specs.Words.{CursorWithin}
 use Rattle.study_text.specs.Packing.{reportOf, Got, Turn, going, ended, stopped, entered}
 
 -- why no more is read, as a turn

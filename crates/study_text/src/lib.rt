@@ -2,7 +2,7 @@
 use crate::calls::Finished;
 use crate::calls::Over;
 use crate::calls::read_text;
-use crate::words::whole_lines;
+use text_words::whole_lines;
 use study::MAX_TIDES;
 use study::Refusal;
 use study::TABLE_SIZE;
@@ -11,7 +11,6 @@ use study_file::write;
 
 mod calls;
 mod numbers;
-mod words;
 
 ghost use mathlib.Core.Path.{_≡_};
 ghost use lib.ListN.{length};

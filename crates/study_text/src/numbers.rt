@@ -1,13 +1,13 @@
 // Numbers that the text must have next.
 use crate::Packed;
-use crate::words::Cursor;
-use crate::words::Word;
-use crate::words::next;
+use text_words::Cursor;
+use text_words::Word;
+use text_words::next;
 ghost use mathlib.Core.Path.{_≡_};
 ghost use lib.ListN.{length};
 ghost use Rattle.study_text.specs.Packing.{numberOf, numbersOf};
 ghost use Rattle.study_text.specs.Steps.{givenOf, readOf};
-ghost use Rattle.study_text.specs.Words.{CursorWithin};
+ghost use Rattle.text_words.specs.Words.{CursorWithin};
 
 // The number that stands next, or what stops the reading.
 pub enum Given {

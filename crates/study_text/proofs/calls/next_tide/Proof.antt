@@ -1,5 +1,5 @@
 -- `next_tide` meets its contract: a tide, the end, or no number. Assumes nothing.
-use Rattle.study_text.proofs.WordLaws.{next-within}
+use Rattle.text_words.proofs.WordLaws.{next-within}
 use mathlib.Core.Path.{refl, sym, _∙_}
 use Rattle.study_text.proofs.Turns.{turn-goes, turn-ends, turn-stops}
 use borrow.Author.Needs.{needs}

@@ -1,10 +1,10 @@
 -- `begins` meets its contract: outside comments, a byte that ends no word. Assumes nothing.
-use Rattle.study_text.specs.Words.{begins}
+use Rattle.text_words.specs.Words.{begins}
 use mathlib.Core.Bool.{not}
 use mathlib.Core.Path.{ap}
 use borrow.Author.Needs.{needs}
-use Rattle.study_text.proofs.words.begins.Statement.{statement}
-use Rattle.study_text.proofs.words.begins.Tie as tie
+use Rattle.text_words.proofs.begins.Statement.{statement}
+use Rattle.text_words.proofs.begins.Tie as tie
 
 returns : tie.Need-returns
 unfolding begins

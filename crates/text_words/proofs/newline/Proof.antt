@@ -2,8 +2,8 @@
 use mathlib.Core.Path.{sym, ap}
 use Rattle.lists.specs.Lists.{bit}
 use borrow.Author.Tests.{eq-eqb, ne-eqb}
-use Rattle.study_text.proofs.words.newline.Statement.{statement}
-use Rattle.study_text.proofs.words.newline.Tie as tie
+use Rattle.text_words.proofs.newline.Statement.{statement}
+use Rattle.text_words.proofs.newline.Tie as tie
 
 returns : tie.Need-returns
 returns c = sym (ap bit (eq-eqb _ 10 (c .if1 .taken)))

@@ -5,10 +5,10 @@ use native.Mathlib.Omega.{arith}
 use lib.ListN.{length, drop, getD}
 use mathlib.Core.Path.{_≡_, refl, sym, _∙_}
 use Prim.Native.Nat.{_+_, _-_, _≤_}
-use Rattle.study_text.specs.Words.{startOf}
-use Rattle.study_text.proofs.WordLaws.{newline-small, start-goes, start-here, start-end}
-use Rattle.study_text.proofs.words.skip.Statement.{statement}
-use Rattle.study_text.proofs.words.skip.Tie as tie
+use Rattle.text_words.specs.Words.{startOf}
+use Rattle.text_words.proofs.WordLaws.{newline-small, start-goes, start-here, start-end}
+use Rattle.text_words.proofs.skip.Statement.{statement}
+use Rattle.text_words.proofs.skip.Tie as tie
 
 abbrev Inv-loop : tie.InvT-loop
 Inv-loop text at₀ line₀ comment₀ at line comment =

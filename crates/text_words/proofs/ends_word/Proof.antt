@@ -1,8 +1,8 @@
 -- `ends_word` meets its contract: one test after the other. Assumes nothing.
-use Rattle.study_text.specs.Words.{endsWord}
+use Rattle.text_words.specs.Words.{endsWord}
 use borrow.Author.Tests.{eq-eqb, ne-eqb}
-use Rattle.study_text.proofs.words.ends_word.Statement.{statement}
-use Rattle.study_text.proofs.words.ends_word.Tie as tie
+use Rattle.text_words.proofs.ends_word.Statement.{statement}
+use Rattle.text_words.proofs.ends_word.Tie as tie
 
 returns : tie.Need-returns
 unfolding endsWord

@@ -4,8 +4,8 @@ ghost use mathlib.Core.Path.{_≡_};
 ghost use mathlib.Core.Bool.{false};
 ghost use Prim.Native.Nat.{_+_, _≤_, _<_};
 ghost use lib.ListN.{length, drop};
-ghost use Rattle.study_text.specs.Words.{newline, newlines, endsWord, begins, commentAfter, digit, withDigit};
-ghost use Rattle.study_text.specs.Words.{startOf, wordOf, numeralOf, nextOf, CursorWithin, capped};
+ghost use Rattle.text_words.specs.Words.{newline, newlines, endsWord, begins, commentAfter, digit, withDigit};
+ghost use Rattle.text_words.specs.Words.{startOf, wordOf, numeralOf, nextOf, CursorWithin, capped};
 
 // A place in the text, and its line, from 1.
 pub struct Cursor {

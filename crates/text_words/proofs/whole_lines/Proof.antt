@@ -4,10 +4,10 @@ use native.Mathlib.Omega.{arith}
 use lib.ListN.{length, drop, getD}
 use mathlib.Core.Path.{_≡_}
 use Prim.Native.Nat.{_+_, _-_, _≤_}
-use Rattle.study_text.specs.Words.{newlines}
-use Rattle.study_text.proofs.WordLaws.{newline-small, lines-more, lines-all}
-use Rattle.study_text.proofs.words.whole_lines.Statement.{statement}
-use Rattle.study_text.proofs.words.whole_lines.Tie as tie
+use Rattle.text_words.specs.Words.{newlines}
+use Rattle.text_words.proofs.WordLaws.{newline-small, lines-more, lines-all}
+use Rattle.text_words.proofs.whole_lines.Statement.{statement}
+use Rattle.text_words.proofs.whole_lines.Tie as tie
 
 abbrev Inv-loop : tie.InvT-loop
 Inv-loop text lines₀ i₀ lines i = (i ≤ length text) × (lines ≤ i) × (lines + newlines (drop i text) ≡ newlines text)

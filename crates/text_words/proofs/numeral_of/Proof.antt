@@ -7,10 +7,10 @@ use Rattle.lists.specs.Lists.{allOf}
 use lib.ListN.{length, drop, getD}
 use mathlib.Core.Path.{_≡_, refl}
 use Prim.Native.Nat.{_-_, _≤_}
-use Rattle.study_text.specs.Words.{digit, withDigit, valueFrom, capped}
-use Rattle.study_text.proofs.WordLaws.{capped-most, digit-low, digits-more, value-more, numeral-bad, numeral-number, numeral-large}
-use Rattle.study_text.proofs.words.numeral_of.Statement.{statement}
-use Rattle.study_text.proofs.words.numeral_of.Tie as tie
+use Rattle.text_words.specs.Words.{digit, withDigit, valueFrom, capped}
+use Rattle.text_words.proofs.WordLaws.{capped-most, digit-low, digits-more, value-more, numeral-bad, numeral-number, numeral-large}
+use Rattle.text_words.proofs.numeral_of.Statement.{statement}
+use Rattle.text_words.proofs.numeral_of.Tie as tie
 
 abbrev Inv-loop : tie.InvT-loop
 Inv-loop word value₀ i₀ value i =

@@ -5,11 +5,11 @@ use mathlib.Core.List.{List, [], _∷_}
 use lib.Dec.{leb, eqb, ltb}
 use lib.ListN.{length, drop}
 use Rattle.lists.specs.Lists.{between, bit, allOf}
-use Rattle.study_text.specs.declared.words.Cursor.{Cursor}
-use Rattle.study_text.specs.declared.words.Word.{Word}
-use Rattle.study_text.specs.declared.words.Word.the-variants as WordCase
-use Rattle.study_text.specs.declared.words.Numeral.{Numeral}
-use Rattle.study_text.specs.declared.words.Numeral.the-variants as NumeralCase
+use Rattle.text_words.specs.declared.Cursor.{Cursor}
+use Rattle.text_words.specs.declared.Word.{Word}
+use Rattle.text_words.specs.declared.Word.the-variants as WordCase
+use Rattle.text_words.specs.declared.Numeral.{Numeral}
+use Rattle.text_words.specs.declared.Numeral.the-variants as NumeralCase
 
 -- 1 for a line's end
 abbrev pub newline : ℕ → ℕ

@@ -1,10 +1,10 @@
 -- `with_digit` meets its contract: one more digit, or the cap. Assumes nothing.
 use mathlib.Core.Path.{sym}
-use Rattle.study_text.specs.Words.{withDigit}
-use Rattle.study_text.proofs.WordLaws.{capped-small, capped-large}
+use Rattle.text_words.specs.Words.{withDigit}
+use Rattle.text_words.proofs.WordLaws.{capped-small, capped-large}
 use borrow.Author.Needs.{needs}
-use Rattle.study_text.proofs.words.with_digit.Statement.{statement}
-use Rattle.study_text.proofs.words.with_digit.Tie as tie
+use Rattle.text_words.proofs.with_digit.Statement.{statement}
+use Rattle.text_words.proofs.with_digit.Tie as tie
 
 returns : tie.Need-returns
 unfolding withDigit

@@ -1,8 +1,8 @@
 -- `is_digit` meets its contract: 48 to 57. Assumes nothing.
-use Rattle.study_text.specs.Words.{digit}
+use Rattle.text_words.specs.Words.{digit}
 use borrow.Author.Tests.{le-leb, lt-leb}
-use Rattle.study_text.proofs.words.is_digit.Statement.{statement}
-use Rattle.study_text.proofs.words.is_digit.Tie as tie
+use Rattle.text_words.proofs.is_digit.Statement.{statement}
+use Rattle.text_words.proofs.is_digit.Tie as tie
 
 returns : tie.Need-returns
 unfolding digit

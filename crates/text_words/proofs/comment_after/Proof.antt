@@ -1,8 +1,8 @@
 -- `comment_after` meets its contract: the line's end, an open comment, or #. Assumes nothing.
-use Rattle.study_text.specs.Words.{commentAfter}
+use Rattle.text_words.specs.Words.{commentAfter}
 use borrow.Author.Tests.{eq-eqb, ne-eqb}
-use Rattle.study_text.proofs.words.comment_after.Statement.{statement}
-use Rattle.study_text.proofs.words.comment_after.Tie as tie
+use Rattle.text_words.proofs.comment_after.Statement.{statement}
+use Rattle.text_words.proofs.comment_after.Tie as tie
 
 returns : tie.Need-returns
 unfolding commentAfter

@@ -5,10 +5,10 @@ use native.Mathlib.Omega.{arith}
 use lib.ListN.{length, drop}
 use mathlib.Core.Path.{_≡_, refl, sym, _∙_}
 use Prim.Native.Nat.{_+_, _-_, _≤_}
-use Rattle.study_text.specs.Words.{wordOf}
-use Rattle.study_text.proofs.WordLaws.{word-more, word-ends, word-none}
-use Rattle.study_text.proofs.words.word_end.Statement.{statement}
-use Rattle.study_text.proofs.words.word_end.Tie as tie
+use Rattle.text_words.specs.Words.{wordOf}
+use Rattle.text_words.proofs.WordLaws.{word-more, word-ends, word-none}
+use Rattle.text_words.proofs.word_end.Statement.{statement}
+use Rattle.text_words.proofs.word_end.Tie as tie
 
 abbrev Inv-loop : tie.InvT-loop
 Inv-loop text at end₀ end = (end ≤ length text) × (at ≤ end) × (end + length (wordOf (drop end text)) ≡ at + length (wordOf (drop at text)))

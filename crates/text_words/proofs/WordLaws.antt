@@ -12,12 +12,12 @@ use lib.Seq.{drop-cons, drop-length}
 use borrow.Author.Tests.{lt-ltb, le-ltb, le-leb, lt-leb, eq-eqb, ne-eqb}
 use Rattle.lists.specs.Lists.{bit, between, allOf}
 use Rattle.lists.proofs.Tests.{split, between-T, true-T}
-use Rattle.study_text.specs.declared.words.Cursor.{Cursor}
-use Rattle.study_text.specs.declared.words.Word.the-variants as WordCase
-use Rattle.study_text.specs.declared.words.Numeral.{Numeral}
-use Rattle.study_text.specs.declared.words.Numeral.the-variants as NumeralCase
-use Rattle.study_text.specs.Words.{newline, newlines, endsWord, begins, commentAfter, past, startOf, wordOf}
-use Rattle.study_text.specs.Words.{digit, withDigit, valueFrom, numeralOf, wordFrom, wordAt, nextOf, CursorWithin, capped}
+use Rattle.text_words.specs.declared.Cursor.{Cursor}
+use Rattle.text_words.specs.declared.Word.the-variants as WordCase
+use Rattle.text_words.specs.declared.Numeral.{Numeral}
+use Rattle.text_words.specs.declared.Numeral.the-variants as NumeralCase
+use Rattle.text_words.specs.Words.{newline, newlines, endsWord, begins, commentAfter, past, startOf, wordOf}
+use Rattle.text_words.specs.Words.{digit, withDigit, valueFrom, numeralOf, wordFrom, wordAt, nextOf, CursorWithin, capped}
 
 -- ---- places
 

@@ -1,8 +1,8 @@
 -- `next` meets its contract: start, end and number of the word. Assumes nothing.
-use Rattle.study_text.proofs.WordLaws.{start-inside, next-end, next-number, next-bad, next-large}
+use Rattle.text_words.proofs.WordLaws.{start-inside, next-end, next-number, next-bad, next-large}
 use borrow.Author.Needs.{needs}
-use Rattle.study_text.proofs.words.next.Statement.{statement}
-use Rattle.study_text.proofs.words.next.Tie as tie
+use Rattle.text_words.proofs.next.Statement.{statement}
+use Rattle.text_words.proofs.next.Tie as tie
 
 word-end-requires : tie.Need-word-end-requires
 word-end-requires c κs = start-inside (c .before .before .pre) (c .skip .ensures)

@@ -1,0 +1,2 @@
+-- Laws of the words and numbers of a text.
+pub mod WordLaws
