@@ -2,12 +2,12 @@
 use crate::calls::Finished;
 use crate::calls::Over;
 use crate::calls::read_text;
-use text_words::whole_lines;
 use study::MAX_TIDES;
 use study::Refusal;
 use study::TABLE_SIZE;
 use study_file::Written;
 use study_file::write;
+use text_words::whole_lines;
 
 mod calls;
 mod numbers;

@@ -5,14 +5,14 @@ use study::MAX_TIDES;
 use study::Minima;
 use test_comparisons::comparing;
 use test_comparisons::given::blocked;
-use test_comparisons::given::blocked_number;
-use test_comparisons::given::is_done;
 use test_comparisons::given::is_list;
 use test_comparisons::judging::is_approved;
 use test_comparisons::judging::judged;
 use test_exhaustive::exhaustive;
 use test_exhaustive::small::Small;
 use test_exhaustive::small::table;
+use test_tools::answers::blocked_number;
+use test_tools::answers::is_done;
 use test_tools::tally::Tally;
 
 // Tides on a line, k = 1 and each b 0.

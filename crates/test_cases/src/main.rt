@@ -1,13 +1,13 @@
 // Document 01's cases through the calls, and Block, Judge and Centres beside plain ones for up to seven tides.
 // Each group prints how many of its answers and places came out as expected.
+use test_calls::calls;
+use test_calls::refusals;
 use test_comparisons::centring;
 use test_comparisons::comparing;
 use test_comparisons::judging;
 use test_tools::tally;
 
-mod calls;
 mod cases;
-mod refusals;
 
 fn print_cases() {
     cases::case_1(tally::new()).print(b"case 1");

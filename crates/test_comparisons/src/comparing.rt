@@ -1,9 +1,5 @@
 // Block beside the plain blocker: answer, list, records, and the places past the last tide and block.
-use crate::given::all_blank;
 use crate::given::blocked;
-use crate::given::blocked_number;
-use crate::given::is_blank;
-use crate::given::is_done;
 use crate::given::is_list;
 use crate::given::is_number;
 use study::BlockRecord;
@@ -18,6 +14,10 @@ use test_exhaustive::partitions::members;
 use test_exhaustive::small::Small;
 use test_exhaustive::studies;
 use test_random::next;
+use test_tools::answers::all_blank;
+use test_tools::answers::blocked_number;
+use test_tools::answers::is_blank;
+use test_tools::answers::is_done;
 use test_tools::tally;
 use test_tools::tally::Tally;
 

@@ -2,10 +2,10 @@
 use study::Dataset;
 use study::Minima;
 use test_tools::samples::entered;
+use test_tools::samples::gap;
 use test_tools::samples::opened;
 use test_tools::samples::with_minima;
 use test_tools::slices::front_row;
-ghost use Prim.Native.Nat.{_<_};
 
 pub struct Small {
     pub n: usize,
@@ -21,15 +21,6 @@ pub fn at(numbers: [u8; 7], t: usize) -> u8 {
         return 0;
     }
     numbers[t]
-}
-
-pub fn gap(a: u8, b: u8) -> u32
-    ensures { λ r. ⌜ r < 256 ⌝ }
-{
-    if a < b {
-        return (b - a) as u32;
-    }
-    (a - b) as u32
 }
 
 // The distances of tides at points of a plane, along the axes; with every y the same, of tides on a line.

@@ -1,4 +1,5 @@
-// What the trial programs share: datasets, parts of slices, counts.
+// What the trial programs share: tests of answers, datasets, parts of slices, counts.
+pub mod answers;
 pub mod samples;
 pub mod slices;
 pub mod tally;

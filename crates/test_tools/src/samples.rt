@@ -1,6 +1,7 @@
 // Records and datasets to try the calls on.
 use study::Dataset;
 use study::Minima;
+ghost use Prim.Native.Nat.{_<_};
 
 // A record that is no dataset's.
 pub fn nonsense() -> Dataset {
@@ -42,4 +43,14 @@ pub fn two_tides(distances: &mut [u32], settings: &mut [u8]) -> Dataset {
     let empty = opened(distances, settings, 2);
     let one = entered(empty, distances, settings, 1, &[]);
     entered(one, distances, settings, 2, &[3])
+}
+
+// How far two tides on a line lie apart.
+pub fn gap(a: u8, b: u8) -> u32
+    ensures { λ r. ⌜ r < 256 ⌝ }
+{
+    if a < b {
+        return (b - a) as u32;
+    }
+    (a - b) as u32
 }

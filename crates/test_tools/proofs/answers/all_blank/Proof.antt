@@ -1,8 +1,8 @@
 -- `all_blank` is safe and ends: 120 - m falls. Assumes nothing.
 use borrow.Author.Needs.{needs}
 use Prim.Native.Nat.{_≤_, _-_}
-use Rattle.test_comparisons.proofs.given.all_blank.Statement.{statement}
-use Rattle.test_comparisons.proofs.given.all_blank.Tie as tie
+use Rattle.test_tools.proofs.answers.all_blank.Statement.{statement}
+use Rattle.test_tools.proofs.answers.all_blank.Tie as tie
 
 abbrev Inv-loop : tie.InvT-loop
 Inv-loop records m₀ m = m ≤ 120

@@ -1,8 +1,8 @@
 -- `row` is safe and ends: 120 - i falls. Assumes nothing.
 use borrow.Author.Needs.{needs}
 use Prim.Native.Nat.{_≤_, _-_}
-use Rattle.test_cases.proofs.calls.row.Statement.{statement}
-use Rattle.test_cases.proofs.calls.row.Tie as tie
+use Rattle.test_calls.proofs.calls.row.Statement.{statement}
+use Rattle.test_calls.proofs.calls.row.Tie as tie
 
 abbrev Inv-loop : tie.InvT-loop
 Inv-loop t row₀ i₀ row i = i ≤ 120

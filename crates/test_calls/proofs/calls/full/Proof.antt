@@ -3,8 +3,8 @@ use borrow.Author.Needs.{needs}
 use lib.ListN.{length}
 use mathlib.Core.Path.{_≡_}
 use Prim.Native.Nat.{_≤_, _-_}
-use Rattle.test_cases.proofs.calls.full.Statement.{statement}
-use Rattle.test_cases.proofs.calls.full.Tie as tie
+use Rattle.test_calls.proofs.calls.full.Statement.{statement}
+use Rattle.test_calls.proofs.calls.full.Tie as tie
 
 abbrev Inv-loop : tie.InvT-loop
 Inv-loop distances₀ settings₀ next₀ t₀ distances settings next t = (t ≤ 120) × (length distances ≡ length distances₀) × (length settings ≡ length settings₀)

@@ -2,8 +2,8 @@
 use borrow.Author.Needs.{needs}
 use lib.ListN.{length}
 use Prim.Native.Nat.{_≤_, _-_}
-use Rattle.test_cases.proofs.refusals.kept.Statement.{statement}
-use Rattle.test_cases.proofs.refusals.kept.Tie as tie
+use Rattle.test_calls.proofs.refusals.kept.Statement.{statement}
+use Rattle.test_calls.proofs.refusals.kept.Tie as tie
 
 abbrev Inv-loop : tie.InvT-loop
 Inv-loop list i₀ i = i ≤ length list
