@@ -31,6 +31,7 @@ numbered RefusalCase.Mark = number 9
 numbered RefusalCase.TideCount = number 10
 numbered RefusalCase.FillBits = number 11
 numbered RefusalCase.ListLength = number 12
+numbered RefusalCase.NotSymmetric = number 13
 numbered RefusalCase.NotDataset = number 21
 numbered RefusalCase.Full = number 22
 numbered RefusalCase.NoSuchTide = number 23

@@ -62,6 +62,8 @@ pub enum Refusal {
     TideCount,
     FillBits,
     ListLength,
+    // A table that is not the same both ways, or in which a tide is not at 0 from itself (document 02).
+    NotSymmetric,
     NotDataset,
     Full,
     NoSuchTide,

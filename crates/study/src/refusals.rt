@@ -28,6 +28,7 @@ pub fn numbered(refusal: Refusal) -> Number
         Refusal::TideCount => Number::Alone(10),
         Refusal::FillBits => Number::Alone(11),
         Refusal::ListLength => Number::Alone(12),
+        Refusal::NotSymmetric => Number::Alone(13),
         Refusal::NotDataset => Number::Alone(21),
         Refusal::Full => Number::Alone(22),
         Refusal::NoSuchTide => Number::Alone(23),
