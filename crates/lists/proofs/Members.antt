@@ -5,7 +5,7 @@ use native.Mathlib.Omega.{arith}
 use mathlib.Core.Path.{_≡_, refl, sym, ap, _∙_, subst}
 use mathlib.Core.Logic.{_⊎_, inl, inr, ⊎-elim}
 use mathlib.Core.Bool.{Bool, true, false, cond, _&&_, not}
-use mathlib.Core.List.{List, [], _∷_, _++_, map, flatMap, headD, List·Memᴰ·append-cases, Memᴰ·append-left, Memᴰ·append-right, Memᴰ·cast}
+use mathlib.Core.List.{List, [], _∷_, _++_, map, flatMap, headD, append-nil, append-assoc, List·Memᴰ·append-cases, Memᴰ·append-left, Memᴰ·append-right, Memᴰ·cast}
 use mathlib.Core.List.{List·Memᴰ·head as here, List·Memᴰ·tail as there}
 use lib.Dec.{T}
 use lib.ListN.{length, getD}
@@ -107,6 +107,15 @@ module _ {A B : Type 0} where
   flatMap-mem f [] m = no-member m
   flatMap-mem f (x ∷ xs) {y} m =
       ⊎-elim (λ h. (x, here refl, h)) (λ h. let r = flatMap-mem f xs h in (r .0, there (r .1), r .2)) (List·Memᴰ·append-cases (f x) m)
+
+  pub flatMap-append : (f : A → List B) (xs ys : List A) → flatMap f (xs ++ ys) ≡ flatMap f xs ++ flatMap f ys
+  unfolding flatMap
+  flatMap-append f [] ys = refl
+  flatMap-append f (x ∷ xs) ys = ap (λ r. f x ++ r) (flatMap-append f xs ys) ∙ sym (append-assoc (f x) (flatMap f xs) (flatMap f ys))
+
+  pub flatMap-one : (f : A → List B) (x : A) → flatMap f (x ∷ []) ≡ f x
+  unfolding flatMap
+  flatMap-one f x = append-nil (f x)
 
 -- ---- range
 

@@ -14,7 +14,7 @@ use Rattle.study.specs.Refusals.{Verdict, accepted, refused, settled, value}
 use Rattle.study.proofs.CallLaws.{none-holds}
 use Rattle.metric_closure.specs.Closure.{closure, loweredPairs}
 use Rattle.metric_closure.specs.Call.{entry, inRange, symmetricRow, symmetricTable, closeReasons, closeVerdict, closedTable, closeAnswer, closeLeaves}
-use Rattle.metric_closure.specs.Theorems.{Dissimilarity, TriangleInequality, ForTable, Measured, ForCall}
+use Rattle.metric_closure.specs.Theorems.{Dissimilarity, TriangleInequality, ForTable, Closable, ForCall}
 use Rattle.metric_closure.specs.Tables.{Fits}
 use Rattle.metric_closure.proofs.ClosureLaws.{table-laws, dissimilarity-same, triangle-same}
 use Rattle.metric_closure.proofs.TableLaws.{in-row, entry-near}
@@ -62,9 +62,9 @@ module _ (n : ℕ) (l : List ℕ) where
       let R = in-row n n p k in
       le→leb (getD l p 0) 1048575 (subst (λ z. getD l z 0 ≤ 1048575) (R .place) (h (p / n) (p % n) (R .row) (R .column)))))
 
-  measured-of : closeVerdict n l ≡ accepted → Measured n l
+  closable-of : closeVerdict n l ≡ accepted → Closable n l
   unfolding closeVerdict closeReasons
-  measured-of v =
+  closable-of v =
       let h = none-holds (closeReasons n l) v in
       let near = T-true (inRange (n * n) l) (not-not (inRange (n * n) l) (h .1 .1 .0)) in
       record {
@@ -74,18 +74,18 @@ module _ (n : ℕ) (l : List ℕ) where
         symmetric = dissimilarity-of (not-not (symmetricTable n l) (h .1 .1 .1 .0));
       }
 
-  of-measured : Measured n l → closeVerdict n l ≡ accepted
-  of-measured M = accepts n l (M .few) (M .fits) (of-near (M .near)) (T-true (symmetricTable n l) (of-dissimilarity (M .symmetric)))
+  of-closable : Closable n l → closeVerdict n l ≡ accepted
+  of-closable M = accepts n l (M .few) (M .fits) (of-near (M .near)) (T-true (symmetricTable n l) (of-dissimilarity (M .symmetric)))
 
 -- ---- what an accepted call leaves
 
-module _ (n : ℕ) (l : List ℕ) (M : Measured n l) where
+module _ (n : ℕ) (l : List ℕ) (M : Closable n l) where
   verdict : closeVerdict n l ≡ accepted
-  verdict = of-measured n l M
+  verdict = of-closable n l M
 
-  leaves : closeLeaves n l ≡ closedTable n l
+  pub leaves-closed : closeLeaves n l ≡ closedTable n l
   unfolding closeLeaves
-  leaves = rw verdict
+  leaves-closed = rw verdict
 
   answers : closeAnswer n l ≡ value (loweredPairs n (entry n l))
   unfolding closeAnswer
@@ -101,27 +101,27 @@ module _ (n : ℕ) (l : List ℕ) (M : Measured n l) where
   left = closeLeaves n l
 
   left-at : (i j : ℕ) → i < n → j < n → entry n left i j ≡ closure n (entry n l) i j
-  left-at i j a b = ap (λ (x : List ℕ). entry n x i j) leaves ∙ closed-at n l fit i j a b
+  left-at i j a b = ap (λ (x : List ℕ). entry n x i j) leaves-closed ∙ closed-at n l fit i j a b
 
   left-long : length left ≡ length l
-  left-long = ap length leaves ∙ closed-long n l fit
+  left-long = ap length leaves-closed ∙ closed-long n l fit
 
   left-past : drop (n * n) left ≡ drop (n * n) l
   unfolding closedTable
-  left-past = ap (drop (n * n)) leaves ∙ drop-overwrite (λ p. closure n (entry n l) (p / n) (p % n)) l (n * n)
+  left-past = ap (drop (n * n)) leaves-closed ∙ drop-overwrite (λ p. closure n (entry n l) (p / n) (p % n)) l (n * n)
 
   left-same : TriangleInequality n (entry n l) → left ≡ l
   unfolding closedTable
   left-same R =
-      leaves ∙ overwrite-same (λ p. closure n (entry n l) (p / n) (p % n)) l (n * n) 0 (M .fits) (λ p h.
+      leaves-closed ∙ overwrite-same (λ p. closure n (entry n l) (p / n) (p % n)) l (n * n) 0 (M .fits) (λ p h.
       let P = in-row n n p h in
       table .own R (p / n) (p % n) (P .row) (P .column) ∙ ap (λ (z : ℕ). getD l z 0) (P .place))
 
   left-obeys : TriangleInequality n (entry n left)
   left-obeys = triangle-same n (entry n left) (closure n (entry n l)) left-at (table .obeys)
 
-  left-measured : Measured n left
-  left-measured =
+  left-closable : Closable n left
+  left-closable =
       record {
         few = M .few;
         fits = omega (arith, M .fits, left-long);
@@ -131,22 +131,22 @@ module _ (n : ℕ) (l : List ℕ) (M : Measured n l) where
 
 -- ---- any call: it is accepted, or leaves the table as it was
 
-either : (n : ℕ) (l : List ℕ) → Measured n l ⊎ (closeLeaves n l ≡ l)
+either : (n : ℕ) (l : List ℕ) → Closable n l ⊎ (closeLeaves n l ≡ l)
 unfolding closeLeaves
 either n l = by (closeVerdict n l) refl
   where
-    by : (v : Verdict) → closeVerdict n l ≡ v → Measured n l ⊎ (settled (closeVerdict n l) (closedTable n l) l ≡ l)
-    by accepted e = inl (measured-of n l e)
+    by : (v : Verdict) → closeVerdict n l ≡ v → Closable n l ⊎ (settled (closeVerdict n l) (closedTable n l) l ≡ l)
+    by accepted e = inl (closable-of n l e)
     by (refused r) e = inr (ap (λ v. settled v (closedTable n l) l) e)
 
 pub for-call : (n : ℕ) (l : List ℕ) → ForCall n l
 for-call n l =
     record {
-      exactly = (measured-of n l, of-measured n l);
+      exactly = (closable-of n l, of-closable n l);
       answer = answers n l;
       lowered = left-at n l;
       past = ⊎-elim (left-past n l) (λ e. ap (drop (n * n)) e) (either n l);
       as-long = ⊎-elim (left-long n l) (λ e. ap length e) (either n l);
       untouched = λ R. ⊎-elim (λ M. left-same n l M R) (λ e. e) (either n l);
-      twice = ⊎-elim (λ M. left-same n (closeLeaves n l) (left-measured n l M) (left-obeys n l M)) (λ e. ap (closeLeaves n) e) (either n l);
+      twice = ⊎-elim (λ M. left-same n (closeLeaves n l) (left-closable n l M) (left-obeys n l M)) (λ e. ap (closeLeaves n) e) (either n l);
     }

@@ -107,10 +107,10 @@ module _ (a : ℕ) (ys l : List ℕ) (k : ℕ) (e : length ys ≡ k) (h : a + k 
 
 -- row i as a part of the table, from s to e
 module _ (n i : ℕ) (table : List ℕ) (F : Fits n table) (inside : i < n) (s e : ℕ) (starts : s ≡ i * n) where
-  part-long : e ≤ s + n → length (take (e - s) (drop s table)) ≡ e - s
+  pub part-long : e ≤ s + n → length (take (e - s) (drop s table)) ≡ e - s
   part-long h = simp (length-take, length-drop) (omega (arith, row-ends n i inside, F .fits))
 
-  part-at : (j : ℕ) → j < e - s → getD (take (e - s) (drop s table)) j 0 ≡ entry n table i j
+  pub part-at : (j : ℕ) → j < e - s → getD (take (e - s) (drop s table)) j 0 ≡ entry n table i j
   part-at j h = getD-take (e - s) (drop s table) j 0 h ∙ getD-drop s table j 0 ∙ at-start n i table j starts
 
   -- copied into a line

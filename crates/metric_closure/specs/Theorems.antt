@@ -46,7 +46,7 @@ pub record ForTable (n : ℕ) (dist : ℕ → ℕ → ℕ) : Type 0 where
   pub none-lowered : loweredPairs n dist ≡ 0 ↔ TriangleInequality n dist
 
 -- a table in memory that no reason refuses
-pub record Measured (n : ℕ) (l : List ℕ) : Type 0 where
+pub record Closable (n : ℕ) (l : List ℕ) : Type 0 where
   pub few : n ≤ maxTides
   pub fits : n * n ≤ length l
   pub near : (i j : ℕ) → i < n → j < n → entry n l i j ≤ maxDistance
@@ -55,10 +55,10 @@ pub record Measured (n : ℕ) (l : List ℕ) : Type 0 where
 -- of every number of tides and every memory
 pub record ForCall (n : ℕ) (l : List ℕ) : Type 0 where
   -- the reasons are exact
-  pub exactly : closeVerdict n l ≡ accepted ↔ Measured n l
+  pub exactly : closeVerdict n l ≡ accepted ↔ Closable n l
   -- what an accepted call answers and leaves: the closure in the first n · n places, and all else as it was
-  pub answer : Measured n l → closeAnswer n l ≡ value (loweredPairs n (entry n l))
-  pub lowered : Measured n l → (i j : ℕ) → i < n → j < n → entry n (closeLeaves n l) i j ≡ closure n (entry n l) i j
+  pub answer : Closable n l → closeAnswer n l ≡ value (loweredPairs n (entry n l))
+  pub lowered : Closable n l → (i j : ℕ) → i < n → j < n → entry n (closeLeaves n l) i j ≡ closure n (entry n l) i j
   pub past : drop (n * n) (closeLeaves n l) ≡ drop (n * n) l
   pub as-long : length (closeLeaves n l) ≡ length l
   -- a table that obeyed the triangle inequality comes back untouched

@@ -9,7 +9,7 @@ use study::MAX_TIDES;
 use study::refusals::number_of;
 
 mod lines;
-mod putting;
+pub mod putting;
 
 ghost use mathlib.Core.Path.{_≡_};
 ghost use Prim.Native.Nat.{_≤_};

@@ -7,7 +7,7 @@ ghost use Rattle.sheet_text.specs.Lines.{field, named};
 ghost use Rattle.sheet_text.specs.Putting.{PutText};
 
 // One byte.
-fn put_byte(out: &mut [u8], at: usize, byte: u8) -> usize
+pub fn put_byte(out: &mut [u8], at: usize, byte: u8) -> usize
     requires { ⌜ at < length (now out) ⌝ }
     ensures { λ r. ⌜ PutText (now (out .entry)) at (byte ∷ []) r (now (out .exit)) ⌝ }
 {
@@ -29,7 +29,7 @@ pub fn put_bytes(out: &mut [u8], at: usize, text: &[u8]) -> usize
 }
 
 // A number in decimal: the digits of its tenth part, then its last.
-fn put_number(out: &mut [u8], at: usize, x: u32) -> usize
+pub fn put_number(out: &mut [u8], at: usize, x: u32) -> usize
     requires { ⌜ at + length (decimal x) ≤ length (now out) ⌝ }
     ensures { λ r. ⌜ PutText (now (out .entry)) at (decimal x) r (now (out .exit)) ⌝ }
 {

@@ -9,6 +9,7 @@ use lib.ListN.{length, getD, take}
 use lib.Seq.{length-take-le, getD-take}
 use Rattle.lists.specs.Lists.{tabulate, over}
 use Rattle.lists.proofs.Tables.{length-tabulate, getD-tabulate, tabulate-suc, tabulate-is}
+use Rattle.lists.proofs.Members.{flatMap-append, flatMap-one}
 use Rattle.study.specs.Limits.{cell}
 use Rattle.study.specs.declared.Dataset.{Dataset}
 use Rattle.study.specs.Study.{Contents, noTide}
@@ -52,15 +53,6 @@ module _ {σ : State} {file : List ℕ} (W : Writable σ file) where
         }
 
 -- ---- fields
-
-flatMap-append : {A B : Type 0} (h : A → List B) (xs ys : List A) → flatMap h (xs ++ ys) ≡ flatMap h xs ++ flatMap h ys
-unfolding flatMap
-flatMap-append h [] ys = refl
-flatMap-append h (x ∷ xs) ys = ap (λ r. h x ++ r) (flatMap-append h xs ys) ∙ sym (append-assoc (h x) (flatMap h xs) (flatMap h ys))
-
-flatMap-one : {A B : Type 0} (h : A → List B) (x : A) → flatMap h (x ∷ []) ≡ h x
-unfolding flatMap
-flatMap-one h x = append-nil (h x)
 
 allBits-append : (fs gs : List Field) → allBits (fs ++ gs) ≡ allBits fs ++ allBits gs
 unfolding allBits
