@@ -1,4 +1,4 @@
--- The ways out of each call that a text makes: Open, Minima, Enter. Assumes nothing.
+-- The ways out of each call that a text makes: Open, Minima, Enter or a measured tide. Assumes nothing.
 use Prim.Native.Nat.{ℕ, zero, suc, _+_}
 use native.Mathlib.Omega.{arith}
 use mathlib.Core.Path.{_≡_, refl, sym, ap, _∙_, subst}
@@ -26,6 +26,8 @@ use Rattle.dataset.proofs.AnswerLaws.{held-own}
 use Rattle.narrowing.specs.Narrowing.{narrowed, narrowMinima}
 use Rattle.narrowing.proofs.Proofs.{unchanged, as-given}
 use Rattle.study_text.specs.declared.Packed.{Packed}
+use Rattle.study_text.specs.declared.Rule.{Rule}
+use Rattle.study_text.specs.declared.Rule.the-variants as RuleCase
 use Rattle.text_words.specs.declared.Cursor.{Cursor}
 use Rattle.study_text.specs.declared.numbers.Given.{Given}
 use Rattle.study_text.specs.declared.numbers.Given.the-variants as GivenCase
@@ -36,8 +38,8 @@ use Rattle.text_words.specs.Words.{CursorWithin}
 use Rattle.study_text.specs.Packing.{Got, got, numberOf, numbersOf, minimaFrom, openingOf, minimaOf, tideOf, entered}
 use Rattle.study_text.specs.Steps.{givenOf, readOf}
 use Rattle.study_text.proofs.StepLaws.{number-within, numbers-within}
-use Rattle.study_text.specs.Reached.{Reaches, Begins, stoppedAt, afterCall}
-use Rattle.study_text.proofs.ReachedLaws.{Answers, call-reaches, call-begins, valid-held}
+use Rattle.study_text.specs.Reached.{Held, Took, Reaches, Begins, stoppedAt, afterCall}
+use Rattle.study_text.proofs.ReachedLaws.{Answers, call-reaches, call-begins, valid-held, took-entered, took-reaches}
 
 -- ---- the answers
 
@@ -117,47 +119,53 @@ module _ {text : List ℕ} {from : Cursor} {s : State} (w : CursorWithin text fr
   minima-numbers e f = ap (λ m. numbersOf text m from) (sym (f ∙ add-one (s .dataset .k))) ∙ sym e
 
   pub minima-stops : {row : Row} (xs : List ℕ) {p : Packed} {q : Reached} → readOf row xs ≡ numbersOf text n from → n ≡ s .dataset .k + 1
-      → row ≡ RowCase.Stopped p → q ≡ stoppedAt p (s .dataset) from → Reaches text q (s .distances) (s .settings) (entered (minimaOf text (contentsOf s) from))
+      → row ≡ RowCase.Stopped p → q ≡ stoppedAt p (s .dataset) from
+      → Reaches RuleCase.Entered text q (s .distances) (s .settings) (entered (minimaOf text (contentsOf s) from))
   unfolding minimaOf
   minima-stops xs e f h k =
-      subst (λ q. Reaches text q (s .distances) (s .settings) (entered (minimaOf text (contentsOf s) from))) (sym k)
-      (record { is = rw (minima-numbers e f, h); alive = record { passed = P; within = w } })
+      subst (λ q. Reaches RuleCase.Entered text q (s .distances) (s .settings) (entered (minimaOf text (contentsOf s) from))) (sym k)
+      (record { is = rw (minima-numbers e f, h); alive = record { held = P; within = w } })
 
   pub minima-goes : {row : Row} (xs : List ℕ) (m : ℕ) {M : Minima} (o : Outcome) {c : Cursor} {q : Reached} → readOf row xs ≡ numbersOf text n from
       → n ≡ s .dataset .k + 1 → row ≡ RowCase.Read c → M ≡ narrowMinima (minimaFrom (xs ++ drop m (replicate 9 0)))
       → (verdictOf (o .answer) ≡ minimaAnswer s M) × (stateOf (o .dataset) (s .distances) (s .settings) ≡ minimaLeaves s M) → q ≡ afterCall o c
-      → Reaches text q (s .distances) (s .settings) (entered (minimaOf text (contentsOf s) from))
+      → Reaches RuleCase.Entered text q (s .distances) (s .settings) (entered (minimaOf text (contentsOf s) from))
   unfolding minimaOf
   minima-goes {row} xs m {M} o {c} {q} e f h j did k =
       let read : numbersOf text (suc (contentsOf s .study .k)) from ≡ got xs c = minima-numbers e f ∙ ap (λ r. readOf r xs) h in
       let given : M ≡ narrowMinima (minimaFrom xs) = j ∙ ap narrowMinima (minima-padded xs m) in
       let same = as-given (minimaAnswer s) (minimaLeaves s) given (unchanged s .on-minima (minimaFrom xs)) did in
-      subst (λ q. Reaches text q (s .distances) (s .settings) (entered (minimaOf text (contentsOf s) from))) (sym k)
+      subst (λ q. Reaches RuleCase.Entered text q (s .distances) (s .settings) (entered (minimaOf text (contentsOf s) from))) (sym k)
       (rw read
       (call-reaches (minima-answers {a = o .answer} P (minimaFrom xs) same) (numbers-within (suc (contentsOf s .study .k)) w read) P))
 
--- ---- Enter
+-- ---- tides
 
-module _ {text : List ℕ} {from : Cursor} {s : State} (w : CursorWithin text from) (P : Passed s) (x : ℕ) {n : ℕ} where
+-- Enter, given the setting as a byte
+pub enter-took : {s t : State} (a : Answer) {x y : ℕ} {row : List ℕ} → Passed s → y ≡ narrowed x
+    → (verdictOf a ≡ enterAnswer s y row) × (t ≡ enterLeaves s y row) → Took RuleCase.Entered s x row a t
+enter-took {s} a {x} {y} {row} P i did =
+    let same = as-given (λ z. enterAnswer s z row) (λ z. enterLeaves s z row) i (unchanged s .on-enter x row) did in
+    took-entered a (enter-answers {a = a} P x row same) P
+
+module _ (rule : Rule) {text : List ℕ} {from : Cursor} (s : State) (w : CursorWithin text from) (P : Held rule s) (x : ℕ) {n : ℕ} where
   tide-numbers : {read : Got (List ℕ)} → read ≡ numbersOf text n from → n ≡ s .dataset .n → numbersOf text (size (contentsOf s .study)) from ≡ read
   unfolding contentsOf
   tide-numbers e f = ap (λ m. numbersOf text m from) (study-size s ∙ sym f) ∙ sym e
 
   pub tide-stops : {row : Row} (xs : List ℕ) {p : Packed} {q : Reached} → readOf row xs ≡ numbersOf text n from → n ≡ s .dataset .n → row ≡ RowCase.Stopped p
-      → q ≡ stoppedAt p (s .dataset) from → Reaches text q (s .distances) (s .settings) (entered (tideOf text (contentsOf s) x from))
+      → q ≡ stoppedAt p (s .dataset) from → Reaches rule text q (s .distances) (s .settings) (entered (tideOf rule text (contentsOf s) x from))
   unfolding tideOf
   tide-stops xs e f h k =
-      subst (λ q. Reaches text q (s .distances) (s .settings) (entered (tideOf text (contentsOf s) x from))) (sym k)
-      (record { is = rw (tide-numbers e f, h); alive = record { passed = P; within = w } })
+      subst (λ q. Reaches rule text q (s .distances) (s .settings) (entered (tideOf rule text (contentsOf s) x from))) (sym k)
+      (record { is = rw (tide-numbers e f, h); alive = record { held = P; within = w } })
 
-  pub tide-goes : {row : Row} (xs : List ℕ) {y : ℕ} {ys d g : List ℕ} (o : Outcome) {c : Cursor} {q : Reached} → readOf row xs ≡ numbersOf text n from
-      → n ≡ s .dataset .n → row ≡ RowCase.Read c → y ≡ narrowed x → ys ≡ xs
-      → (verdictOf (o .answer) ≡ enterAnswer s y ys) × (stateOf (o .dataset) d g ≡ enterLeaves s y ys) → q ≡ afterCall o c
-      → Reaches text q d g (entered (tideOf text (contentsOf s) x from))
+  pub tide-goes : {row : Row} (xs : List ℕ) {ys d g : List ℕ} (o : Outcome) {c : Cursor} {q : Reached} → readOf row xs ≡ numbersOf text n from
+      → n ≡ s .dataset .n → row ≡ RowCase.Read c → ys ≡ xs → Took rule s x ys (o .answer) (stateOf (o .dataset) d g) → q ≡ afterCall o c
+      → Reaches rule text q d g (entered (tideOf rule text (contentsOf s) x from))
   unfolding tideOf
-  tide-goes {row} xs {y} {ys} {d} {g} o {c} {q} e f h i j did k =
+  tide-goes {row} xs {ys} {d} {g} o {c} {q} e f h i did k =
       let read : numbersOf text (size (contentsOf s .study)) from ≡ got xs c = tide-numbers e f ∙ ap (λ r. readOf r xs) h in
-      let row-same = as-given (enterAnswer s y) (enterLeaves s y) j (refl, refl) did in
-      let same = as-given (λ z. enterAnswer s z xs) (λ z. enterLeaves s z xs) i (unchanged s .on-enter x xs) row-same in
-      subst (λ q. Reaches text q d g (entered (tideOf text (contentsOf s) x from))) (sym k)
-      (rw read (call-reaches (enter-answers {a = o .answer} P x xs same) (numbers-within (size (contentsOf s .study)) w read) P))
+      let same = subst (λ zs. Took rule s x zs (o .answer) (stateOf (o .dataset) d g)) i did in
+      subst (λ q. Reaches rule text q d g (entered (tideOf rule text (contentsOf s) x from))) (sym k)
+      (rw read (took-reaches {o = o} same (numbers-within (size (contentsOf s .study)) w read)))

@@ -7,12 +7,13 @@ use mathlib.Core.List.{List}
 use Rattle.study.specs.declared.Dataset.{Dataset}
 use Rattle.study.specs.Study.{Contents, size}
 use Rattle.study.specs.Refusals.{Verdict, accepted, refused, firstOf}
-use Rattle.study.specs.Calls.{openReasons, opened, opening, minimaReasons, withMinima, settingMinima, enterReasons, entering}
+use Rattle.study.specs.Calls.{openReasons, opened, opening, minimaReasons, withMinima, settingMinima, entering}
 use Rattle.study.proofs.CallLaws.{entered-size}
 use Rattle.validity.specs.Memory.{State, stateOf, contentsOf}
 use Rattle.validity.proofs.ValidityLaws.{study-size}
-use Rattle.dataset.specs.Accepted.{Passed}
 use Rattle.study_text.specs.declared.Packed.{Packed}
+use Rattle.study_text.specs.declared.Rule.{Rule}
+use Rattle.study_text.specs.declared.Rule.the-variants as RuleCase
 use Rattle.text_words.specs.declared.Cursor.{Cursor}
 use Rattle.text_words.specs.declared.Word.{Word}
 use Rattle.text_words.specs.declared.Word.the-variants as WordCase
@@ -22,31 +23,32 @@ use Rattle.study_text.specs.declared.calls.Step.the-variants as StepCase
 use Rattle.study_text.specs.declared.calls.Reached.{Reached}
 use Rattle.text_words.specs.Words.{nextOf, CursorWithin}
 use Rattle.study_text.specs.Packing.{reportOf, Got, got, stop, numberOf, numbersOf, onward, called, minimaFrom}
-use Rattle.study_text.specs.Packing.{openingOf, minimaOf, headOf, tideOf, Turn, going, ended, stopped, entered}
+use Rattle.study_text.specs.Packing.{openingOf, minimaOf, headOf, tideReasons, tideOf, Turn, going, ended, stopped, entered}
 use Rattle.study_text.specs.Packing.{turnFrom, turnOf, further, turnsOf, textOf}
-use Rattle.study_text.specs.Reached.{overIs, stepIs, reachedOf, Reaches, Begins, Finishes, stoppedAt}
+use Rattle.study_text.specs.Reached.{overIs, stepIs, reachedOf, Held, Reaches, Begins, Finishes, stoppedAt}
+use Rattle.study_text.proofs.ReachedLaws.{held-by, held-few}
 
 -- ---- one turn
 
-module _ (text : List ℕ) (c : Cursor) {w : Word} (e : w ≡ nextOf text c) where
-  turn-is : (H : Contents) {v : Word} → w ≡ v → turnFrom text H v ≡ turnOf text H c
+module _ (rule : Rule) (text : List ℕ) (c : Cursor) {w : Word} (e : w ≡ nextOf text c) where
+  turn-is : (H : Contents) {v : Word} → w ≡ v → turnFrom rule text H v ≡ turnOf rule text H c
   unfolding turnOf
-  turn-is H h = ap (turnFrom text H) (sym h ∙ e)
+  turn-is H h = ap (turnFrom rule text H) (sym h ∙ e)
 
-  pub turn-goes : (H : Contents) {x : ℕ} {f : Cursor} {r : Reached} {d s : List ℕ} → w ≡ WordCase.Number x f → Reaches text r d s (entered (tideOf text H x f))
-      → Reaches text r d s (turnOf text H c)
+  pub turn-goes : (H : Contents) {x : ℕ} {f : Cursor} {r : Reached} {d s : List ℕ} → w ≡ WordCase.Number x f
+      → Reaches rule text r d s (entered (tideOf rule text H x f)) → Reaches rule text r d s (turnOf rule text H c)
   turn-goes H h R = record { is = R .is ∙ turn-is H h; alive = R .alive }
 
-  module _ {r : Dataset} {d s : List ℕ} (W : CursorWithin text c) (P : Passed (stateOf r d s)) where
+  module _ {r : Dataset} {d s : List ℕ} (W : CursorWithin text c) (P : Held rule (stateOf r d s)) where
     pub turn-ends : {l : ℕ} → w ≡ WordCase.End l
-        → Reaches text (record { step = StepCase.Over (OverCase.End l); dataset = r; cursor = c }) d s (turnOf text (contentsOf (stateOf r d s)) c)
-    turn-ends h = record { is = turn-is (contentsOf (stateOf r d s)) h; alive = record { passed = P; within = W } }
+        → Reaches rule text (record { step = StepCase.Over (OverCase.End l); dataset = r; cursor = c }) d s (turnOf rule text (contentsOf (stateOf r d s)) c)
+    turn-ends h = record { is = turn-is (contentsOf (stateOf r d s)) h; alive = record { held = P; within = W } }
 
-    pub turn-stops : {v : Word} {p : Packed} {q : Reached} → w ≡ v → stopped (reportOf p) ≡ turnFrom text (contentsOf (stateOf r d s)) v → q ≡ stoppedAt p r c
-        → Reaches text q d s (turnOf text (contentsOf (stateOf r d s)) c)
+    pub turn-stops : {v : Word} {p : Packed} {q : Reached} → w ≡ v → stopped (reportOf p) ≡ turnFrom rule text (contentsOf (stateOf r d s)) v
+        → q ≡ stoppedAt p r c → Reaches rule text q d s (turnOf rule text (contentsOf (stateOf r d s)) c)
     turn-stops h f k =
-        subst (λ q. Reaches text q d s (turnOf text (contentsOf (stateOf r d s)) c)) (sym k)
-        (record { is = f ∙ turn-is (contentsOf (stateOf r d s)) h; alive = record { passed = P; within = W } })
+        subst (λ q. Reaches rule text q d s (turnOf rule text (contentsOf (stateOf r d s)) c)) (sym k)
+        (record { is = f ∙ turn-is (contentsOf (stateOf r d s)) h; alive = record { held = P; within = W } })
 
 -- ---- each turn brings one tide
 
@@ -63,22 +65,23 @@ onward-got : {A : Type 0} (Q : Contents → Type 0) (g : Got A) (f : A → Curso
 onward-got Q (got x c) f q e = q x c refl e
 onward-got Q (stop t) f q e = absurd (let z : _≡_ {A = ℕ} 0 1 = cc in omega arith)
 
-tide-size : (text : List ℕ) (H : Contents) (x : ℕ) (c : Cursor) {K : Contents} {d : Cursor} → tideOf text H x c ≡ got K d
+tide-size : (rule : Rule) (text : List ℕ) (H : Contents) (x : ℕ) (c : Cursor) {K : Contents} {d : Cursor} → tideOf rule text H x c ≡ got K d
     → size (K .study) ≡ suc (size (H .study))
 unfolding tideOf entering
-tide-size text H x c =
-    onward-got Q (numbersOf text (size (H .study)) c) (λ row e. called (firstOf (enterReasons (H .study) x row)) (entering x row H) e)
-    (λ row e h. called-got Q (firstOf (enterReasons (H .study) x row)) (entering x row H) e (entered-size x row (H .study)))
+tide-size rule text H x c =
+    onward-got Q (numbersOf text (size (H .study)) c) (λ row e. called (firstOf (tideReasons rule (H .study) x row)) (entering x row H) e)
+    (λ row e h. called-got Q (firstOf (tideReasons rule (H .study) x row)) (entering x row H) e (entered-size x row (H .study)))
   where
     Q : Contents → Type 0
     Q K = size (K .study) ≡ suc (size (H .study))
 
-turn-size : (text : List ℕ) (H : Contents) (c : Cursor) {K : Contents} {d : Cursor} → turnOf text H c ≡ going K d → size (K .study) ≡ suc (size (H .study))
+turn-size : (rule : Rule) (text : List ℕ) (H : Contents) (c : Cursor) {K : Contents} {d : Cursor} → turnOf rule text H c ≡ going K d
+    → size (K .study) ≡ suc (size (H .study))
 unfolding turnOf
-turn-size text H c {K} {d} = by (nextOf text c)
+turn-size rule text H c {K} {d} = by (nextOf text c)
   where
-    by : (w : Word) → turnFrom text H w ≡ going K d → size (K .study) ≡ suc (size (H .study))
-    by (WordCase.Number x e) h = tide-size text H x e (entered-got (tideOf text H x e) h)
+    by : (w : Word) → turnFrom rule text H w ≡ going K d → size (K .study) ≡ suc (size (H .study))
+    by (WordCase.Number x e) h = tide-size rule text H x e (entered-got (tideOf rule text H x e) h)
     by (WordCase.End l) h = absurd (let z : _≡_ {A = ℕ} 0 1 = cc in omega arith)
     by (WordCase.Bad l) h = absurd (let z : _≡_ {A = ℕ} 0 1 = cc in omega arith)
     by (WordCase.TooLarge l) h = absurd (let z : _≡_ {A = ℕ} 0 1 = cc in omega arith)
@@ -130,7 +133,7 @@ module _ {text : List ℕ} {r : Reached} {d s : List ℕ} where
       }
 
   pub head-goes : {q : Reached} → Begins text r d s (openingOf text (record { at = 0; line = 1 })) → r .step ≡ StepCase.Going
-      → Reaches text q d s (entered (minimaOf text (contentsOf (stateOf (r .dataset) d s)) (r .cursor))) → Begins text q d s (headOf text)
+      → Reaches RuleCase.Entered text q d s (entered (minimaOf text (contentsOf (stateOf (r .dataset) d s)) (r .cursor))) → Begins text q d s (headOf text)
   unfolding headOf
   head-goes {q} B h R =
       record {
@@ -141,30 +144,31 @@ module _ {text : List ℕ} {r : Reached} {d s : List ℕ} where
 -- ---- turn after turn
 
 -- no more turns after the end
-turns-over : (text : List ℕ) (t : Turn) (o : Over) (H : Contents) (m n : ℕ) → overIs o H ≡ turnsOf text m t → overIs o H ≡ turnsOf text (n + m) t
+turns-over : (rule : Rule) (text : List ℕ) (t : Turn) (o : Over) (H : Contents) (m n : ℕ) → overIs o H ≡ turnsOf rule text m t
+    → overIs o H ≡ turnsOf rule text (n + m) t
 unfolding turnsOf
-turns-over text t o H m zero e = e ∙ ap (λ k. turnsOf text k t) (sym (zero-add m))
-turns-over text t o H m (suc n) e =
-    still o ∙ ap (λ u. further u (turnOf text)) (turns-over text t o H m n e) ∙ ap (λ k. turnsOf text k t) (sym (suc-add n m))
+turns-over rule text t o H m zero e = e ∙ ap (λ k. turnsOf rule text k t) (sym (zero-add m))
+turns-over rule text t o H m (suc n) e =
+    still o ∙ ap (λ u. further u (turnOf rule text)) (turns-over rule text t o H m n e) ∙ ap (λ k. turnsOf rule text k t) (sym (suc-add n m))
   where
-    still : (o : Over) → overIs o H ≡ further (overIs o H) (turnOf text)
+    still : (o : Over) → overIs o H ≡ further (overIs o H) (turnOf rule text)
     still (OverCase.End l) = refl
     still (OverCase.Stopped p) = refl
 
-pub record Midway (text : List ℕ) (r : Dataset) (d s : List ℕ) (c : Cursor) : Type 0 where
+pub record Midway (rule : Rule) (text : List ℕ) (r : Dataset) (d s : List ℕ) (c : Cursor) : Type 0 where
   pub within : CursorWithin text c
-  pub passed : Passed (stateOf r d s)
-  pub turns : turnsOf text (r .n) (entered (headOf text)) ≡ going (contentsOf (stateOf r d s)) c
+  pub held : Held rule (stateOf r d s)
+  pub turns : turnsOf rule text (r .n) (entered (headOf text)) ≡ going (contentsOf (stateOf r d s)) c
 
 contents-size : (s : State) → size (contentsOf s .study) ≡ s .dataset .n
 unfolding contentsOf
 contents-size s = study-size s
 
-module _ {text : List ℕ} {q : Dataset} {d s : List ℕ} {c : Cursor} {r : Reached} {e g : List ℕ} (M : Midway text q d s c)
-    (R : Reaches text r e g (turnOf text (contentsOf (stateOf q d s)) c)) where
-  next-turn : turnsOf text (suc (q .n)) (entered (headOf text)) ≡ reachedOf r e g
+module _ {rule : Rule} {text : List ℕ} {q : Dataset} {d s : List ℕ} {c : Cursor} {r : Reached} {e g : List ℕ} (M : Midway rule text q d s c)
+    (R : Reaches rule text r e g (turnOf rule text (contentsOf (stateOf q d s)) c)) where
+  next-turn : turnsOf rule text (suc (q .n)) (entered (headOf text)) ≡ reachedOf r e g
   unfolding turnsOf
-  next-turn = ap (λ t. further t (turnOf text)) (M .turns) ∙ sym (R .is)
+  next-turn = ap (λ t. further t (turnOf rule text)) (M .turns) ∙ sym (R .is)
 
   reached-going : r .step ≡ StepCase.Going → reachedOf r e g ≡ going (contentsOf (stateOf (r .dataset) e g)) (r .cursor)
   reached-going h = ap (λ t. stepIs t (contentsOf (stateOf (r .dataset) e g)) (r .cursor)) h
@@ -175,27 +179,27 @@ module _ {text : List ℕ} {q : Dataset} {d s : List ℕ} {c : Cursor} {r : Reac
         arith,
         contents-size (stateOf (r .dataset) e g),
         contents-size (stateOf q d s),
-        turn-size text (contentsOf (stateOf q d s)) c (sym (R .is) ∙ reached-going h),
+        turn-size rule text (contentsOf (stateOf q d s)) c (sym (R .is) ∙ reached-going h),
       )
 
-  pub midway-more : r .step ≡ StepCase.Going → Midway text (r .dataset) e g (r .cursor)
+  pub midway-more : r .step ≡ StepCase.Going → Midway rule text (r .dataset) e g (r .cursor)
   midway-more h =
       let n : r .dataset .n ≡ suc (q .n) = omega (arith, midway-size h) in
       record {
         within = R .alive .within;
-        passed = R .alive .passed;
-        turns = ap (λ k. turnsOf text k (entered (headOf text))) n ∙ next-turn ∙ reached-going h;
+        held = R .alive .held;
+        turns = ap (λ k. turnsOf rule text k (entered (headOf text))) n ∙ next-turn ∙ reached-going h;
       }
 
-  pub midway-ends : {o : Over} → r .step ≡ StepCase.Over o → Finishes (record { over = o; dataset = r .dataset }) e g (textOf text)
+  pub midway-ends : {o : Over} → r .step ≡ StepCase.Over o → Finishes rule (record { over = o; dataset = r .dataset }) e g (textOf rule text)
   unfolding textOf
   midway-ends {o} h =
       let H = contentsOf (stateOf (r .dataset) e g) in
-      let most : 120 - q .n + suc (q .n) ≡ 121 = omega (arith, M .passed .study .few) in
+      let most : 120 - q .n + suc (q .n) ≡ 121 = omega (arith, held-few rule (stateOf q d s) (M .held)) in
       record {
-        is = turns-over text (entered (headOf text)) o H (suc (q .n)) (120 - q .n) (sym (next-turn ∙ ap (λ t. stepIs t H (r .cursor)) h))
-            ∙ ap (λ k. turnsOf text k (entered (headOf text))) most;
-        live = λ l k. R .alive .passed;
+        is = turns-over rule text (entered (headOf text)) o H (suc (q .n)) (120 - q .n) (sym (next-turn ∙ ap (λ t. stepIs t H (r .cursor)) h))
+            ∙ ap (λ k. turnsOf rule text k (entered (headOf text))) most;
+        live = λ l k. R .alive .held;
       }
 
 -- ---- the whole text
@@ -205,23 +209,23 @@ head-lasts : (g : Got Contents) (l : ℕ) (H : Contents) → ended H l ≡ enter
 head-lasts (got K c) l H e = let z : _≡_ {A = ℕ} 0 1 = cc in omega arith
 head-lasts (stop t) l H e = let z : _≡_ {A = ℕ} 0 1 = cc in omega arith
 
-module _ {text : List ℕ} {r : Reached} {d s : List ℕ} (B : Begins text r d s (headOf text)) where
-  pub text-begins : r .step ≡ StepCase.Going → Midway text (r .dataset) d s (r .cursor)
+module _ (rule : Rule) {text : List ℕ} {r : Reached} {d s : List ℕ} (B : Begins text r d s (headOf text)) where
+  pub text-begins : r .step ≡ StepCase.Going → Midway rule text (r .dataset) d s (r .cursor)
   unfolding turnsOf
   text-begins h =
       let n : 0 ≡ r .dataset .n = sym (head-empty text (begins-got (headOf text) B h)) ∙ contents-size (stateOf (r .dataset) d s) in
       record {
         within = B .alive h .within;
-        passed = B .alive h .passed;
-        turns = ap (λ k. turnsOf text k (entered (headOf text))) (sym n) ∙ sym (B .is)
+        held = held-by rule (B .alive h .held);
+        turns = ap (λ k. turnsOf rule text k (entered (headOf text))) (sym n) ∙ sym (B .is)
             ∙ ap (λ t. stepIs t (contentsOf (stateOf (r .dataset) d s)) (r .cursor)) h;
       }
 
-  pub text-stops : {o : Over} → r .step ≡ StepCase.Over o → Finishes (record { over = o; dataset = r .dataset }) d s (textOf text)
+  pub text-stops : {o : Over} → r .step ≡ StepCase.Over o → Finishes rule (record { over = o; dataset = r .dataset }) d s (textOf rule text)
   unfolding textOf turnsOf
   text-stops {o} h =
       record {
-        is = turns-over text (entered (headOf text)) o (contentsOf (stateOf (r .dataset) d s)) 0 121 (begins-over B h);
+        is = turns-over rule text (entered (headOf text)) o (contentsOf (stateOf (r .dataset) d s)) 0 121 (begins-over B h);
         live = λ l k.
             let H = contentsOf (stateOf (r .dataset) d s) in
             absurd (head-lasts (headOf text) l H (sym (ap (λ p. overIs p H) k) ∙ begins-over B h));

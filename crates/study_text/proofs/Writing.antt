@@ -17,6 +17,7 @@ use Rattle.study_file.specs.declared.Written.the-variants as WrittenCase
 use Rattle.study_file.specs.Answers.{writtenOf, writeReasons, writeAnswer, writeReply, writeLeaves}
 use Rattle.study_text.specs.declared.Packed.{Packed}
 use Rattle.study_text.specs.declared.Packed.the-variants as PackedCase
+use Rattle.study_text.specs.declared.Rule.the-variants as RuleCase
 use Rattle.study_text.specs.declared.calls.Over.the-variants as OverCase
 use Rattle.study_text.specs.declared.calls.Finished.{Finished}
 use Rattle.text_words.specs.Words.{newlines}
@@ -64,7 +65,7 @@ module _ {s : State} (P : Passed s) where
       by true = refl
       by false = refl
 
-module _ {end : Finished} {d s : List ℕ} {l : ℕ} (L : Live end d s) (e : end .over ≡ OverCase.End l) where
+module _ {end : Finished} {d s : List ℕ} {l : ℕ} (L : Live RuleCase.Entered end d s) (e : end .over ≡ OverCase.End l) where
   finished-ended : ended (contentsOf (stateOf (end .dataset) d s)) l ≡ finishedOf end d s
   finished-ended = sym (ap (λ o. overIs o (contentsOf (stateOf (end .dataset) d s))) e)
 
@@ -94,7 +95,7 @@ module _ (text : List ℕ) where
   unfolding packLeaves
   pack-long-leaves bytes h = rw (lt-ltb 131072 (length text) h)
 
-  module _ {end : Finished} {d s : List ℕ} (F : Finishes end d s (textOf text)) (h : length text ≤ 131072) where
+  module _ {end : Finished} {d s : List ℕ} (F : Finishes RuleCase.Entered end d s (textOf RuleCase.Entered text)) (h : length text ≤ 131072) where
     pub pack-told : {t : Report} (room : ℕ) → t ≡ answered (finishedOf end d s) room → t ≡ packAnswer text room
     unfolding packAnswer
     pack-told room e = rw (le-ltb 131072 (length text) h) (e ∙ ap (λ u. answered u room) (F .is))

@@ -1,19 +1,22 @@
 -- A study as text: k, the minima b0 and b1 to bk, then each tide's setting and its distances to the earlier tides. The calls that the
--- text makes, in its order, what they come to, and the study file. Assumes nothing.
+-- text makes, in its order, what they come to, and the study file. A tide comes in by Enter; or as measured, where the triangle
+-- inequality may fail: there all but that is asked. Assumes nothing.
 use Prim.Native.Nat.{ℕ, zero, suc}
-use mathlib.Core.Bool.{cond}
+use mathlib.Core.Bool.{cond, not}
 use mathlib.Core.List.{List, [], _∷_, _++_}
-use lib.Dec.{ltb}
+use lib.Dec.{leb, eqb, ltb}
 use lib.ListN.{length, drop, getD}
-use Rattle.lists.specs.Lists.{tabulate}
-use Rattle.study.specs.Limits.{maxSettings}
+use Rattle.lists.specs.Lists.{between, every, tabulate}
+use Rattle.study.specs.Limits.{maxTides, maxSettings, maxDistance}
 use Rattle.study.specs.declared.Minima.{Minima}
-use Rattle.study.specs.Study.{Contents, size}
-use Rattle.study.specs.Refusals.{Numbered, number, numbered, Verdict, accepted, refused, firstOf}
+use Rattle.study.specs.Study.{Study, Contents, size}
+use Rattle.study.specs.Refusals.{Numbered, number, numbered, Verdict, accepted, refused, Reason, _⇒_, firstOf}
 use Rattle.study.specs.Calls.{openReasons, opening, minimaReasons, settingMinima, enterReasons, entering}
 use Rattle.file_format.specs.File.{fileOf}
 use Rattle.study_text.specs.declared.Packed.{Packed}
 use Rattle.study_text.specs.declared.Packed.the-variants as PackedCase
+use Rattle.study_text.specs.declared.Rule.{Rule}
+use Rattle.study_text.specs.declared.Rule.the-variants as RuleCase
 use Rattle.text_words.specs.declared.Cursor.{Cursor}
 use Rattle.text_words.specs.declared.Word.{Word}
 use Rattle.text_words.specs.declared.Word.the-variants as WordCase
@@ -90,13 +93,27 @@ minimaOf text H c =
 unfoldable pub headOf : List ℕ → Got Contents
 headOf text = onward (openingOf text (record { at = 0; line = 1 })) (minimaOf text)
 
--- ---- Enter
+-- ---- tides
+
+-- of a measured tide, Enter's reasons but for the triangle inequality: 22 full, 4 a row of another length, 5 the setting, 6 a distance
+unfoldable pub measuredReasons : Study → ℕ → List ℕ → List Reason
+measuredReasons S setting row =
+    (leb maxTides (size S) ⇒ number 22)
+    ∷ (not (eqb (length row) (size S)) ⇒ number 4)
+    ∷ (not (between 1 (S .k) setting) ⇒ number 5)
+    ∷ (not (every (length row) (λ i. leb (getD row i 0) maxDistance)) ⇒ number 6)
+    ∷ []
+
+-- the reasons by the rule under which the tides come in
+abbrev pub tideReasons : Rule → Study → ℕ → List ℕ → List Reason
+tideReasons RuleCase.Entered S x row = enterReasons S x row
+tideReasons RuleCase.Measured S x row = measuredReasons S x row
 
 -- the tide that this setting begins
-unfoldable pub tideOf : List ℕ → Contents → ℕ → Cursor → Got Contents
-tideOf text H x c =
+unfoldable pub tideOf : Rule → List ℕ → Contents → ℕ → Cursor → Got Contents
+tideOf rule text H x c =
     onward (numbersOf text (size (H .study)) c)
-    (λ row d. called (firstOf (enterReasons (H .study) x row)) (entering x row H) d)
+    (λ row d. called (firstOf (tideReasons rule (H .study) x row)) (entering x row H) d)
 
 -- what a turn comes to: one more tide, the text's end with its line, or what stops it
 pub data Turn : Type 0 where
@@ -110,15 +127,15 @@ entered (got H c) = going H c
 entered (stop t) = stopped t
 
 -- a turn by its first word: a tide's setting, the text's end, or no number
-abbrev pub turnFrom : List ℕ → Contents → Word → Turn
-turnFrom text H (WordCase.Number x c) = entered (tideOf text H x c)
-turnFrom text H (WordCase.End l) = ended H l
-turnFrom text H (WordCase.Bad l) = stopped (notNumber l)
-turnFrom text H (WordCase.TooLarge l) = stopped (tooLarge l)
+abbrev pub turnFrom : Rule → List ℕ → Contents → Word → Turn
+turnFrom rule text H (WordCase.Number x c) = entered (tideOf rule text H x c)
+turnFrom rule text H (WordCase.End l) = ended H l
+turnFrom rule text H (WordCase.Bad l) = stopped (notNumber l)
+turnFrom rule text H (WordCase.TooLarge l) = stopped (tooLarge l)
 
 -- the turn from a place on
-unfoldable pub turnOf : List ℕ → Contents → Cursor → Turn
-turnOf text H c = turnFrom text H (nextOf text c)
+unfoldable pub turnOf : Rule → List ℕ → Contents → Cursor → Turn
+turnOf rule text H c = turnFrom rule text H (nextOf text c)
 
 -- one more turn, where the last one goes on
 abbrev pub further : Turn → (Contents → Cursor → Turn) → Turn
@@ -127,15 +144,15 @@ further (ended H l) f = ended H l
 further (stopped t) f = stopped t
 
 -- after at most n turns
-unfoldable pub turnsOf : List ℕ → ℕ → Turn → Turn
-turnsOf text zero t = t
-turnsOf text (suc n) t = further (turnsOf text n t) (turnOf text)
+unfoldable pub turnsOf : Rule → List ℕ → ℕ → Turn → Turn
+turnsOf rule text zero t = t
+turnsOf rule text (suc n) t = further (turnsOf rule text n t) (turnOf rule text)
 
 -- ---- the whole text
 
 -- 120 tides are the most, so that 121 turns come to an end
-unfoldable pub textOf : List ℕ → Turn
-textOf text = turnsOf text 121 (entered (headOf text))
+unfoldable pub textOf : Rule → List ℕ → Turn
+textOf rule text = turnsOf rule text 121 (entered (headOf text))
 
 -- Write, lent `room` bytes; without room it is refused at the text's end. No text is still going after 121 turns
 abbrev pub answered : Turn → ℕ → Report
@@ -151,8 +168,8 @@ written (going H c) bytes = bytes
 
 -- a text above 131,072 bytes is too long; its last whole line is named
 unfoldable pub packAnswer : List ℕ → ℕ → Report
-packAnswer text room = cond (ltb 131072 (length text)) (tooLong (newlines text)) (answered (textOf text) room)
+packAnswer text room = cond (ltb 131072 (length text)) (tooLong (newlines text)) (answered (textOf RuleCase.Entered text) room)
 
 -- the lent bytes: those past the file stay
 unfoldable pub packLeaves : List ℕ → List ℕ → List ℕ
-packLeaves text bytes = cond (ltb 131072 (length text)) bytes (written (textOf text) bytes)
+packLeaves text bytes = cond (ltb 131072 (length text)) bytes (written (textOf RuleCase.Entered text) bytes)

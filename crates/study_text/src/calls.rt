@@ -1,5 +1,7 @@
-// The calls that a text makes: Open and Minima from its head, then an Enter for each tide.
+// The calls that a text makes: Open and Minima from its head, then an Enter for each tide; a measured tide comes in without one.
 use crate::Packed;
+use crate::Rule;
+use crate::measured::measure;
 use crate::numbers::Given;
 use crate::numbers::Row;
 use crate::numbers::number;
@@ -21,11 +23,11 @@ ghost use mathlib.Core.Path.{_≡_};
 ghost use Prim.Native.Nat.{_≤_};
 ghost use lib.ListN.{length};
 ghost use Rattle.study.specs.Limits.{maxTides, tableSize};
-ghost use Rattle.validity.specs.Memory.{stateOf, contentsOf, entryState};
+ghost use Rattle.validity.specs.Memory.{stateOf, contentsOf, entryState, exitState};
 ghost use Rattle.dataset.specs.Accepted.{Passed};
 ghost use Rattle.study_text.specs.Packing.{minimaFrom, openingOf, minimaOf, headOf, tideOf, entered, turnOf, turnsOf, textOf, going};
 ghost use Rattle.text_words.specs.Words.{CursorWithin};
-ghost use Rattle.study_text.specs.Reached.{Reaches, Begins, Finishes, stoppedAt, afterCall};
+ghost use Rattle.study_text.specs.Reached.{Held, Took, Reaches, Begins, Finishes, stoppedAt, afterCall};
 ghost use Rattle.narrowing.specs.Narrowing.{narrowMinima};
 
 // Why no more is read: the text's end, with its line, or what stops it.
@@ -134,7 +136,7 @@ fn read_minima(
     from: Cursor,
 ) -> Reached
     requires { ⌜ CursorWithin (now text) from × Passed (stateOf dataset (now distances) (now settings)) ⌝ }
-    ensures { λ r. ⌜ Reaches (now (text .entry)) r (now (distances .entry)) (now (settings .entry))
+    ensures { λ r. ⌜ Reaches Rule.Entered (now (text .entry)) r (now (distances .entry)) (now (settings .entry))
         (entered (minimaOf (now (text .entry)) (contentsOf (entryState dataset distances settings)) from)) ⌝ }
 {
     let mut xs = [0u32; 9];
@@ -149,9 +151,29 @@ fn read_minima(
     }
 }
 
+// One more tide, by the rule.
+fn take_tide(
+    rule: Rule,
+    dataset: Dataset,
+    distances: &mut [u32],
+    settings: &mut [u8],
+    setting: u32,
+    row: &[u32],
+) -> Outcome
+    requires { ⌜ Held rule (stateOf dataset (now distances) (now settings)) ⌝ }
+    ensures { λ r. ⌜ Took rule (entryState dataset distances settings) setting (now (row .entry))
+        (r .answer) (exitState (r .dataset) distances settings) ⌝ }
+{
+    match rule {
+        Rule::Entered => enter(dataset, distances, settings, narrow(setting), row),
+        Rule::Measured => measure(dataset, distances, settings, setting, row),
+    }
+}
+
 // The tide that this setting begins. Its row is read into memory of its own.
 fn read_tide(
     text: &[u8],
+    rule: Rule,
     dataset: Dataset,
     distances: &mut [u32],
     settings: &mut [u8],
@@ -159,16 +181,16 @@ fn read_tide(
     setting: u32,
     from: Cursor,
 ) -> Reached
-    requires { ⌜ CursorWithin (now text) from × Passed (stateOf dataset (now distances) (now settings)) × (maxTides ≤ length (now row)) ⌝ }
-    ensures { λ r. ⌜ Reaches (now (text .entry)) r (now (distances .exit)) (now (settings .exit))
-        (entered (tideOf (now (text .entry)) (contentsOf (entryState dataset distances settings)) setting from)) ⌝ }
+    requires { ⌜ CursorWithin (now text) from × Held rule (stateOf dataset (now distances) (now settings)) × (maxTides ≤ length (now row)) ⌝ }
+    ensures { λ r. ⌜ Reaches rule (now (text .entry)) r (now (distances .exit)) (now (settings .exit))
+        (entered (tideOf rule (now (text .entry)) (contentsOf (entryState dataset distances settings)) setting from)) ⌝ }
 {
     let n = dataset.n;
     let read = read_row(text, from, &mut row[..n]);
     match read {
         Row::Stopped(why) => stopped(why, dataset, from),
         Row::Read(after) => called(
-            enter(dataset, distances, settings, narrow(setting), &row[..n]),
+            take_tide(rule, dataset, distances, settings, setting, &row[..n]),
             after,
         ),
     }
@@ -177,19 +199,22 @@ fn read_tide(
 // One more tide, or the end.
 fn next_tide(
     text: &[u8],
+    rule: Rule,
     dataset: Dataset,
     distances: &mut [u32],
     settings: &mut [u8],
     row: &mut [u32],
     from: Cursor,
 ) -> Reached
-    requires { ⌜ CursorWithin (now text) from × Passed (stateOf dataset (now distances) (now settings)) × (maxTides ≤ length (now row)) ⌝ }
-    ensures { λ r. ⌜ Reaches (now (text .entry)) r (now (distances .exit)) (now (settings .exit))
-        (turnOf (now (text .entry)) (contentsOf (entryState dataset distances settings)) from) ⌝ }
+    requires { ⌜ CursorWithin (now text) from × Held rule (stateOf dataset (now distances) (now settings)) × (maxTides ≤ length (now row)) ⌝ }
+    ensures { λ r. ⌜ Reaches rule (now (text .entry)) r (now (distances .exit)) (now (settings .exit))
+        (turnOf rule (now (text .entry)) (contentsOf (entryState dataset distances settings)) from) ⌝ }
 {
     let word = next(text, from);
     match word {
-        Word::Number(x, after) => { read_tide(text, dataset, distances, settings, row, x, after) }
+        Word::Number(x, after) => {
+            read_tide(text, rule, dataset, distances, settings, row, x, after)
+        }
         Word::End(line) => {
             let step = Step::Over(Over::End(line));
             Reached {
@@ -206,20 +231,21 @@ fn next_tide(
 // All tides, after the head.
 fn read_tides(
     text: &[u8],
+    rule: Rule,
     empty: Dataset,
     distances: &mut [u32],
     settings: &mut [u8],
     row: &mut [u32],
     from: Cursor,
 ) -> Finished
-    requires { ⌜ CursorWithin (now text) from × Passed (stateOf empty (now distances) (now settings)) × (maxTides ≤ length (now row)) ⌝ }
-    requires { ⌜ turnsOf (now text) (empty .n) (entered (headOf (now text))) ≡ going (contentsOf (stateOf empty (now distances) (now settings))) from ⌝ }
-    ensures { λ r. ⌜ Finishes r (now (distances .exit)) (now (settings .exit)) (textOf (now (text .entry))) ⌝ }
+    requires { ⌜ CursorWithin (now text) from × Held rule (stateOf empty (now distances) (now settings)) × (maxTides ≤ length (now row)) ⌝ }
+    requires { ⌜ turnsOf rule (now text) (empty .n) (entered (headOf (now text))) ≡ going (contentsOf (stateOf empty (now distances) (now settings))) from ⌝ }
+    ensures { λ r. ⌜ Finishes rule r (now (distances .exit)) (now (settings .exit)) (textOf rule (now (text .entry))) ⌝ }
 {
     let mut dataset = empty;
     let mut cursor = from;
     loop {
-        let reached = next_tide(text, dataset, distances, settings, row, cursor);
+        let reached = next_tide(text, rule, dataset, distances, settings, row, cursor);
         let step = reached.step;
         match step {
             Step::Over(over) => {
@@ -255,10 +281,10 @@ fn read_head(text: &[u8], distances: &mut [u32], settings: &mut [u8]) -> Reached
 }
 
 // The whole text.
-pub fn read_text(text: &[u8], distances: &mut [u32], settings: &mut [u8]) -> Finished
+pub fn read_text(text: &[u8], rule: Rule, distances: &mut [u32], settings: &mut [u8]) -> Finished
     requires { ⌜ length (now text) ≤ 131072 ⌝ }
     requires { ⌜ (tableSize ≤ length (now distances)) × (maxTides ≤ length (now settings)) ⌝ }
-    ensures { λ r. ⌜ Finishes r (now (distances .exit)) (now (settings .exit)) (textOf (now (text .entry))) ⌝ }
+    ensures { λ r. ⌜ Finishes rule r (now (distances .exit)) (now (settings .exit)) (textOf rule (now (text .entry))) ⌝ }
 {
     let head = read_head(text, distances, settings);
     let step = head.step;
@@ -268,7 +294,7 @@ pub fn read_text(text: &[u8], distances: &mut [u32], settings: &mut [u8]) -> Fin
         Step::Over(over) => Finished { over, dataset },
         Step::Going => {
             let mut row = [0u32; MAX_TIDES];
-            read_tides(text, dataset, distances, settings, &mut row, cursor)
+            read_tides(text, rule, dataset, distances, settings, &mut row, cursor)
         }
     }
 }

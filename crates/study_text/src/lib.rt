@@ -9,13 +9,20 @@ use study_file::Written;
 use study_file::write;
 use text_words::whole_lines;
 
-mod calls;
-mod numbers;
+pub mod calls;
+mod measured;
+pub mod numbers;
 
 ghost use mathlib.Core.Path.{_≡_};
 ghost use lib.ListN.{length};
 ghost use Rattle.study_text.specs.Packing.{reportOf, packAnswer, packLeaves, answered, written};
 ghost use Rattle.study_text.specs.Reached.{Live, finishedOf};
+
+// How a text's tides come in: by Enter; or as measured, where the triangle inequality may fail.
+pub enum Rule {
+    Entered,
+    Measured,
+}
 
 // The byte length of the file, or a line of the text, from 1, and what is wrong there.
 pub enum Packed {
@@ -32,7 +39,7 @@ pub enum Packed {
 
 // The study that the text ended with, written.
 fn write_study(end: Finished, distances: &[u32], settings: &[u8], file: &mut [u8]) -> Packed
-    requires { ⌜ Live end (now distances) (now settings) ⌝ }
+    requires { ⌜ Live Rule.Entered end (now distances) (now settings) ⌝ }
     ensures told { λ r. ⌜ reportOf r ≡ answered (finishedOf end (now (distances .entry)) (now (settings .entry))) (length (now (file .entry))) ⌝ }
     ensures leaves { λ r. ⌜ now (file .exit) ≡ written (finishedOf end (now (distances .entry)) (now (settings .entry))) (now (file .entry)) ⌝ }
 {
@@ -60,6 +67,6 @@ pub fn pack(text: &[u8], file: &mut [u8]) -> Packed
     }
     let mut distances = [0u32; TABLE_SIZE];
     let mut settings = [0u8; MAX_TIDES];
-    let end = read_text(text, &mut distances, &mut settings);
+    let end = read_text(text, Rule::Entered, &mut distances, &mut settings);
     write_study(end, &distances, &settings, file)
 }

@@ -11,7 +11,7 @@ read-minima-requires : tie.Need-read-minima-requires
 read-minima-requires c κs =
     let told = c .before .before .before .before in
     let opened = told .before .before .before .before .before .before in
-    let held = opened .read-open .ensures .alive (told .enum-told .given .1) in (held .within, held .passed)
+    let held = opened .read-open .ensures .alive (told .enum-told .given .1) in (held .within, held .held)
 
 returns-2 : tie.Need-returns-2
 returns-2 c =

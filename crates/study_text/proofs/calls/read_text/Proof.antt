@@ -9,10 +9,11 @@ read-tides-requires : tie.Need-read-tides-requires
 read-tides-requires c κs =
     let told = c .before .before .before in
     let head = told .before .before .before .before .before .before .before .before in
-    let m = text-begins (head .read-head .ensures) (told .enum-told .given .1) in ((m .within, m .passed, omega arith), m .turns)
+    let entry = head .before .before .before .before .before .before in
+    let m = text-begins (entry .args .rule) (head .read-head .ensures) (told .enum-told .given .1) in ((m .within, m .held, omega arith), m .turns)
 
 returns : tie.Need-returns
-returns c = text-stops (c .before .before .before .before .before .before .before .before .before .read-head .ensures) (c .before .step .given .1)
+returns c = text-stops _ (c .before .before .before .before .before .before .before .before .before .read-head .ensures) (c .before .step .given .1)
 
 pub read-text-spec : {M : Type 1} → statement M
 read-text-spec =
