@@ -1,3 +1,4 @@
 -- Laws, cited by the proofs of this crate.
 pub mod RowLaws
 pub mod LineLaws
+pub mod MendLaws

@@ -1,12 +1,18 @@
 -- A measured study mended (document 02, 2.1): its distances lowered to their metric closure; and the text of it, in the form that study_text
 -- reads. Assumes nothing.
 use Prim.Native.Nat.{ℕ}
+use mathlib.Core.Bool.{cond}
 use mathlib.Core.List.{List, [], _++_, flatMap}
-use lib.ListN.{take}
-use Rattle.lists.specs.Lists.{tabulate}
+use lib.Dec.{ltb}
+use lib.ListN.{length, take}
+use Rattle.lists.specs.Lists.{tabulate, over}
 use Rattle.study.specs.Study.{Tide, Study, withTides, size, tide, distance}
+use Rattle.study.specs.Refusals.{number}
 use Rattle.metric_closure.specs.Closure.{closure, loweredPairs}
 use Rattle.sheet_text.specs.Text.{ascii, decimal}
+use Rattle.text_words.specs.Words.{newlines}
+use Rattle.study_text.specs.declared.Rule.the-variants as RuleCase
+use Rattle.study_text.specs.Packing.{Report, done, refusedAt, tooLong, Turn, going, ended, stopped, textOf}
 
 -- ---- the study
 
@@ -47,3 +53,29 @@ loweredLine pairs = ascii "# " ++ decimal pairs ++ ascii " pairs lowered\n"
 -- the mended study after it
 unfoldable pub mendedText : Study → List ℕ
 mendedText S = loweredLine (lowered S) ++ studyText (mended S)
+
+-- ---- what is said of a text whose tides are measured, and what is written
+
+-- as long as the longest text that is read; a mended text is never longer
+abbrev pub textRoom : ℕ
+textRoom = 131072
+
+-- of a text that was read: the length of the mended text; with less room than that 1, at the text's end. No text is still going after 121 turns
+abbrev pub reported : Turn → ℕ → Report
+reported (ended H l) room = cond (ltb room textRoom) (refusedAt l (number 1)) (done (length (mendedText (H .study))))
+reported (stopped t) room = t
+reported (going H c) room = refusedAt (c .line) (number 22)
+
+-- the lent bytes: those past the mended text stay
+abbrev pub printed : Turn → List ℕ → List ℕ
+printed (ended H l) bytes = cond (ltb (length bytes) textRoom) bytes (over (mendedText (H .study)) bytes)
+printed (stopped t) bytes = bytes
+printed (going H c) bytes = bytes
+
+-- what is said of any text; one above 131,072 bytes is too long
+unfoldable pub mendAnswer : List ℕ → ℕ → Report
+mendAnswer text room = cond (ltb textRoom (length text)) (tooLong (newlines text)) (reported (textOf RuleCase.Measured text) room)
+
+-- the lent bytes after it
+unfoldable pub mendLeaves : List ℕ → List ℕ → List ℕ
+mendLeaves text bytes = cond (ltb textRoom (length text)) bytes (printed (textOf RuleCase.Measured text) bytes)

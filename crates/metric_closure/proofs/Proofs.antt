@@ -17,7 +17,7 @@ use Rattle.metric_closure.specs.Call.{entry, inRange, symmetricRow, symm
 use Rattle.metric_closure.specs.Theorems.{Dissimilarity, TriangleInequality, ForTable, Closable, ForCall}
 use Rattle.metric_closure.specs.Tables.{Fits}
 use Rattle.metric_closure.proofs.ClosureLaws.{table-laws, dissimilarity-same, triangle-same}
-use Rattle.metric_closure.proofs.TableLaws.{in-row, entry-near}
+use Rattle.metric_closure.proofs.TableLaws.{in-row, entry-near, places-near}
 use Rattle.metric_closure.proofs.CallLaws.{closed-long, closed-at, near-of, accepts}
 
 pub for-table : (n : ℕ) (dist : ℕ → ℕ → ℕ) → Dissimilarity n dist → ForTable n dist
@@ -58,9 +58,7 @@ module _ (n : ℕ) (l : List ℕ) where
   unfolding inRange
   of-near h =
       T-true (every (n * n) (λ p. leb (getD l p 0) 1048575))
-      (every-of (n * n) (λ p. leb (getD l p 0) 1048575) (λ p k.
-      let R = in-row n n p k in
-      le→leb (getD l p 0) 1048575 (subst (λ z. getD l z 0 ≤ 1048575) (R .place) (h (p / n) (p % n) (R .row) (R .column)))))
+      (every-of (n * n) (λ p. leb (getD l p 0) 1048575) (λ p k. le→leb (getD l p 0) 1048575 (places-near n l h .near p k)))
 
   closable-of : closeVerdict n l ≡ accepted → Closable n l
   unfolding closeVerdict closeReasons

@@ -55,9 +55,13 @@ rows-at n l f i j a b =
     let column : (i * n + j) % n ≡ j = mul-add-mod-self-right i n j ∙ mod-eq-of-lt b in
     getD-overwrite (λ p. f (p / n) (p % n)) l (n * n) (i * n + j) 0 (omega (arith, row-ends n i a)) ∙ ap₂ f row column
 
--- what the places hold the distances are
+-- distances are in range where their places are, and the other way round
 pub entry-near : {n : ℕ} {l : List ℕ} → InRange (n * n) l → (i j : ℕ) → i < n → j < n → entry n l i j ≤ 1048575
 entry-near {n} N i j a b = N .near (i * n + j) (omega (arith, row-ends n i a))
+
+pub places-near : (n : ℕ) (l : List ℕ) → ((i j : ℕ) → i < n → j < n → entry n l i j ≤ 1048575) → InRange (n * n) l
+places-near n l h =
+    record { near = λ p k. let R = in-row n n p k in subst (λ z. getD l z 0 ≤ 1048575) (R .place) (h (p / n) (p % n) (R .row) (R .column)) }
 
 -- place j after the start of row i
 pub at-start : (n i : ℕ) {s : ℕ} (l : List ℕ) (j : ℕ) → s ≡ i * n → getD l (s + j) 0 ≡ entry n l i j
@@ -245,13 +249,7 @@ module _ {n : ℕ} {old : List ℕ} where
 
   pub closing-near : {m : ℕ} {new : List ℕ} → Closing n m old new → InRange (n * n) old → InRange (n * n) new
   closing-near {m} {new} C N =
-      record {
-        near = λ p l.
-            let R = in-row n n p l in
-            let at = C .inside (p / n) (p % n) (R .row) (R .column) in
-            subst (λ z. getD new z 0 ≤ 1048575) (R .place)
-            (omega (arith, closure-below (entry n old) m (p / n) (p % n), entry-near N (p / n) (p % n) (R .row) (R .column)));
-      }
+      places-near n new (λ i j a b. omega (arith, C .inside i j a b, closure-below (entry n old) m i j, entry-near N i j a b))
 
   pub closing-done : {m : ℕ} {new : List ℕ} → m ≡ n → Fits n old → Closing n m old new → new ≡ closedTable n old
   unfolding closedTable
