@@ -2,3 +2,5 @@
 pub mod RowLaws
 pub mod LineLaws
 pub mod MendLaws
+pub mod CasesProof
+pub mod Proofs

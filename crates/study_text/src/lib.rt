@@ -11,7 +11,7 @@ use text_words::whole_lines;
 
 pub mod calls;
 mod measured;
-pub mod numbers;
+mod numbers;
 
 ghost use mathlib.Core.Path.{_≡_};
 ghost use lib.ListN.{length};

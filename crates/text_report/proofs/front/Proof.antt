@@ -3,8 +3,8 @@ use native.Mathlib.Omega.{arith}
 use lib.Seq.{length-take-le}
 use mathlib.Core.Path.{sym}
 use borrow.Author.Needs.{needs}
-use Rattle.pack.proofs.front.Statement.{statement}
-use Rattle.pack.proofs.front.Tie as tie
+use Rattle.text_report.proofs.front.Statement.{statement}
+use Rattle.text_report.proofs.front.Tie as tie
 
 slice-aggregate-result : tie.Need-slice-aggregate-result
 slice-aggregate-result c = sym (length-take-le _ _ (omega arith))

@@ -1,0 +1,38 @@
+-- The statements of specs/Cases.antt, by computation. Assumes nothing.
+use mathlib.Core.Path.{refl}
+use mathlib.Core.List.{flatMap}
+use Rattle.lists.specs.Lists.{every, sumBelow, countBelow, tabulate}
+use Rattle.study.specs.Study.{noTide, tide, distance, validMinima}
+use Rattle.study.specs.Refusals.{firstOf}
+use Rattle.study.specs.Calls.{openReasons, opened, opening, minimaReasons, withMinima, settingMinima, entered, entering}
+use Rattle.metric_closure.specs.Closure.{byWayOf, closure, nearerPairs, loweredPairs}
+use Rattle.sheet_text.specs.Text.{digits, decimal}
+use Rattle.text_words.specs.Words.{newlines, endsWord, begins, commentAfter, past, startOf, wordOf}
+use Rattle.text_words.specs.Words.{digit, withDigit, valueFrom, numeralOf, wordAt, nextOf}
+use Rattle.study_text.specs.Packing.{numberOf, numbersOf, minimaFrom, openingOf, minimaOf, headOf, measuredReasons, tideOf}
+use Rattle.study_text.specs.Packing.{turnOf, turnsOf, textOf}
+use Rattle.mended_text.specs.Mending.{lowered, mendedTide, mended, spaced, numberLine, tideLine, studyText, loweredLine, mendedText, mendAnswer}
+use Rattle.mended_text.specs.Cases.{cases, Said, Roomless, Mended}
+
+pub said : Said
+unfolding cases mendAnswer textOf turnsOf turnOf tideOf headOf minimaOf openingOf minimaFrom numbersOf numberOf
+    nextOf wordAt numeralOf valueFrom withDigit digit wordOf startOf past commentAfter begins endsWord newlines
+    openReasons opening opened minimaReasons settingMinima withMinima validMinima measuredReasons entering entered
+    distance tide noTide firstOf every sumBelow countBelow tabulate flatMap
+    mendedText loweredLine studyText tideLine numberLine spaced mended mendedTide lowered loweredPairs nearerPairs closure byWayOf decimal digits
+said = refl
+
+pub roomless : Roomless
+unfolding mendAnswer textOf turnsOf turnOf tideOf headOf minimaOf openingOf minimaFrom numbersOf numberOf
+    nextOf wordAt numeralOf valueFrom withDigit digit wordOf startOf past commentAfter begins endsWord newlines
+    openReasons opening opened minimaReasons settingMinima withMinima validMinima measuredReasons entering entered
+    distance tide noTide firstOf every sumBelow tabulate flatMap
+roomless = refl
+
+pub mended-texts : Mended
+unfolding textOf turnsOf turnOf tideOf headOf minimaOf openingOf minimaFrom numbersOf numberOf
+    nextOf wordAt numeralOf valueFrom withDigit digit wordOf startOf past commentAfter begins endsWord newlines
+    openReasons opening opened minimaReasons settingMinima withMinima validMinima measuredReasons entering entered
+    distance tide noTide firstOf every sumBelow countBelow tabulate flatMap
+    mendedText loweredLine studyText tideLine numberLine spaced mended mendedTide lowered loweredPairs nearerPairs closure byWayOf decimal digits
+mended-texts = refl

@@ -1,0 +1,113 @@
+-- The record of specs/Theorems.antt: `for-mended`. Assumes nothing.
+use Prim.Native.Nat.{ℕ, _+_, _≤_, _<_}
+use native.Mathlib.Omega.{arith}
+use mathlib.Core.Path.{_≡_, refl, sym, ap, ap₂, _∙_, subst}
+use mathlib.Core.Logic.{_↔_, ⊎-elim}
+use mathlib.Core.List.{List}
+use borrow.Author.Tests.{lt-ltb, le-ltb}
+use lib.ListN.{length, getD}
+use Rattle.lists.specs.Lists.{tabulate}
+use Rattle.lists.proofs.Tests.{split}
+use Rattle.lists.proofs.Tables.{length-tabulate, getD-tabulate, tabulate-is}
+use Rattle.study.specs.Study.{Tide, Study, size, noTide, tide, distance, TriangleInequality, Valid}
+use Rattle.study.proofs.StudyLaws.{distance-both-ways, distance-itself}
+use Rattle.metric_closure.specs.Closure.{closure}
+use Rattle.metric_closure.specs.Theorems.{Dissimilarity, ForTable}
+use Rattle.metric_closure.proofs.Proofs.{for-table}
+use Rattle.study_text.specs.Measured.{MeasuredStudy}
+use Rattle.mended_text.specs.Mending.{lowered, mendedTide, mended}
+use Rattle.mended_text.specs.Theorems.{ForMended}
+
+module _ (S : Study) where
+  -- the distances of any study are the same both ways
+  closed : ForTable (size S) (distance S)
+  closed =
+      for-table (size S) (distance S)
+      (record { both-ways = λ i j a b. distance-both-ways S i j; itself = λ i a. distance-itself S i })
+
+  none-lowered : lowered S ≡ 0 ↔ TriangleInequality S
+  unfolding lowered
+  none-lowered = (
+    λ e. closed .none-lowered .0 e .triangle,
+    λ R. closed .none-lowered .1 (record { triangle = R }),
+  )
+
+  -- ---- the mended study
+
+  abbrev M : Study
+  M = mended S
+
+  mended-size : size M ≡ size S
+  unfolding mended
+  mended-size = length-tabulate (size S) (mendedTide S)
+
+  tide-at : (t : ℕ) → t < size S → tide M t ≡ mendedTide S t
+  unfolding mended tide
+  tide-at t l = getD-tabulate (size S) (mendedTide S) t noTide l
+
+  setting-at : (t : ℕ) → t < size S → tide M t .setting ≡ tide S t .setting
+  unfolding mendedTide
+  setting-at t l = ap (λ (x : Tide). x .setting) (tide-at t l)
+
+  row-at : (t u : ℕ) → t < size S → u < t → getD (tide M t .row) u 0 ≡ closure (size S) (distance S) t u
+  unfolding mendedTide
+  row-at t u l k = ap (λ (x : Tide). getD (x .row) u 0) (tide-at t l) ∙ getD-tabulate t (closure (size S) (distance S) t) u 0 k
+
+  row-long : (t : ℕ) → t < size S → length (tide M t .row) ≡ t
+  unfolding mendedTide
+  row-long t l = ap (λ (x : Tide). length (x .row)) (tide-at t l) ∙ length-tabulate t (closure (size S) (distance S) t)
+
+  distance-at : (t u : ℕ) → t < size S → u < size S → distance M t u ≡ closure (size S) (distance S) t u
+  unfolding distance
+  distance-at t u a b =
+      ⊎-elim (λ l. rw (lt-ltb t u l) (row-at u t b l ∙ closed .symmetric .both-ways u t b a))
+      (λ l. ⊎-elim (λ k. rw (le-ltb t u l, lt-ltb u t k) (row-at t u a k)) (λ k. rw (le-ltb t u l, le-ltb u t k) (same t u a (omega arith)))
+      (split u t))
+      (split t u)
+    where
+      same : (t u : ℕ) → t < size S → t ≡ u → 0 ≡ closure (size S) (distance S) t u
+      same t u a e = sym (subst (λ z. closure (size S) (distance S) t z ≡ 0) e (closed .symmetric .itself t a))
+
+  -- ---- of a measured study
+
+  module _ (W : MeasuredStudy S) where
+    mended-valid : Valid M
+    unfolding mended
+    mended-valid =
+        record {
+          k-low = W .k-low;
+          k-high = W .k-high;
+          few = omega (arith, W .few, mended-size);
+          minima = W .minima;
+          setting-low = λ t l. omega (arith, setting-at t (omega (arith, mended-size)), W .setting-low t (omega (arith, mended-size)));
+          setting-high = λ t l. omega (arith, setting-at t (omega (arith, mended-size)), W .setting-high t (omega (arith, mended-size)));
+          row-length = λ t l. row-long t (omega (arith, mended-size));
+          distance-high = λ t u l k. high t u (omega (arith, mended-size)) (omega (arith, mended-size));
+          triangle = λ t u v a b c. obeys t u v (omega (arith, mended-size)) (omega (arith, mended-size)) (omega (arith, mended-size));
+        }
+      where
+        high : (t u : ℕ) → t < size S → u < size S → distance M t u ≤ 1048575
+        high t u a b = omega (arith, distance-at t u a b, closed .lower .below t u a b, W .distance-high t u a b)
+
+        obeys : (t u v : ℕ) → t < size S → u < size S → v < size S → distance M t v ≤ distance M t u + distance M u v
+        obeys t u v a b c = omega (arith, closed .obeys .triangle t u v a b c, distance-at t v a c, distance-at t u a b, distance-at u v b c)
+
+    -- ---- where the triangle inequality holds
+
+    module _ (R : TriangleInequality S) where
+      own-distance : (t u : ℕ) → t < size S → u < t → closure (size S) (distance S) t u ≡ getD (tide S t .row) u 0
+      unfolding distance
+      own-distance t u a l =
+          closed .own (record { triangle = R }) t u a (omega arith) ∙ rw (le-ltb t u (omega arith), lt-ltb u t l)
+
+      own-tide : (t : ℕ) → t < size S → mendedTide S t ≡ tide S t
+      unfolding mendedTide
+      own-tide t a =
+          ap (λ (r : List ℕ). record { setting = tide S t .setting; row = r })
+          (tabulate-is t (closure (size S) (distance S) t) 0 (tide S t .row) (W .row-length t a) (λ u l. own-distance t u a l))
+
+      mended-own : mended S ≡ S
+      unfolding mended tide
+      mended-own =
+          ap (λ (ts : List Tide). record { k = S .k; minima = S .minima; tides = ts })
+          (tabulate-is (size S) (mendedTide S) noTide (S .tides) refl own-tide)
