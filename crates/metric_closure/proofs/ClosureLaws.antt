@@ -1,5 +1,5 @@
 -- The closure of a table: the theorem over every table of distances. Assumes nothing.
-use Prim.Native.Nat.{ℕ, zero, suc, _+_, _≤_, _<_, min}
+use Prim.Native.Nat.{ℕ, zero, suc, _+_, _*_, _≤_, _<_, min}
 use native.Mathlib.Omega.{arith}
 use mathlib.Core.Path.{_≡_, refl, sym, ap, ap₂, _∙_, subst}
 use mathlib.Core.Logic.{⊎-elim}
@@ -9,8 +9,8 @@ use mathlib.Core.List.{List·Memᴰ·head as here, List·Memᴰ·tail as there, 
 use lib.Dec.{ltb, ltb→lt, nltb→le, not-T}
 use Rattle.lists.specs.Lists.{_among_, sumBelow, bit, countBelow}
 use Rattle.lists.proofs.Tests.{T-false, split}
-use Rattle.lists.proofs.Counts.{sum-suc, sum-same, count-same}
-use Rattle.lists.proofs.Counting.{sum-none, sum-front, count-none}
+use Rattle.lists.proofs.Counts.{sum-suc, sum-le, sum-same, count-same, count-most}
+use Rattle.lists.proofs.Counting.{sum-none, sum-const, sum-front, count-none}
 use Rattle.metric_closure.specs.Closure.{chainSum, byWayOf, closure, nearerPairs, loweredPairs}
 use Rattle.metric_closure.specs.Theorems.{Dissimilarity, TriangleInequality, Below, Chain, ForTable}
 
@@ -219,3 +219,10 @@ module _ (n : ℕ) (dist : ℕ → ℕ → ℕ) (S : Dissimilarity n dist) where
         own = λ R i j a b. closure-own n dist R i j a b;
         none-lowered = (all-obeyed, none-lowered);
       }
+
+-- no more pairs are lowered than the table has places
+pub lowered-few : (n : ℕ) (dist : ℕ → ℕ → ℕ) → loweredPairs n dist ≤ n * n
+unfolding loweredPairs nearerPairs
+lowered-few n dist =
+    let lower : ℕ → ℕ → Bool = λ i j. ltb (closure n dist i j) (dist i j) in
+    omega (arith, sum-le n (λ i. countBelow i (lower i)) (λ i. n) (λ i h. omega (arith, count-most i (lower i))), sum-const n n)
