@@ -13,22 +13,22 @@ extern "C" {
  * A dataset is a record of 12 numbers (k, n, b0, b1 .. b8, withdrawals) and lent memory: 14,400 distances in rows of 120, and 120
  * settings. Longer lists keep what stands past these places. Tides are numbered from 1.
  *
- * Each list is a pointer that isn't null and a length in elements. Lists of one call don't overlap. Each single number has 32 bits and
- * counts as it is given: 257 is no k, no setting and no tide.
+ * Each list is a pointer that isn't null and a length in elements. Lists of one call don't overlap. Each single number has 32 bits, a
+ * table's n those of a size_t, and counts as it is given: 257 is no k, no setting and no tide.
  *
  * Each call answers 0, or the number of the first reason that holds, in the order given. For 7 it answers 7 + 256 i + 65,536 j,
  * where i < j is the first pair of tides with which the three-tide rule breaks. A refused call changes nothing.
  *
- *  1  record, memory, list or file too short        10  file's n above 120
- *  2  k not 1 to 8                                  11  filling bits not zero
- *  3  b0 not 1 to 120, the b's together above b0,   12  judged list's length differs from n
- *     or a b above k not 0                          21  record and memory are no dataset
- *  4  row length differs from the tides held        22  120 tides held already
- *  5  setting not 1 to k                            23  no tide of that number
- *  6  distance above 1,048,575                      24  no tides
- *  7  three-tide rule broken                        25  fewer than b0 tides, or fewer of a setting than its b
- *  8  file under 6 bytes, or not of its length      26  withdrawals already 65,535
- *  9  mark wrong
+ *  1  record, memory, list, table or file too short  10  n of a file or table above 120
+ *  2  k not 1 to 8                                   11  filling bits not zero
+ *  3  b0 not 1 to 120, the b's together above b0,    12  judged list's length differs from n
+ *     or a b above k not 0                           13  table not the same both ways, or a tide not at 0 from itself
+ *  4  row length differs from the tides held         21  record and memory are no dataset
+ *  5  setting not 1 to k                             22  120 tides held already
+ *  6  distance above 1,048,575                       23  no tide of that number
+ *  7  three-tide rule broken                         24  no tides
+ *  8  file under 6 bytes, or not of its length       25  fewer than b0 tides, or fewer of a setting than its b
+ *  9  mark wrong                                     26  withdrawals already 65,535
  */
 
 /* The dataset becomes empty: the given k, b0 = 1, every b = 0, no withdrawals. Any record and memory will do. Reasons: 1, 2. */
@@ -84,6 +84,12 @@ uint32_t tides_read(uint16_t *record, size_t record_length, uint32_t *distances,
 uint32_t tides_write(const uint16_t *record, size_t record_length, const uint32_t *distances, size_t distances_length,
                      const uint8_t *settings, size_t settings_length, uint8_t *file, size_t file_length, uint32_t *result,
                      size_t result_length);
+
+/*
+ * Mends a table of n rows of n distances: each is lowered to the least sum over any chain of tides. result[0] gets how many pairs
+ * were lowered. Places past n times n stay, and there is no dataset in it. Reasons: 1 (with result), 10, 1 (table), 6, 13.
+ */
+uint32_t tides_mend(uint32_t *table, size_t table_length, size_t n, uint32_t *result, size_t result_length);
 
 #ifdef __cplusplus
 }

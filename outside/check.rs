@@ -1,4 +1,4 @@
-//! Compares the library's nine calls with the plain implementation in
+//! Compares the library's ten calls with the plain implementation in
 //! plain.rs, call by call over random runs: the answer and all memory, bit for
 //! bit, also the places past each lent length. Stops with status 1 at the
 //! first difference. Every run follows from fixed seeds.
@@ -75,6 +75,11 @@ extern "C" {
         file: *mut u8, file_len: usize,
         result: *mut u32, result_len: usize,
     ) -> u32;
+    fn tides_mend(
+        table: *mut u32, table_len: usize,
+        n: usize,
+        result: *mut u32, result_len: usize,
+    ) -> u32;
 }
 
 // ---- lent memory ----
@@ -145,6 +150,14 @@ impl World {
             settings: room(rng, TIDES, 9),
         }
     }
+    /// Nothing, for a call on no book.
+    fn none() -> World {
+        World {
+            record: Lent { places: vec![], len: 0 },
+            distances: Lent { places: vec![], len: 0 },
+            settings: Lent { places: vec![], len: 0 },
+        }
+    }
     fn study(&self) -> Option<Study> {
         plain::study(&self.record.places, &self.distances.places, &self.settings.places)
     }
@@ -194,13 +207,22 @@ enum Call {
         file: Lent<u8>,
         result: Lent<u32>,
     },
+    /// The one call on no book.
+    Mend {
+        table: Lent<u32>,
+        n: usize,
+        result: Lent<u32>,
+    },
 }
 
-const NAMES: [&str; 9] =
-    ["Open", "Minima", "Enter", "Withdraw", "Centres", "Block", "Judge", "Read", "Write"];
+const BOOK_CALLS: usize = 9; // the calls on a book come first
+const CALLS: usize = BOOK_CALLS + 1;
+
+const NAMES: [&str; CALLS] =
+    ["Open", "Minima", "Enter", "Withdraw", "Centres", "Block", "Judge", "Read", "Write", "Mend"];
 
 /// The refusals that each call can give.
-const REASONS: [&[usize]; 9] = [
+const REASONS: [&[usize]; CALLS] = [
     &[1, 2],
     &[1, 3, 21],
     &[1, 4, 5, 6, 7, 21, 22],
@@ -210,6 +232,7 @@ const REASONS: [&[usize]; 9] = [
     &[1, 12, 21, 24],
     &[1, 2, 3, 5, 7, 8, 9, 10, 11],
     &[1, 21],
+    &[1, 6, 10, 13],
 ];
 
 impl Call {
@@ -224,6 +247,7 @@ impl Call {
             Call::Judge { .. } => 6,
             Call::Read { .. } => 7,
             Call::Write { .. } => 8,
+            Call::Mend { .. } => 9,
         }
     }
 
@@ -244,6 +268,7 @@ impl Call {
             Call::Judge { list, result } => vec![&mut list.len, &mut result.len],
             Call::Read { file } => vec![&mut file.len],
             Call::Write { file, result } => vec![&mut file.len, &mut result.len],
+            Call::Mend { table, result, .. } => vec![&mut table.len, &mut result.len],
         }
     }
 }
@@ -281,6 +306,9 @@ fn ask_library(w: &mut World, call: &mut Call) -> u32 {
             Call::Write { file, result } => tides_write(
                 rp, rn, dp, dn, sp, sn, file.ptr(), file.len, result.ptr(), result.len,
             ),
+            Call::Mend { table, n, result } => {
+                tides_mend(table.ptr(), table.len, *n, result.ptr(), result.len)
+            }
         }
     }
 }
@@ -306,6 +334,7 @@ fn ask_plain(w: &mut World, call: &mut Call) -> u32 {
         Call::Judge { list, result } => plain::judge(r, d, s, list.part(), result.part()),
         Call::Read { file } => plain::read(r, d, s, file.part()),
         Call::Write { file, result } => plain::write(r, d, s, file.part(), result.part()),
+        Call::Mend { table, n, result } => plain::mend(table.part(), *n, result.part()),
     }
 }
 
@@ -315,11 +344,13 @@ fn ask_plain(w: &mut World, call: &mut Call) -> u32 {
 struct Seen {
     calls: u64,
     group: String,
-    by_group: [u64; 27],     // answers in this group
-    by_call: [[u64; 27]; 9], // answers of each call
+    by_group: [u64; 27],         // answers in this group
+    by_call: [[u64; 27]; CALLS], // answers of each call
     yes: u64,
     no: u64,
     enumerated: u64,
+    lowered: u64,   // tables that were lowered
+    untouched: u64, // tables that came back untouched
 }
 
 impl Seen {
@@ -328,10 +359,12 @@ impl Seen {
             calls: 0,
             group: String::new(),
             by_group: [0; 27],
-            by_call: [[0; 27]; 9],
+            by_call: [[0; 27]; CALLS],
             yes: 0,
             no: 0,
             enumerated: 0,
+            lowered: 0,
+            untouched: 0,
         }
     }
 
@@ -400,6 +433,13 @@ impl Seen {
                 }
             }
         }
+        if let (Call::Mend { result, .. }, 0) = (&*call, answer) {
+            if result.places[0] > 0 {
+                self.lowered += 1;
+            } else {
+                self.untouched += 1;
+            }
+        }
         answer
     }
 }
@@ -461,6 +501,10 @@ fn say_calls(a: &Call, b: &Call) {
             say("file", x, y);
             say("result", s, t);
         }
+        (Call::Mend { table: x, result: s, .. }, Call::Mend { table: y, result: t, .. }) => {
+            say("table", x, y);
+            say("result", s, t);
+        }
         _ => {}
     }
 }
@@ -491,6 +535,11 @@ fn fail(what: &str, w: &World, call: &Call) -> ! {
             println!("file of {} bytes:{start}", file.len)
         }
         Call::Write { file, result } => println!("file of {}, result of {}", file.len, result.len),
+        Call::Mend { table, n, result } => {
+            println!("n {n}, table of {}, result of {}", table.len, result.len);
+            println!("table {:?}", &table.places[..table.len.min(400)]);
+            exit(1);
+        }
     }
     println!(
         "before: record of {} {:?}, distances of {}, settings of {}",
@@ -1041,7 +1090,7 @@ impl Run {
         let (mut call, point) = if rng.one_in(2) {
             self.propose(rng, target)
         } else {
-            let what = rng.below(9);
+            let what = rng.below(BOOK_CALLS);
             self.propose_call(rng, what, self.w.n().min(TIDES), self.w.k().clamp(1, 8))
         };
         let before = self.clone();
@@ -1155,7 +1204,7 @@ fn spoil_call(rng: &mut Rng, call: &mut Call, w: &World) {
             }
             *file = exact(rng, &bytes);
         }
-        Call::Write { .. } => {}
+        Call::Write { .. } | Call::Mend { .. } => {}
     }
 }
 
@@ -1281,10 +1330,10 @@ fn files(seen: &mut Seen, rng: &mut Rng, count: usize) {
     }
 }
 
-/// Each lent slice of each call too short in turn, all else being right.
+/// Each lent slice of each call on a book too short in turn, all else being right.
 fn short(seen: &mut Seen, rng: &mut Rng) {
     let file = plain::file_of(&known_study());
-    for what in 0..9 {
+    for what in 0..BOOK_CALLS {
         let mut run = Run::new(rng, 4);
         let mut read = Call::Read { file: exact(rng, &file) };
         expect(run.make(seen, &mut read, 0), 0, "the known file is read");
@@ -1508,9 +1557,147 @@ fn large(seen: &mut Seen, rng: &mut Rng, runs: usize) {
     }
 }
 
+// ---- tables to mend ----
+
+/// A table of n rows of n that is the same both ways, with 0 from a tide to itself.
+fn some_table(rng: &mut Rng, n: usize) -> Vec<u32> {
+    let kind = rng.below(5);
+    let most = rng.pick(&[1, 2, 3, 10, 1000, FAR]) as usize;
+    let far = rng.pick(&[9 * n as u32, FAR]);
+    let obeys = metric(rng, n);
+    let mut order: Vec<usize> = (0..n).collect();
+    for i in 0..n {
+        order.swap(i, rng.within(i, n - 1));
+    }
+    let mut table = vec![0; n * n];
+    for i in 0..n {
+        for j in 0..i {
+            let d = match kind {
+                // it obeys the rule
+                0 => obeys[i][j],
+                // some gauges drifted
+                1 if rng.one_in(4) => rng.pick(&[0, obeys[i][j] / 2, 2 * obeys[i][j], FAR]),
+                1 => obeys[i][j],
+                // anything, zeros and ties among it
+                2 => rng.below(most + 1) as u32,
+                // one chain by all tides, in any order
+                3 if order[i].abs_diff(order[j]) == 1 => rng.below(4) as u32,
+                3 => far,
+                // few are near
+                _ if rng.one_in(4) => rng.below(8) as u32,
+                _ => far,
+            };
+            table[n * i + j] = d.min(FAR);
+            table[n * j + i] = d.min(FAR);
+        }
+    }
+    table
+}
+
+/// The call, with places of its own past the table and the result.
+fn mending(rng: &mut Rng, table: &[u32], n: usize) -> Call {
+    let mut lent = room(rng, table.len(), 5);
+    lent.places[..table.len()].copy_from_slice(table);
+    Call::Mend { table: lent, n, result: room(rng, 1, 2) }
+}
+
+fn obeys(table: &[u32], n: usize) -> bool {
+    let at = |i: usize, j: usize| table[n * i + j];
+    (0..n).all(|i| (0..i).all(|j| (0..j).all(|m| !plain::breaks(at(i, j), at(i, m), at(j, m)))))
+}
+
+/// Tables of `least` to `most` tides, each mended twice.
+fn tables(seen: &mut Seen, rng: &mut Rng, runs: usize, least: usize, most: usize) {
+    for turn in 0..runs {
+        let n = least + turn % (most - least + 1);
+        let sent = some_table(rng, n);
+        let mut call = mending(rng, &sent, n);
+        expect(seen.call(&mut World::none(), &mut call), 0, "a table that can be mended");
+        let Call::Mend { table, result, .. } = &call else { unreachable!() };
+        let untouched = table.places[..n * n] == sent[..];
+        if !obeys(&table.places, n)
+            || untouched != obeys(&sent, n)
+            || untouched != (result.places[0] == 0)
+        {
+            fail("the mended table", &World::none(), &call);
+        }
+        let before = call.clone();
+        expect(seen.call(&mut World::none(), &mut call), 0, "a mended table");
+        let (Call::Mend { table: x, .. }, Call::Mend { table: y, result, .. }) = (&before, &call)
+        else {
+            unreachable!()
+        };
+        if x != y || result.places[0] != 0 {
+            fail("mended twice is not mended once", &World::none(), &call);
+        }
+    }
+}
+
+/// Makes one reason hold of a table with at least one tide.
+fn damage(rng: &mut Rng, fault: usize, call: &mut Call) {
+    let Call::Mend { table, n, result } = call else { unreachable!() };
+    let size = *n * *n;
+    let (i, j, p) = (rng.below(*n), rng.below(*n), rng.below(size));
+    match fault {
+        0 => result.len = 0,
+        1 => *n = rng.pick(&[121, 122, 255, 256, 65_536, 1 << 32, (1 << 32) + *n, usize::MAX]),
+        2 => table.len = rng.pick(&[0, size - 1, p]),
+        3 => {
+            let p = rng.pick(&[0, size - 1, p]);
+            table.places[p] = rng.pick(&[FAR + 1, 1 << 21, 1 << 31, u32::MAX]);
+        }
+        _ if i == j => table.places[*n * i + i] = rng.pick(&[1, FAR]),
+        _ => table.places[*n * i + j] = (table.places[*n * i + j] + 1) % (FAR + 1),
+    }
+}
+
+/// Each reason alone, and each two at once: the first in the order counts.
+fn damaged(seen: &mut Seen, rng: &mut Rng, runs: usize) {
+    let reasons = [1, 10, 1, 6, 13]; // result, n, table, distance, both ways
+    for turn in 0..runs {
+        for first in 0..5 {
+            for second in first..5 {
+                let n = if turn % 10 == 9 { 120 } else { rng.within(1, 8) };
+                let table = some_table(rng, n);
+                let mut call = mending(rng, &table, n);
+                for fault in [4, 3, 2, 0, 1] {
+                    if fault == first || fault == second {
+                        damage(rng, fault, &mut call);
+                    }
+                }
+                let what = format!("faults {first} and {second}");
+                expect(seen.call(&mut World::none(), &mut call), reasons[first], &what);
+            }
+        }
+    }
+}
+
+/// Each number of rows up to some above 120, with all their places and with
+/// some too few; of more than 120 rows all places may hold anything.
+fn every_size(seen: &mut Seen, rng: &mut Rng) {
+    for n in 0..=130 {
+        for missing in [0, 1, 2 * n] {
+            let zeros = Lent { places: vec![0; n * n], len: 0 };
+            let mut table = if n > TIDES { room(rng, n * n, 0) } else { zeros };
+            table.len = (n * n).saturating_sub(missing);
+            let mut call = Call::Mend { table, n, result: room(rng, 1, 2) };
+            let expected = match n {
+                121.. => 10,
+                1.. if missing > 0 => 1,
+                _ => 0,
+            };
+            expect(seen.call(&mut World::none(), &mut call), expected, &format!("{n} rows"));
+        }
+    }
+}
+
 fn expect(answer: u32, expected: u32, what: &str) {
     if answer != expected {
-        println!("FAILED: {what}: answer {}, document 01 has {}", number(answer), number(expected));
+        println!(
+            "FAILED: {what}: answer {}, the documents have {}",
+            number(answer),
+            number(expected)
+        );
         exit(1);
     }
 }
@@ -1625,6 +1812,11 @@ fn main() {
         ("lasting damage", Box::new(|s, r| lasting(s, r, 800))),
         ("files", Box::new(|s, r| files(s, r, 25_000))),
         ("to 120 tides", Box::new(|s, r| large(s, r, 12))),
+        ("tables to 9 tides", Box::new(|s, r| tables(s, r, 60_000, 0, 9))),
+        ("tables to 40 tides", Box::new(|s, r| tables(s, r, 600, 10, 40))),
+        ("tables of 120 tides", Box::new(|s, r| tables(s, r, 40, 120, 120))),
+        ("damaged tables", Box::new(|s, r| damaged(s, r, 200))),
+        ("tables of every size", Box::new(every_size)),
     ];
     for (name, group) in &groups {
         seen.begin(name);
@@ -1632,7 +1824,7 @@ fn main() {
         seen.end();
     }
     let mut whole = true;
-    for c in 0..9 {
+    for c in 0..CALLS {
         let mut line = format!("{:<9} accepted {}, refused", NAMES[c], seen.by_call[c][0]);
         for r in REASONS[c] {
             line += &format!(" {}:{}", r, seen.by_call[c][*r]);
@@ -1642,11 +1834,13 @@ fn main() {
         println!("{line}");
     }
     whole &= seen.yes > 0 && seen.no > 0;
+    whole &= seen.lowered > 0 && seen.untouched > 0;
     println!("Judge said yes {} times and no {} times", seen.yes, seen.no);
     println!(
         "{} blockings of up to 7 tides also by full enumeration, none wider than twice the least",
         seen.enumerated
     );
+    println!("{} tables lowered, {} untouched", seen.lowered, seen.untouched);
     if !whole {
         println!("FAILED: a refusal or an acceptance of the table above was never seen");
         exit(1);

@@ -18,6 +18,8 @@ use Rattle.validity.specs.Memory.{State, stateOf, studyOf, contentsOf}
 use Rattle.dataset.specs.Answers.{openAnswer, openLeaves, minimaAnswer, minimaLeaves, enterAnswer, enterLeaves, withdrawAnswer, withdrawLeaves}
 use Rattle.study_file.specs.Answers.{readAnswer, readLeaves, writeAnswer}
 use Rattle.blocking.specs.Answers.{centresAnswer, blockAnswer, judgeAnswer}
+use Rattle.metric_closure.specs.Closure.{loweredPairs}
+use Rattle.metric_closure.specs.Call.{entry, closeVerdict, closedTable}
 use Rattle.guarantee.specs.Runs.{figureNumbers}
 
 -- ---- the record and the memory that the caller lends
@@ -205,3 +207,17 @@ writeFile l file result = output (writeVerdict l file result) (fileOf (contentsO
 -- the place for the file's length after it
 unfoldable pub writeLength : Lent → List ℕ → List ℕ → List ℕ
 writeLength l file result = output (writeVerdict l file result) (length (fileOf (contentsOf (stateIn l))) ∷ []) result
+
+-- ---- the closure of a table of n rows of n (document 02: mending), lent 1 number for the pairs lowered. It looks at no dataset
+
+-- what it answers
+unfoldable pub mendVerdict : ℕ → List ℕ → List ℕ → Verdict
+mendVerdict n table result = roomFirst (lacks 1 result) (closeVerdict n table)
+
+-- the table after it: the closure in the first n · n places
+unfoldable pub mendTable : ℕ → List ℕ → List ℕ → List ℕ
+mendTable n table result = settled (mendVerdict n table result) (closedTable n table) table
+
+-- the place for the pairs lowered after it
+unfoldable pub mendResult : ℕ → List ℕ → List ℕ → List ℕ
+mendResult n table result = output (mendVerdict n table result) (loweredPairs n (entry n table) ∷ []) result

@@ -1,4 +1,5 @@
--- The calls for C as data, and the run of a list of them: each gets record and memory as the last one left them. Assumes nothing.
+-- The calls for C on a dataset as data, and the run of a list of them: each gets record and memory as the last one left them.
+-- `tides_mend` has no dataset and is none of them. Assumes nothing.
 use Prim.Native.Nat.{ℕ}
 use mathlib.Core.Bool.{Bool, cond}
 use mathlib.Core.List.{List, [], _∷_}

@@ -20,6 +20,7 @@ use study::Judged;
 use study_file::Written;
 
 mod code;
+pub mod mend;
 mod numbers;
 mod rows;
 
