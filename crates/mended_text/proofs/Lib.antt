@@ -2,5 +2,8 @@
 pub mod RowLaws
 pub mod LineLaws
 pub mod MendLaws
+pub mod ReadingLaws
+pub mod ReadBack
+pub mod TextLength
 pub mod CasesProof
 pub mod Proofs

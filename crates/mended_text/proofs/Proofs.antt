@@ -13,10 +13,16 @@ use Rattle.study.specs.Study.{Tide, Study, size, noTide, tide, distance, Triang
 use Rattle.study.proofs.StudyLaws.{distance-both-ways, distance-itself}
 use Rattle.metric_closure.specs.Closure.{closure}
 use Rattle.metric_closure.specs.Theorems.{Dissimilarity, ForTable}
+use Rattle.metric_closure.proofs.ClosureLaws.{lowered-few}
+use Rattle.metric_closure.proofs.TableLaws.{few-places}
 use Rattle.metric_closure.proofs.Proofs.{for-table}
 use Rattle.study_text.specs.Measured.{MeasuredStudy}
-use Rattle.mended_text.specs.Mending.{lowered, mendedTide, mended}
-use Rattle.mended_text.specs.Theorems.{ForMended}
+use Rattle.study_text.specs.declared.Rule.the-variants as RuleCase
+use Rattle.study_text.specs.Packing.{ended, textOf}
+use Rattle.mended_text.specs.Mending.{lowered, mendedTide, mended, mendedText}
+use Rattle.mended_text.specs.Theorems.{fresh, ForMended}
+use Rattle.mended_text.proofs.ReadBack.{read-back}
+use Rattle.mended_text.proofs.TextLength.{text-short}
 
 module _ (S : Study) where
   -- the distances of any study are the same both ways
@@ -111,3 +117,27 @@ module _ (S : Study) where
       mended-own =
           ap (λ (ts : List Tide). record { k = S .k; minima = S .minima; tides = ts })
           (tabulate-is (size S) (mendedTide S) noTide (S .tides) refl own-tide)
+
+    pairs-few : lowered S < 4294967296
+    unfolding lowered
+    pairs-few = omega (arith, lowered-few (size S) (distance S), few-places (size S) (W .few))
+
+    text-read : (l : ℕ) × (textOf RuleCase.Entered (mendedText S) ≡ ended (fresh M) l)
+    unfolding mendedText
+    text-read = read-back (lowered S) M pairs-few mended-valid
+
+    text-fits : length (mendedText S) ≤ 131072
+    unfolding mendedText
+    text-fits = text-short (lowered S) M pairs-few mended-valid
+
+pub for-mended : (S : Study) → MeasuredStudy S → ForMended S
+for-mended S W =
+    record {
+      valid = mended-valid S W;
+      settings = setting-at S;
+      distances = distance-at S;
+      own = mended-own S W;
+      none-lowered = none-lowered S;
+      short = text-fits S W;
+      read-back = text-read S W;
+    }

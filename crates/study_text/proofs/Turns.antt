@@ -144,7 +144,7 @@ module _ {text : List ℕ} {r : Reached} {d s : List ℕ} where
 -- ---- turn after turn
 
 -- no more turns after the end
-turns-over : (rule : Rule) (text : List ℕ) (t : Turn) (o : Over) (H : Contents) (m n : ℕ) → overIs o H ≡ turnsOf rule text m t
+pub turns-over : (rule : Rule) (text : List ℕ) (t : Turn) (o : Over) (H : Contents) (m n : ℕ) → overIs o H ≡ turnsOf rule text m t
     → overIs o H ≡ turnsOf rule text (n + m) t
 unfolding turnsOf
 turns-over rule text t o H m zero e = e ∙ ap (λ k. turnsOf rule text k t) (sym (zero-add m))
