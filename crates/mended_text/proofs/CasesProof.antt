@@ -4,12 +4,12 @@ use mathlib.Core.List.{flatMap}
 use Rattle.lists.specs.Lists.{every, sumBelow, countBelow, tabulate}
 use Rattle.study.specs.Study.{noTide, tide, distance, validMinima}
 use Rattle.study.specs.Refusals.{firstOf}
-use Rattle.study.specs.Calls.{openReasons, opened, opening, minimaReasons, withMinima, settingMinima, entered, entering}
+use Rattle.study.specs.Calls.{openReasons, opened, opening, minimaReasons, withMinima, settingMinima, measuredReasons, entered, entering}
 use Rattle.metric_closure.specs.Closure.{byWayOf, closure, nearerPairs, loweredPairs}
 use Rattle.sheet_text.specs.Text.{digits, decimal}
 use Rattle.text_words.specs.Words.{newlines, endsWord, begins, commentAfter, past, startOf, wordOf}
 use Rattle.text_words.specs.Words.{digit, withDigit, valueFrom, numeralOf, wordAt, nextOf}
-use Rattle.study_text.specs.Packing.{numberOf, numbersOf, minimaFrom, openingOf, minimaOf, headOf, measuredReasons, tideOf}
+use Rattle.study_text.specs.Packing.{numberOf, numbersOf, minimaFrom, openingOf, minimaOf, headOf, tideOf}
 use Rattle.study_text.specs.Packing.{turnOf, turnsOf, textOf}
 use Rattle.mended_text.specs.Mending.{lowered, mendedTide, mended, spaced, numberLine, tideLine, studyText, loweredLine, mendedText, mendAnswer}
 use Rattle.mended_text.specs.Cases.{cases, Said, Roomless, Mended}

@@ -1,22 +1,20 @@
 -- The record of specs/Theorems.antt: `for-mended`. Assumes nothing.
 use Prim.Native.Nat.{ℕ, _+_, _≤_, _<_}
 use native.Mathlib.Omega.{arith}
-use mathlib.Core.Path.{_≡_, refl, sym, ap, ap₂, _∙_, subst}
+use mathlib.Core.Path.{_≡_, refl, sym, ap, _∙_, subst}
 use mathlib.Core.Logic.{_↔_, ⊎-elim}
 use mathlib.Core.List.{List}
 use borrow.Author.Tests.{lt-ltb, le-ltb}
 use lib.ListN.{length, getD}
-use Rattle.lists.specs.Lists.{tabulate}
 use Rattle.lists.proofs.Tests.{split}
 use Rattle.lists.proofs.Tables.{length-tabulate, getD-tabulate, tabulate-is}
-use Rattle.study.specs.Study.{Tide, Study, size, noTide, tide, distance, TriangleInequality, Valid}
+use Rattle.study.specs.Study.{Tide, Study, size, noTide, tide, distance, TriangleInequality, Valid, MeasuredStudy}
 use Rattle.study.proofs.StudyLaws.{distance-both-ways, distance-itself}
 use Rattle.metric_closure.specs.Closure.{closure}
-use Rattle.metric_closure.specs.Theorems.{Dissimilarity, ForTable}
+use Rattle.metric_closure.specs.Theorems.{ForTable}
 use Rattle.metric_closure.proofs.ClosureLaws.{lowered-few}
 use Rattle.metric_closure.proofs.TableLaws.{few-places}
 use Rattle.metric_closure.proofs.Proofs.{for-table}
-use Rattle.study_text.specs.Measured.{MeasuredStudy}
 use Rattle.study_text.specs.declared.Rule.the-variants as RuleCase
 use Rattle.study_text.specs.Packing.{ended, textOf}
 use Rattle.mended_text.specs.Mending.{lowered, mendedTide, mended, mendedText}

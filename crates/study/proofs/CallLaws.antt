@@ -13,9 +13,10 @@ use lib.Seq.{getD-append-seam}
 use Rattle.lists.specs.Lists.{between, every, sumBelow, isEmpty}
 use Rattle.lists.proofs.Tests.{T-true, T-false, not-not, test, split, between-T, cond-yes, cond-no, every-at}
 use Rattle.study.specs.declared.Minima.{Minima}
-use Rattle.study.specs.Study.{Tide, Study, Contents, size, noTide, tide, distance, validMinima, TriangleInequality, Valid}
+use Rattle.study.specs.Study.{Tide, Study, Contents, size, noTide, tide, distance, validMinima, TriangleInequality, Valid, MeasuredStudy}
 use Rattle.study.specs.Refusals.{accepted, refused, Reason, firstOf}
-use Rattle.study.specs.Calls.{openReasons, opened, opening, minimaReasons, withMinima, settingMinima, violations, enterReasons, entered, entering}
+use Rattle.study.specs.Calls.{openReasons, opened, opening, minimaReasons, withMinima, settingMinima, violations, enterReasons}
+use Rattle.study.specs.Calls.{measuredReasons, entered, entering}
 use Rattle.study.specs.Calls.{withdrawReasons, removeAt, shortened, withdrawn, withdrawing, skip}
 use Rattle.study.specs.Theorems.{ValidContents}
 use Rattle.study.proofs.StudyLaws.{validMinima-T, distance-both-ways, distance-itself}
@@ -139,6 +140,85 @@ module _ (s : ℕ) (row : List ℕ) (S : Study) where
           subst (λ z. Triangle (distance E i j) (distance E i z) (distance E j z)) (sym e)
           (rw (entered-held i j p q, entered-row i p, entered-row j q) (obeyed (distance S) n (λ i. getD row i 0) h i j a q))
 
+-- ---- a tide that fits, whatever its distances are to each other
+
+-- a study that is valid but for the triangle inequality
+pub valid-measured : {S : Study} → Valid S → MeasuredStudy S
+valid-measured ok =
+    record {
+      k-low = ok .k-low;
+      k-high = ok .k-high;
+      few = ok .few;
+      minima = ok .minima;
+      setting-low = ok .setting-low;
+      setting-high = ok .setting-high;
+      row-length = ok .row-length;
+      distance-high = ok .distance-high;
+    }
+
+-- what a measured tide tells that is accepted
+pub record Measures (S : Study) (s : ℕ) (row : List ℕ) : Type 0 where
+  pub room : size S < 120
+  pub length-is : length row ≡ size S
+  pub setting-low : 1 ≤ s
+  pub setting-high : s ≤ S .k
+  pub distance-high : (i : ℕ) → i < size S → getD row i 0 ≤ 1048575
+
+-- by the tests of 22, 4, 5 and 6
+measures-by : (S : Study) (s : ℕ) (row : List ℕ) → T (not (leb 120 (size S))) → T (not (not (eqb (length row) (size S))))
+    → T (not (not (between 1 (S .k) s))) → T (not (not (every (length row) (λ i. leb (getD row i 0) 1048575)))) → Measures S s row
+measures-by S s row room long set near =
+    let b = between-T 1 (S .k) s .0 (not-not (between 1 (S .k) s) set) in
+    let q = eqb→eq (length row) (size S) (not-not (eqb (length row) (size S)) long) in
+    record {
+      room = nleb→lt 120 (size S) room;
+      length-is = q;
+      setting-low = b .0;
+      setting-high = b .1;
+      distance-high = λ i l.
+          leb→le (getD row i 0) 1048575
+          (every-at (length row) (λ i. leb (getD row i 0) 1048575) (not-not (every (length row) (λ i. leb (getD row i 0) 1048575)) near) i (omega arith));
+    }
+
+pub measures : (S : Study) (s : ℕ) (row : List ℕ) → firstOf (measuredReasons S s row) ≡ accepted → Measures S s row
+unfolding measuredReasons
+measures S s row e =
+    let h = none-holds (measuredReasons S s row) e in measures-by S s row (h .0) (h .1 .0) (h .1 .1 .0) (h .1 .1 .1 .0)
+
+module _ (s : ℕ) (row : List ℕ) (S : Study) where
+  -- what holds of the numbers before and of the new one holds of all
+  each-number : (Q : ℕ → Type 0) → ((t : ℕ) → t < size S → Q t) → Q (size S) → (t : ℕ) → t < size (entered s row S) → Q t
+  each-number Q old new t l = ⊎-elim (old t) (λ q. subst Q (sym q) new) (old-or-new s row S t l)
+
+  -- the same of the tides
+  each-tide : (Q : ℕ → Tide → Type 0) → ((t : ℕ) → t < size S → Q t (tide S t)) → Q (size S) (record { setting = s; row = row })
+      → (t : ℕ) → t < size (entered s row S) → Q t (tide (entered s row S) t)
+  each-tide Q old new =
+      each-number (λ t. Q t (tide (entered s row S) t)) (λ t a. subst (Q t) (sym (entered-old s row S t a)) (old t a))
+      (subst (Q (size S)) (sym (entered-new s row S)) new)
+
+  pub entered-measured : MeasuredStudy S → Measures S s row → MeasuredStudy (entered s row S)
+  unfolding entered
+  entered-measured ok A =
+      record {
+        k-low = ok .k-low;
+        k-high = ok .k-high;
+        few = omega (arith, entered-size s row S, A .room);
+        minima = ok .minima;
+        setting-low = each-tide (λ t x. 1 ≤ x .setting) (ok .setting-low) (A .setting-low);
+        setting-high = each-tide (λ t x. x .setting ≤ S .k) (ok .setting-high) (A .setting-high);
+        row-length = each-tide (λ t x. length (x .row) ≡ t) (ok .row-length) (A .length-is);
+        distance-high = λ t u a b. near t a u b;
+      }
+    where
+      near : (t : ℕ) → t < size (entered s row S) → (u : ℕ) → u < size (entered s row S) → distance (entered s row S) t u ≤ 1048575
+      near =
+          each-number (λ t. (u : ℕ) → u < size (entered s row S) → distance (entered s row S) t u ≤ 1048575)
+          (λ t a. each-number (λ u. distance (entered s row S) t u ≤ 1048575)
+          (λ u b. omega (arith, entered-held s row S t u a b, ok .distance-high t u a b)) (omega (arith, entered-row s row S t a, A .distance-high t a)))
+          (each-number (λ u. distance (entered s row S) (size S) u ≤ 1048575)
+          (λ u b. omega (arith, entered-column s row S u b, A .distance-high u b)) (omega (arith, distance-itself (entered s row S) (size S))))
+
 -- what an accepted Enter tells
 pub record Enters (S : Study) (s : ℕ) (row : List ℕ) : Type 0 where
   pub room : size S < 120
@@ -152,49 +232,41 @@ pub enters : (S : Study) (s : ℕ) (row : List ℕ) → firstOf (enterReasons S 
 unfolding enterReasons
 enters S s row e =
     let h = none-holds (enterReasons S s row) e in
-    let b = between-T 1 (S .k) s .0 (not-not (between 1 (S .k) s) (h .1 .1 .0)) in
-    let q = eqb→eq (length row) (size S) (not-not (eqb (length row) (size S)) (h .1 .0)) in
+    let m = measures-by S s row (h .0) (h .1 .0) (h .1 .1 .0) (h .1 .1 .1 .0) in
     record {
-      room = nleb→lt 120 (size S) (h .0);
-      length-is = q;
-      setting-low = b .0;
-      setting-high = b .1;
-      distance-high = λ i l.
-          leb→le (getD row i 0) 1048575
-          (every-at (length row) (λ i. leb (getD row i 0) 1048575)
-          (not-not (every (length row) (λ i. leb (getD row i 0) 1048575)) (h .1 .1 .1 .0)) i (omega arith));
+      room = m .room;
+      length-is = m .length-is;
+      setting-low = m .setting-low;
+      setting-high = m .setting-high;
+      distance-high = m .distance-high;
       obeyed = not-not (isEmpty (violations (distance S) (size S) (λ i. getD row i 0))) (h .1 .1 .1 .1 .0);
     }
 
-module _ (s : ℕ) (row : List ℕ) (S : Study) (ok : Valid S) (A : Enters S s row) where
-  near-by : (t u : ℕ) → (t < size S) ⊎ (t ≡ size S) → (u < size S) ⊎ (u ≡ size S) → distance (entered s row S) t u ≤ 1048575
-  near-by t u (inl a) (inl b) = omega (arith, entered-held s row S t u a b, ok .distance-high t u a b)
-  near-by t u (inl a) (inr q) = subst (λ z. distance (entered s row S) t z ≤ 1048575) (sym q) (omega (arith, entered-row s row S t a, A .distance-high t a))
-  near-by t u (inr q) (inl b) = subst (λ z. distance (entered s row S) z u ≤ 1048575) (sym q) (omega (arith, entered-column s row S u b, A .distance-high u b))
-  near-by t u (inr q) (inr r) = subst (λ z. distance (entered s row S) t z ≤ 1048575) (q ∙ sym r) (omega (arith, distance-itself (entered s row S) t))
+-- its tide fits
+enters-measures : {S : Study} {s : ℕ} {row : List ℕ} → Enters S s row → Measures S s row
+enters-measures A =
+    record {
+      room = A .room;
+      length-is = A .length-is;
+      setting-low = A .setting-low;
+      setting-high = A .setting-high;
+      distance-high = A .distance-high;
+    }
 
-  -- what holds of the tides before and of the new one holds of all
-  each-tide : (Q : ℕ → Tide → Type 0) → ((t : ℕ) → t < size S → Q t (tide S t)) → Q (size S) (record { setting = s; row = row })
-      → (t : ℕ) → t < size (entered s row S) → Q t (tide (entered s row S) t)
-  each-tide Q old new t l =
-      ⊎-elim (λ a. subst (Q t) (sym (entered-old s row S t a)) (old t a))
-      (λ q. subst (λ z. Q z (tide (entered s row S) z)) (sym q) (subst (Q (size S)) (sym (entered-new s row S)) new))
-      (old-or-new s row S t l)
-
-  pub entered-valid : Valid (entered s row S)
-  unfolding entered
-  entered-valid =
-      record {
-        k-low = ok .k-low;
-        k-high = ok .k-high;
-        few = omega (arith, entered-size s row S, A .room);
-        minima = ok .minima;
-        setting-low = each-tide (λ t x. 1 ≤ x .setting) (ok .setting-low) (A .setting-low);
-        setting-high = each-tide (λ t x. x .setting ≤ S .k) (ok .setting-high) (A .setting-high);
-        row-length = each-tide (λ t x. length (x .row) ≡ t) (ok .row-length) (A .length-is);
-        distance-high = λ t u a b. near-by t u (old-or-new s row S t a) (old-or-new s row S u b);
-        triangle = entered-triangle s row S (A .obeyed) (ok .triangle);
-      }
+pub entered-valid : (s : ℕ) (row : List ℕ) (S : Study) → Valid S → Enters S s row → Valid (entered s row S)
+entered-valid s row S ok A =
+    let m = entered-measured s row S (valid-measured ok) (enters-measures A) in
+    record {
+      k-low = m .k-low;
+      k-high = m .k-high;
+      few = m .few;
+      minima = m .minima;
+      setting-low = m .setting-low;
+      setting-high = m .setting-high;
+      row-length = m .row-length;
+      distance-high = m .distance-high;
+      triangle = entered-triangle s row S (A .obeyed) (ok .triangle);
+    }
 
 pub entering-valid : (s : ℕ) (row : List ℕ) (H : Contents) → ValidContents H → firstOf (enterReasons (H .study) s row) ≡ accepted
     → ValidContents (entering s row H)

@@ -78,6 +78,15 @@ enterReasons S setting row =
     ∷ (not (isEmpty violated) ⇒ firstViolation violated)
     ∷ []
 
+-- a tide whose distances may break the triangle inequality (document 02, 2.1: a measured table): 22, 4, 5, 6 as above
+unfoldable pub measuredReasons : Study → ℕ → List ℕ → List Reason
+measuredReasons S setting row =
+    (leb maxTides (size S) ⇒ number 22)
+    ∷ (not (eqb (length row) (size S)) ⇒ number 4)
+    ∷ (not (between 1 (S .k) setting) ⇒ number 5)
+    ∷ (not (every (length row) (λ i. leb (getD row i 0) maxDistance)) ⇒ number 6)
+    ∷ []
+
 -- one more tide at the end
 unfoldable pub entered : ℕ → List ℕ → Study → Study
 entered setting row S = withTides (S .tides ++ (record { setting = setting; row = row } ∷ [])) S

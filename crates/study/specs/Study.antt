@@ -91,6 +91,17 @@ pub record Valid (S : Study) : Type 0 where
   pub distance-high : (t u : ℕ) → t < size S → u < size S → distance S t u ≤ maxDistance
   pub triangle : TriangleInequality S
 
+-- the same but for the triangle inequality: a study whose distances are as they were measured (document 02, 2.1)
+pub record MeasuredStudy (S : Study) : Type 0 where
+  pub k-low : 1 ≤ S .k
+  pub k-high : S .k ≤ maxSettings
+  pub few : size S ≤ maxTides
+  pub minima : T (validMinima (S .k) (S .minima))
+  pub setting-low : (t : ℕ) → t < size S → 1 ≤ tide S t .setting
+  pub setting-high : (t : ℕ) → t < size S → tide S t .setting ≤ S .k
+  pub row-length : (t : ℕ) → t < size S → length (tide S t .row) ≡ t
+  pub distance-high : (t u : ℕ) → t < size S → u < size S → distance S t u ≤ maxDistance
+
 -- ---- the same tides in another order
 
 -- R has the tides of S in another order: tide t of R is tide `to t` of S. Settings and distances go along; k and the minima stay.

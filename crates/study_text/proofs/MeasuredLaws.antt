@@ -1,113 +1,30 @@
--- A measured tide: what its reasons let through, the study with it, and its row in memory. Assumes nothing.
+-- A measured tide in memory: its row there, and the ways out of taking it. Assumes nothing.
 use Prim.Native.Nat.{ℕ, _+_, _*_, _≤_, _<_}
 use native.Mathlib.Omega.{arith}
 use native.Mathlib.Numerals.{add-one}
 use mathlib.Core.Path.{_≡_, refl, sym, ap, _∙_, subst}
-use mathlib.Core.Logic.{⊎-elim}
 use mathlib.Core.Bool.{cond, not}
 use mathlib.Core.List.{List, [], _∷_, _++_}
-use lib.Dec.{leb, eqb, leb→le, nleb→lt, eqb→eq}
+use lib.Dec.{leb, eqb}
 use lib.ListN.{length, take, getD, set, length-set, List·getD-append}
 use lib.Seq.{ext-getD, getD-take, getD-append-add, getD-set-same, getD-set-other, length-take-le}
 use Rattle.lists.specs.Lists.{at, between, every, tabulate}
-use Rattle.lists.proofs.Tests.{not-not, between-T, every-at}
 use Rattle.lists.proofs.Tables.{length-tabulate, getD-tabulate, tabulate-suc, tabulate-is, getD-overwrite}
 use Rattle.study.specs.Limits.{cell}
 use Rattle.study.specs.declared.Refusal.{Refusal}
 use Rattle.study.specs.declared.Answer.{Answer}
 use Rattle.study.specs.declared.Answer.the-variants.{Done, Refused}
-use Rattle.study.specs.Study.{Tide, Study, size, noTide, tide, distance, Valid}
+use Rattle.study.specs.Study.{noTide, MeasuredStudy}
 use Rattle.study.specs.Refusals.{number, Verdict, accepted, refused, verdictOf, settled, firstOf}
-use Rattle.study.specs.Calls.{entered, entering}
-use Rattle.study.proofs.StudyLaws.{distance-both-ways, distance-itself}
-use Rattle.study.proofs.CallLaws.{none-holds, entered-size, entered-old, entered-new, entered-held, entered-row, old-or-new}
+use Rattle.study.specs.Calls.{measuredReasons, entered, entering}
+use Rattle.study.proofs.CallLaws.{measures, entered-measured}
 use Rattle.validity.specs.Memory.{State, stateOf, setSize, tideOf, studyOf, contentsOf}
 use Rattle.validity.specs.Validity.{Long}
 use Rattle.validity.proofs.ValidityLaws.{study-size}
 use Rattle.validity.proofs.LayoutLaws.{short-no}
 use Rattle.storage.proofs.FillLaws.{Filled, filled-done}
 use Rattle.study_text.specs.declared.Rule.the-variants as RuleCase
-use Rattle.study_text.specs.Packing.{measuredReasons}
-use Rattle.study_text.specs.Measured.{MeasuredStudy}
 use Rattle.study_text.specs.Reached.{Measuring, Took}
-
--- a study that is valid but for the triangle inequality
-pub valid-measured : {S : Study} → Valid S → MeasuredStudy S
-valid-measured ok =
-    record {
-      k-low = ok .k-low;
-      k-high = ok .k-high;
-      few = ok .few;
-      minima = ok .minima;
-      setting-low = ok .setting-low;
-      setting-high = ok .setting-high;
-      row-length = ok .row-length;
-      distance-high = ok .distance-high;
-    }
-
--- ---- an accepted tide
-
--- what it tells
-pub record Measures (S : Study) (x : ℕ) (row : List ℕ) : Type 0 where
-  pub room : size S < 120
-  pub length-is : length row ≡ size S
-  pub setting-low : 1 ≤ x
-  pub setting-high : x ≤ S .k
-  pub distance-high : (i : ℕ) → i < size S → getD row i 0 ≤ 1048575
-
-pub measures : (S : Study) (x : ℕ) (row : List ℕ) → firstOf (measuredReasons S x row) ≡ accepted → Measures S x row
-unfolding measuredReasons
-measures S x row e =
-    let h = none-holds (measuredReasons S x row) e in
-    let b = between-T 1 (S .k) x .0 (not-not (between 1 (S .k) x) (h .1 .1 .0)) in
-    let q = eqb→eq (length row) (size S) (not-not (eqb (length row) (size S)) (h .1 .0)) in
-    record {
-      room = nleb→lt 120 (size S) (h .0);
-      length-is = q;
-      setting-low = b .0;
-      setting-high = b .1;
-      distance-high = λ i l.
-          leb→le (getD row i 0) 1048575
-          (every-at (length row) (λ i. leb (getD row i 0) 1048575)
-          (not-not (every (length row) (λ i. leb (getD row i 0) 1048575)) (h .1 .1 .1 .0)) i (omega arith));
-    }
-
-module _ (x : ℕ) (row : List ℕ) (S : Study) where
-  abbrev E : Study
-  E = entered x row S
-
-  -- what holds of the numbers before and of the new one holds of all
-  each-number : (Q : ℕ → Type 0) → ((t : ℕ) → t < size S → Q t) → Q (size S) → (t : ℕ) → t < size E → Q t
-  each-number Q old new t l = ⊎-elim (old t) (λ q. subst Q (sym q) new) (old-or-new x row S t l)
-
-  -- the same of the tides
-  each-tide : (Q : ℕ → Tide → Type 0) → ((t : ℕ) → t < size S → Q t (tide S t)) → Q (size S) (record { setting = x; row = row })
-      → (t : ℕ) → t < size E → Q t (tide E t)
-  each-tide Q old new =
-      each-number (λ t. Q t (tide E t)) (λ t a. subst (Q t) (sym (entered-old x row S t a)) (old t a)) (subst (Q (size S)) (sym (entered-new x row S)) new)
-
-  pub entered-measured : MeasuredStudy S → Measures S x row → MeasuredStudy E
-  unfolding entered
-  entered-measured ok A =
-      record {
-        k-low = ok .k-low;
-        k-high = ok .k-high;
-        few = omega (arith, entered-size x row S, A .room);
-        minima = ok .minima;
-        setting-low = each-tide (λ t y. 1 ≤ y .setting) (ok .setting-low) (A .setting-low);
-        setting-high = each-tide (λ t y. y .setting ≤ S .k) (ok .setting-high) (A .setting-high);
-        row-length = each-tide (λ t y. length (y .row) ≡ t) (ok .row-length) (A .length-is);
-        distance-high = λ t u a b. near t a u b;
-      }
-    where
-      near : (t : ℕ) → t < size E → (u : ℕ) → u < size E → distance E t u ≤ 1048575
-      near =
-          each-number (λ t. (u : ℕ) → u < size E → distance E t u ≤ 1048575)
-          (λ t a. each-number (λ u. distance E t u ≤ 1048575) (λ u b. omega (arith, entered-held x row S t u a b, ok .distance-high t u a b))
-          (omega (arith, entered-row x row S t a, A .distance-high t a)))
-          (each-number (λ u. distance E (size S) u ≤ 1048575)
-          (λ u b. omega (arith, distance-both-ways E (size S) u, entered-row x row S u b, A .distance-high u b))
-          (omega (arith, distance-itself E (size S))))
 
 -- ---- its row in memory
 

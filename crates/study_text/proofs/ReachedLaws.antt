@@ -26,7 +26,7 @@ use Rattle.study_text.specs.declared.calls.Step.the-variants as StepCase
 use Rattle.text_words.specs.Words.{CursorWithin}
 use Rattle.study_text.specs.Packing.{tideReasons, called, going, entered}
 use Rattle.study_text.specs.Reached.{stepIs, Held, Took, Reaches, Begins, stoppedAt, stepAfter, afterCall}
-use Rattle.study_text.proofs.MeasuredLaws.{valid-measured}
+use Rattle.study.proofs.CallLaws.{valid-measured}
 
 -- ---- after a call
 

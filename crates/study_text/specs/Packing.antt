@@ -2,16 +2,16 @@
 -- text makes, in its order, what they come to, and the study file. A tide comes in by Enter; or as measured, where the triangle
 -- inequality may fail: there all but that is asked. Assumes nothing.
 use Prim.Native.Nat.{ℕ, zero, suc}
-use mathlib.Core.Bool.{cond, not}
+use mathlib.Core.Bool.{cond}
 use mathlib.Core.List.{List, [], _∷_, _++_}
-use lib.Dec.{leb, eqb, ltb}
+use lib.Dec.{ltb}
 use lib.ListN.{length, drop, getD}
-use Rattle.lists.specs.Lists.{between, every, tabulate}
-use Rattle.study.specs.Limits.{maxTides, maxSettings, maxDistance}
+use Rattle.lists.specs.Lists.{tabulate}
+use Rattle.study.specs.Limits.{maxSettings}
 use Rattle.study.specs.declared.Minima.{Minima}
 use Rattle.study.specs.Study.{Study, Contents, size}
-use Rattle.study.specs.Refusals.{Numbered, number, numbered, Verdict, accepted, refused, Reason, _⇒_, firstOf}
-use Rattle.study.specs.Calls.{openReasons, opening, minimaReasons, settingMinima, enterReasons, entering}
+use Rattle.study.specs.Refusals.{Numbered, number, numbered, Verdict, accepted, refused, Reason, firstOf}
+use Rattle.study.specs.Calls.{openReasons, opening, minimaReasons, settingMinima, enterReasons, measuredReasons, entering}
 use Rattle.file_format.specs.File.{fileOf}
 use Rattle.study_text.specs.declared.Packed.{Packed}
 use Rattle.study_text.specs.declared.Packed.the-variants as PackedCase
@@ -94,15 +94,6 @@ unfoldable pub headOf : List ℕ → Got Contents
 headOf text = onward (openingOf text (record { at = 0; line = 1 })) (minimaOf text)
 
 -- ---- tides
-
--- of a measured tide, Enter's reasons but for the triangle inequality: 22 full, 4 a row of another length, 5 the setting, 6 a distance
-unfoldable pub measuredReasons : Study → ℕ → List ℕ → List Reason
-measuredReasons S setting row =
-    (leb maxTides (size S) ⇒ number 22)
-    ∷ (not (eqb (length row) (size S)) ⇒ number 4)
-    ∷ (not (between 1 (S .k) setting) ⇒ number 5)
-    ∷ (not (every (length row) (λ i. leb (getD row i 0) maxDistance)) ⇒ number 6)
-    ∷ []
 
 -- the reasons by the rule under which the tides come in
 abbrev pub tideReasons : Rule → Study → ℕ → List ℕ → List Reason

@@ -7,7 +7,7 @@ use Rattle.study.specs.declared.Dataset.{Dataset}
 use Rattle.study.specs.declared.Answer.{Answer}
 use Rattle.study.specs.declared.Answer.the-variants.{Done, Refused}
 use Rattle.study.specs.declared.Outcome.{Outcome}
-use Rattle.study.specs.Study.{Contents}
+use Rattle.study.specs.Study.{Contents, MeasuredStudy}
 use Rattle.study.specs.Refusals.{verdictOf, settled, firstOf}
 use Rattle.study.specs.Calls.{entering}
 use Rattle.validity.specs.Memory.{State, stateOf, short, studyOf, contentsOf}
@@ -26,7 +26,6 @@ use Rattle.study_text.specs.declared.calls.Reached.{Reached}
 use Rattle.study_text.specs.declared.calls.Finished.{Finished}
 use Rattle.text_words.specs.Words.{CursorWithin}
 use Rattle.study_text.specs.Packing.{reportOf, tideReasons, Got, Turn, going, ended, stopped, entered}
-use Rattle.study_text.specs.Measured.{MeasuredStudy}
 
 -- why no more is read, as a turn
 abbrev pub overIs : Over → Contents → Turn

@@ -10,7 +10,7 @@ ghost use mathlib.Core.Path.{_≡_};
 ghost use lib.ListN.{length};
 ghost use Rattle.study.specs.Refusals.{verdictOf, firstOf};
 ghost use Rattle.validity.specs.Memory.{stateOf, studyOf, entryState, exitState};
-ghost use Rattle.study_text.specs.Packing.{measuredReasons};
+ghost use Rattle.study.specs.Calls.{measuredReasons};
 ghost use Rattle.study_text.specs.Reached.{Measuring, Took};
 
 // Enter's reasons but for the triangle inequality.
