@@ -5,5 +5,6 @@ pub mod MendLaws
 pub mod ReadingLaws
 pub mod ReadBack
 pub mod TextLength
+pub mod TextLaws
 pub mod CasesProof
 pub mod Proofs

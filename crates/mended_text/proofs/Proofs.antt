@@ -1,4 +1,4 @@
--- The record of specs/Theorems.antt: `for-mended`. Assumes nothing.
+-- The statements of specs/Theorems.antt: `for-mended`, `for-texts`. Assumes nothing.
 use Prim.Native.Nat.{ℕ, _+_, _≤_, _<_}
 use native.Mathlib.Omega.{arith}
 use mathlib.Core.Path.{_≡_, refl, sym, ap, _∙_, subst}
@@ -18,7 +18,8 @@ use Rattle.metric_closure.proofs.Proofs.{for-table}
 use Rattle.study_text.specs.declared.Rule.the-variants as RuleCase
 use Rattle.study_text.specs.Packing.{ended, textOf}
 use Rattle.mended_text.specs.Mending.{lowered, mendedTide, mended, mendedText}
-use Rattle.mended_text.specs.Theorems.{fresh, ForMended}
+use Rattle.mended_text.specs.Theorems.{fresh, ForMended, ForTexts}
+use Rattle.mended_text.proofs.TextLaws.{text-measured}
 use Rattle.mended_text.proofs.ReadBack.{read-back}
 use Rattle.mended_text.proofs.TextLength.{text-short}
 
@@ -139,3 +140,6 @@ for-mended S W =
       short = text-fits S W;
       read-back = text-read S W;
     }
+
+pub for-texts : ForTexts
+for-texts text H l e = for-mended (H .study) (text-measured text H l e)

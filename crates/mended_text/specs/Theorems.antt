@@ -1,8 +1,9 @@
--- What is proved of a measured study and its mended text; there are no proofs here. `for-mended` of Proofs.antt proves the record.
+-- What is proved of a measured study and its mended text; there are no proofs here. `for-mended` and `for-texts` of Proofs.antt prove it.
 -- Assumes nothing.
 use Prim.Native.Nat.{ℕ, _≤_, _<_}
 use mathlib.Core.Path.{_≡_}
 use mathlib.Core.Logic.{_↔_}
+use mathlib.Core.List.{List}
 use lib.ListN.{length}
 use Rattle.study.specs.Study.{Study, Contents, size, tide, distance, TriangleInequality, Valid}
 use Rattle.metric_closure.specs.Closure.{closure}
@@ -26,3 +27,7 @@ pub record ForMended (S : Study) : Type 0 where
   -- pack takes its text, and reads the mended study from it
   pub short : length (mendedText S) ≤ 131072
   pub read-back : (l : ℕ) × (textOf RuleCase.Entered (mendedText S) ≡ ended (fresh (mended S)) l)
+
+-- of every text that mend takes: its study is such a one
+abbrev pub ForTexts : Type 0
+ForTexts = (text : List ℕ) (H : Contents) (l : ℕ) → textOf RuleCase.Measured text ≡ ended H l → ForMended (H .study)
