@@ -1,4 +1,4 @@
--- Refusals by document 01's numbers, and lists of reasons of which the first that holds counts. Assumes nothing.
+-- Refusals by the numbers of documents 01 and 02, and lists of reasons of which the first that holds counts. Assumes nothing.
 use Prim.Native.Nat.{ℕ}
 use mathlib.Core.Bool.{Bool, cond, not}
 use mathlib.Core.List.{List, [], _∷_}
@@ -17,7 +17,7 @@ pub data Verdict : Type 0 where
   accepted : Verdict
   refused : Numbered → Verdict
 
--- document 01's number and values of each refusal of the code
+-- the documents' number and values of each refusal of the code
 abbrev pub numbered : Refusal → Numbered
 numbered RefusalCase.ShortMemory = number 1
 numbered RefusalCase.SettingCount = number 2

@@ -47,7 +47,7 @@ pub struct Dataset {
     pub withdrawn: u16,
 }
 
-// Why a call is refused. `specs/Refusals.antt` gives each case document 01's number and values.
+// Why a call is refused. `specs/Refusals.antt` gives each case its number in documents 01 and 02, and its values.
 pub enum Refusal {
     ShortMemory,
     SettingCount,

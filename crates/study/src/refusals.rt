@@ -1,4 +1,4 @@
-// Document 01's numbers of the refusals.
+// The numbers of the refusals, as documents 01 and 02 give them.
 use crate::Answer;
 use crate::Refusal;
 ghost use mathlib.Core.Path.{_≡_};
