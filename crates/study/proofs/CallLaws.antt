@@ -156,6 +156,21 @@ valid-measured ok =
       distance-high = ok .distance-high;
     }
 
+-- and the other way round, with the triangle inequality
+pub measured-valid : {S : Study} → MeasuredStudy S → TriangleInequality S → Valid S
+measured-valid ok R =
+    record {
+      k-low = ok .k-low;
+      k-high = ok .k-high;
+      few = ok .few;
+      minima = ok .minima;
+      setting-low = ok .setting-low;
+      setting-high = ok .setting-high;
+      row-length = ok .row-length;
+      distance-high = ok .distance-high;
+      triangle = R;
+    }
+
 -- what a measured tide tells that is accepted
 pub record Measures (S : Study) (s : ℕ) (row : List ℕ) : Type 0 where
   pub room : size S < 120
@@ -255,18 +270,7 @@ enters-measures A =
 
 pub entered-valid : (s : ℕ) (row : List ℕ) (S : Study) → Valid S → Enters S s row → Valid (entered s row S)
 entered-valid s row S ok A =
-    let m = entered-measured s row S (valid-measured ok) (enters-measures A) in
-    record {
-      k-low = m .k-low;
-      k-high = m .k-high;
-      few = m .few;
-      minima = m .minima;
-      setting-low = m .setting-low;
-      setting-high = m .setting-high;
-      row-length = m .row-length;
-      distance-high = m .distance-high;
-      triangle = entered-triangle s row S (A .obeyed) (ok .triangle);
-    }
+    measured-valid (entered-measured s row S (valid-measured ok) (enters-measures A)) (entered-triangle s row S (A .obeyed) (ok .triangle))
 
 pub entering-valid : (s : ℕ) (row : List ℕ) (H : Contents) → ValidContents H → firstOf (enterReasons (H .study) s row) ≡ accepted
     → ValidContents (entering s row H)
