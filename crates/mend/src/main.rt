@@ -1,8 +1,8 @@
 // Mends the measured study that stands as text on standard input: the same study with its distances lowered goes to standard output, as
 // text. Where the text is wrong, one line about it goes to standard error, and nothing to standard output.
+use closure_text::TEXT_ROOM;
+use closure_text::mend;
 use libc::STDIN_FILENO;
-use mended_text::TEXT_ROOM;
-use mended_text::mend;
 use text_report::write_report;
 
 fn main() {

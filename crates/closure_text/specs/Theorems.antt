@@ -1,0 +1,33 @@
+-- What is proved of a measured study, its closure and the closure's text; there are no proofs here. `for-closure` and `for-texts` of Proofs.antt prove it.
+-- Assumes nothing.
+use Prim.Native.Nat.{ℕ, _≤_, _<_}
+use mathlib.Core.Path.{_≡_}
+use mathlib.Core.Logic.{_↔_}
+use mathlib.Core.List.{List}
+use lib.ListN.{length}
+use Rattle.study.specs.Study.{Study, Contents, size, tide, distance, TriangleInequality, Valid}
+use Rattle.metric_closure.specs.Closure.{closure}
+use Rattle.study_text.specs.declared.Rule.the-variants as RuleCase
+use Rattle.study_text.specs.Packing.{ended, textOf}
+use Rattle.closure_text.specs.Text.{lowered, closedStudy, closureText}
+
+-- a study with nothing withdrawn
+abbrev pub fresh : Study → Contents
+fresh S = record { study = S; withdrawals = 0 }
+
+-- of every study as document 01 describes it, but for the triangle inequality
+pub record ForClosure (S : Study) : Type 0 where
+  -- its closure is a valid study: the settings stay, the distances are the closure of those measured
+  pub valid : Valid (closedStudy S)
+  pub settings : (t : ℕ) → t < size S → tide (closedStudy S) t .setting ≡ tide S t .setting
+  pub distances : (t u : ℕ) → t < size S → u < size S → distance (closedStudy S) t u ≡ closure (size S) (distance S) t u
+  -- a study that obeys the triangle inequality stays as it was; then, and only then, no pair is lowered
+  pub own : TriangleInequality S → closedStudy S ≡ S
+  pub none-lowered : lowered S ≡ 0 ↔ TriangleInequality S
+  -- pack takes the closure's text, and reads the closure from it
+  pub short : length (closureText S) ≤ 131072
+  pub read-back : (l : ℕ) × (textOf RuleCase.Entered (closureText S) ≡ ended (fresh (closedStudy S)) l)
+
+-- of every text that mend takes: its study is such a one
+abbrev pub ForTexts : Type 0
+ForTexts = (text : List ℕ) (H : Contents) (l : ℕ) → textOf RuleCase.Measured text ≡ ended H l → ForClosure (H .study)

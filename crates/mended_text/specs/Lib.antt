@@ -1,5 +1,0 @@
--- To be read beside document 02, 2.1: Mending; what is proved of it: Theorems, Cases. Rows: an inner promise.
-pub mod Mending
-pub mod Theorems
-pub mod Cases
-pub mod Rows
