@@ -18,7 +18,7 @@ use Rattle.metric_closure.proofs.Proofs.{for-table}
 use Rattle.study_text.specs.declared.Rule.the-variants as RuleCase
 use Rattle.study_text.specs.Packing.{ended, textOf}
 use Rattle.closure_text.specs.Text.{lowered, closedTide, closedStudy, closureText}
-use Rattle.closure_text.specs.Theorems.{fresh, ForClosure, ForTexts}
+use Rattle.closure_text.specs.Theorems.{fresh, EveryStudy, EveryText}
 use Rattle.closure_text.proofs.TextLaws.{text-measured}
 use Rattle.closure_text.proofs.ReadBack.{read-back}
 use Rattle.closure_text.proofs.TextLength.{text-short}
@@ -129,7 +129,7 @@ module _ (S : Study) where
     unfolding closureText
     text-fits = text-short (lowered S) M pairs-few closed-valid
 
-pub for-closure : (S : Study) → MeasuredStudy S → ForClosure S
+pub for-closure : EveryStudy
 for-closure S W =
     record {
       valid = closed-valid S W;
@@ -141,5 +141,5 @@ for-closure S W =
       read-back = text-read S W;
     }
 
-pub for-texts : ForTexts
+pub for-texts : EveryText
 for-texts text H l e = for-closure (H .study) (text-measured text H l e)

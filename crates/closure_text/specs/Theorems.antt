@@ -1,11 +1,11 @@
--- What is proved of a measured study, its closure and the closure's text; there are no proofs here. `for-closure` and `for-texts` of Proofs.antt prove it.
--- Assumes nothing.
+-- What is proved of a measured study, its closure and the closure's text; there are no proofs here. `for-closure` and `for-texts` of
+-- Proofs.antt prove `EveryStudy` and `EveryText`. Assumes nothing.
 use Prim.Native.Nat.{ℕ, _≤_, _<_}
 use mathlib.Core.Path.{_≡_}
 use mathlib.Core.Logic.{_↔_}
 use mathlib.Core.List.{List}
 use lib.ListN.{length}
-use Rattle.study.specs.Study.{Study, Contents, size, tide, distance, TriangleInequality, Valid}
+use Rattle.study.specs.Study.{Study, Contents, size, tide, distance, TriangleInequality, Valid, MeasuredStudy}
 use Rattle.metric_closure.specs.Closure.{closure}
 use Rattle.study_text.specs.declared.Rule.the-variants as RuleCase
 use Rattle.study_text.specs.Packing.{ended, textOf}
@@ -15,7 +15,7 @@ use Rattle.closure_text.specs.Text.{lowered, closedStudy, closureText}
 abbrev pub fresh : Study → Contents
 fresh S = record { study = S; withdrawals = 0 }
 
--- of every study as document 01 describes it, but for the triangle inequality
+-- the closure of a measured study, and its text
 pub record ForClosure (S : Study) : Type 0 where
   -- its closure is a valid study: the settings stay, the distances are the closure of those measured
   pub valid : Valid (closedStudy S)
@@ -28,6 +28,10 @@ pub record ForClosure (S : Study) : Type 0 where
   pub short : length (closureText S) ≤ 131072
   pub read-back : (l : ℕ) × (textOf RuleCase.Entered (closureText S) ≡ ended (fresh (closedStudy S)) l)
 
--- of every text that mend takes: its study is such a one
-abbrev pub ForTexts : Type 0
-ForTexts = (text : List ℕ) (H : Contents) (l : ℕ) → textOf RuleCase.Measured text ≡ ended H l → ForClosure (H .study)
+-- of any study as document 01 describes it, but for the triangle inequality
+abbrev pub EveryStudy : Type 0
+EveryStudy = (S : Study) → MeasuredStudy S → ForClosure S
+
+-- of any text that mend takes: its study is such a one
+abbrev pub EveryText : Type 0
+EveryText = (text : List ℕ) (H : Contents) (l : ℕ) → textOf RuleCase.Measured text ≡ ended H l → ForClosure (H .study)

@@ -1,4 +1,4 @@
--- The two records at the end of Theorems.antt: `for-table` and `for-call`. Assumes nothing.
+-- The statements of Theorems.antt: `for-table` and `for-call`. Assumes nothing.
 use Prim.Native.Nat.{ℕ, _*_, _/_, _%_, _≤_, _<_}
 use native.Mathlib.Omega.{arith}
 use mathlib.Core.Path.{_≡_, refl, sym, ap, _∙_, subst}
@@ -14,13 +14,13 @@ use Rattle.study.specs.Refusals.{Verdict, accepted, refused, settled, value}
 use Rattle.study.proofs.CallLaws.{none-holds}
 use Rattle.metric_closure.specs.Closure.{closure, loweredPairs}
 use Rattle.metric_closure.specs.Call.{entry, inRange, symmetricRow, symmetricTable, closeReasons, closeVerdict, closedTable, closeAnswer, closeLeaves}
-use Rattle.metric_closure.specs.Theorems.{Dissimilarity, TriangleInequality, ForTable, Closable, ForCall}
+use Rattle.metric_closure.specs.Theorems.{Dissimilarity, TriangleInequality, ForTable, EveryTable, Closable, EveryCall}
 use Rattle.metric_closure.specs.Tables.{Fits}
 use Rattle.metric_closure.proofs.ClosureLaws.{table-laws, dissimilarity-same, triangle-same}
 use Rattle.metric_closure.proofs.TableLaws.{in-row, entry-near, places-near}
 use Rattle.metric_closure.proofs.CallLaws.{closed-long, closed-at, near-of, accepts}
 
-pub for-table : (n : ℕ) (dist : ℕ → ℕ → ℕ) → Dissimilarity n dist → ForTable n dist
+pub for-table : EveryTable
 for-table = table-laws
 
 -- ---- what the tests say
@@ -137,7 +137,7 @@ either n l = by (closeVerdict n l) refl
     by accepted e = inl (closable-of n l e)
     by (refused r) e = inr (ap (λ v. settled v (closedTable n l) l) e)
 
-pub for-call : (n : ℕ) (l : List ℕ) → ForCall n l
+pub for-call : EveryCall
 for-call n l =
     record {
       exactly = (closable-of n l, of-closable n l);

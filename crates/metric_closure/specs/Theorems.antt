@@ -1,5 +1,5 @@
 -- What is proved of the closure, for every number of tides and every table; there are no proofs here. `for-table` and `for-call` of
--- Proofs.antt prove the two records at the end. Assumes nothing.
+-- Proofs.antt prove `EveryTable` and `EveryCall`. Assumes nothing.
 use Prim.Native.Nat.{ℕ, _+_, _*_, _≤_, _<_}
 use mathlib.Core.Path.{_≡_}
 use mathlib.Core.Logic.{_↔_}
@@ -30,7 +30,7 @@ pub record Chain (n : ℕ) (dist : ℕ → ℕ → ℕ) (i j s : ℕ) : Type 0 w
   pub inside : (t : ℕ) → t among between → t < n
   pub sums : chainSum dist i between j ≡ s
 
--- document 02's sentences on the mended table, for distances that are the same both ways with 0 from each tide to itself
+-- document 02's sentences on the mended table
 pub record ForTable (n : ℕ) (dist : ℕ → ℕ → ℕ) : Type 0 where
   -- the least sum over any chain: no chain has less, and some chain has it
   pub least : (i j s : ℕ) → Chain n dist i j s → closure n dist i j ≤ s
@@ -45,6 +45,10 @@ pub record ForTable (n : ℕ) (dist : ℕ → ℕ → ℕ) : Type 0 where
   pub own : TriangleInequality n dist → (i j : ℕ) → i < n → j < n → closure n dist i j ≡ dist i j
   pub none-lowered : loweredPairs n dist ≡ 0 ↔ TriangleInequality n dist
 
+-- of any distances that are the same both ways, with 0 from each tide to itself
+abbrev pub EveryTable : Type 0
+EveryTable = (n : ℕ) (dist : ℕ → ℕ → ℕ) → Dissimilarity n dist → ForTable n dist
+
 -- a table in memory that no reason refuses
 pub record Closable (n : ℕ) (l : List ℕ) : Type 0 where
   pub few : n ≤ maxTides
@@ -52,7 +56,7 @@ pub record Closable (n : ℕ) (l : List ℕ) : Type 0 where
   pub near : (i j : ℕ) → i < n → j < n → entry n l i j ≤ maxDistance
   pub symmetric : Dissimilarity n (entry n l)
 
--- of every number of tides and every memory
+-- what the call does
 pub record ForCall (n : ℕ) (l : List ℕ) : Type 0 where
   -- the reasons are exact
   pub exactly : closeVerdict n l ≡ accepted ↔ Closable n l
@@ -65,3 +69,7 @@ pub record ForCall (n : ℕ) (l : List ℕ) : Type 0 where
   pub untouched : TriangleInequality n (entry n l) → closeLeaves n l ≡ l
   -- closed twice is closed once
   pub twice : closeLeaves n (closeLeaves n l) ≡ closeLeaves n l
+
+-- of any number of tides and any memory
+abbrev pub EveryCall : Type 0
+EveryCall = (n : ℕ) (l : List ℕ) → ForCall n l
