@@ -3,9 +3,10 @@ use Prim.Native.Nat.{ℕ, _+_, _*_, _≤_, _<_}
 use native.Mathlib.Omega.{arith}
 use native.Mathlib.Numerals.{add-one}
 use mathlib.Core.Path.{_≡_, refl, sym, ap, _∙_, subst}
-use mathlib.Core.Bool.{cond, not}
+use mathlib.Core.Bool.{Bool, true, false, cond, not}
 use mathlib.Core.List.{List, [], _∷_, _++_}
 use lib.Dec.{leb, eqb}
+use borrow.Author.Tests.{lt-leb, eq-eqb}
 use lib.ListN.{length, take, getD, set, length-set, List·getD-append}
 use lib.Seq.{ext-getD, getD-take, getD-append-add, getD-set-same, getD-set-other, length-take-le}
 use Rattle.lists.specs.Lists.{at, between, every, tabulate}
@@ -102,6 +103,20 @@ pub measured-ladder : (s : State) (x : ℕ) (row : List ℕ)
     (cond (not (every (length row) (λ i. leb (getD row i 0) 1048575))) (refused (number 6)) accepted)))
 unfolding measuredReasons firstOf studyOf
 measured-ladder s x row = rw (study-size s)
+
+-- past 22, 4 and 5 its distances decide
+module _ (s : State) (x : ℕ) (row : List ℕ) (room : s .dataset .n < 120) (long : length row ≡ s .dataset .n) (set : between 1 (s .dataset .k) x ≡ true) where
+  abbrev near? : Bool
+  near? = every (length row) (λ i. leb (getD row i 0) 1048575)
+
+  measured-last : firstOf (measuredReasons (studyOf s) x row) ≡ cond (not near?) (refused (number 6)) accepted
+  measured-last = rw (measured-ladder s x row, lt-leb 120 (s .dataset .n) room, eq-eqb (length row) (s .dataset .n) long, set)
+
+  pub measured-far : near? ≡ false → refused (number 6) ≡ firstOf (measuredReasons (studyOf s) x row)
+  measured-far far = rw (measured-last, far)
+
+  pub measured-near : near? ≡ true → accepted ≡ firstOf (measuredReasons (studyOf s) x row)
+  measured-near near = rw (measured-last, near)
 
 -- what an accepted tide tells of record and memory
 pub record MeasureAccepted (s : State) (x : ℕ) (row : List ℕ) : Type 0 where

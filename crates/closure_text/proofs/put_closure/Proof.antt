@@ -17,31 +17,31 @@ fill-table-requires c κs =
 
 close-table-requires : tie.Need-close-table-requires
 close-table-requires c κs =
-    let filling = c .before .before in
-    let start = filling .before .before .before .before .before in
+    let fill = c .before .before in
+    let start = fill .before .before .before .before .before in
     let a = start .args in
-    closable (stateOf (a .dataset) (a .distances .now) (a .settings .now)) (start .pre .0) (filling .fill-table .ensures)
+    closable (stateOf (a .dataset) (a .distances .now) (a .settings .now)) (start .pre .0) (fill .fill-table .ensures)
 
 put-study-requires : tie.Need-put-study-requires
 put-study-requires c κs =
     let closing = c .before .before .before in
-    let filling = closing .before .before .before in
-    let start = filling .before .before .before .before .before in
+    let fill = closing .before .before .before in
+    let start = fill .before .before .before .before .before in
     let a = start .args in
     let held = start .pre .0 in
     let s = stateOf (a .dataset) (a .distances .now) (a .settings .now) in
-    (printable s held (filling .fill-table .ensures) (closing .close-table .ensures .1), (few-settings s held, start .pre .1))
+    (printable s held (fill .fill-table .ensures) (closing .close-table .ensures .1), (few-settings s held, start .pre .1))
 
 returns : tie.Need-returns
 returns c =
     let putting = c .before .before in
     let closing = putting .before .before .before .before in
-    let filling = closing .before .before .before in
-    let start = filling .before .before .before .before .before in
+    let fill = closing .before .before .before in
+    let start = fill .before .before .before .before .before in
     let a = start .args in
     let s = stateOf (a .dataset) (a .distances .now) (a .settings .now) in
     let closed = closing .close-table .ensures in
-    closure-put s (start .pre .0) (filling .fill-table .ensures) (closed .1) (closed .0) (putting .put-study .ensures)
+    closure-put s (start .pre .0) (fill .fill-table .ensures) (closed .1) (closed .0) (putting .put-study .ensures)
 
 pub put-closure-spec : {M : Type 1} → statement M
 put-closure-spec =

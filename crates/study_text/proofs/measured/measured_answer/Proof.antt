@@ -2,7 +2,7 @@
 use borrow.Author.Needs.{needs}
 use borrow.Author.Tests.{le-leb, lt-leb, eq-eqb, ne-eqb}
 use Rattle.lists.proofs.Scans.{between-in, between-low, between-high, test-passes, test-fails}
-use Rattle.study_text.proofs.MeasuredLaws.{measured-ladder}
+use Rattle.study_text.proofs.MeasuredLaws.{measured-ladder, measured-far, measured-near}
 use Rattle.study_text.proofs.measured.measured_answer.Statement.{statement}
 use Rattle.study_text.proofs.measured.measured_answer.Tie as tie
 
@@ -22,29 +22,20 @@ returns-4 c =
     let at-length = c .before .before in
     rw (measured-ladder _ _ _, lt-leb _ _ (at-length .before .if1 .left), eq-eqb _ _ (at-length .if2 .left), between-high 1 _ _ (c .if4 .taken))
 
+-- past 22, 4 and 5 the distances decide
 returns-5 : tie.Need-returns-5
 returns-5 c =
     let at-setting = c .before .before in
     let at-length = at-setting .before .before in
-    rw (
-      measured-ladder _ _ _,
-      lt-leb _ _ (at-length .before .if1 .left),
-      eq-eqb _ _ (at-length .if2 .left),
-      between-in 1 _ _ (at-setting .before .if3 .left) (at-setting .if4 .left),
-      test-fails (c .before .row-in-range .ensures) (c .if5 .taken),
-    )
+    let setting = between-in 1 _ _ (at-setting .before .if3 .left) (at-setting .if4 .left) in
+    measured-far _ _ _ (at-length .before .if1 .left) (at-length .if2 .left) setting (test-fails (c .before .row-in-range .ensures) (c .if5 .taken))
 
 returns-6 : tie.Need-returns-6
 returns-6 c =
     let at-setting = c .before .before in
     let at-length = at-setting .before .before in
-    rw (
-      measured-ladder _ _ _,
-      lt-leb _ _ (at-length .before .if1 .left),
-      eq-eqb _ _ (at-length .if2 .left),
-      between-in 1 _ _ (at-setting .before .if3 .left) (at-setting .if4 .left),
-      test-passes (c .before .row-in-range .ensures) (c .if5 .left),
-    )
+    let setting = between-in 1 _ _ (at-setting .before .if3 .left) (at-setting .if4 .left) in
+    measured-near _ _ _ (at-length .before .if1 .left) (at-length .if2 .left) setting (test-passes (c .before .row-in-range .ensures) (c .if5 .left))
 
 pub measured-answer-spec : {M : Type 1} → statement M
 measured-answer-spec =
