@@ -3,13 +3,14 @@ use Prim.Native.Nat.{ℕ, suc, _+_, _-_, _≤_, _<_}
 use native.Mathlib.Omega.{arith}
 use native.Mathlib.Numerals.{add-one}
 use mathlib.Core.Path.{_≡_, refl, sym, ap, ap₂, _∙_}
-use mathlib.Core.Bool.{Bool, true, false, cond, not}
+use mathlib.Core.Logic.{_⊎_, inl, inr, ⊎-elim}
+use mathlib.Core.Bool.{Bool, true, false, cond, not, true≢false}
 use mathlib.Core.List.{List, []}
 use lib.Dec.{leb, eqb}
 use lib.ListN.{length, getD, set, replicate}
 use borrow.Author.Tests.{le-leb, lt-leb, eq-eqb, ne-eqb}
 use Rattle.lists.specs.Lists.{between, every, overwrite}
-use Rattle.lists.proofs.Tests.{true-T}
+use Rattle.lists.proofs.Tests.{true-T, split}
 use Rattle.study.specs.Limits.{cell}
 use Rattle.study.specs.declared.Minima.{Minima}
 use Rattle.study.specs.declared.Dataset.{Dataset}
@@ -18,10 +19,11 @@ use Rattle.study.specs.declared.Answer.{Answer}
 use Rattle.study.specs.declared.Answer.the-variants.{Done, Refused}
 use Rattle.study.specs.Study.{Study, Contents, size, tide, distance, validMinima}
 use Rattle.study.specs.Refusals.{Numbered, number, seven, numbered, Verdict, accepted, refused, verdictOf, settled, Reason, firstOf, freshReasons, heldReasons}
-use Rattle.study.specs.Calls.{openReasons, opened, opening, minimaReasons, withMinima, settingMinima, Pair, violations, enterReasons, entered, entering}
-use Rattle.study.specs.Calls.{withdrawReasons, withdrawn, withdrawing}
+use Rattle.study.specs.Calls.{openReasons, opened, opening, sumOfParts, understood, minimaReasons, withMinima, settingMinima, Pair, violations}
+use Rattle.study.specs.Calls.{enterReasons, entered, entering, withdrawReasons, withdrawn, withdrawing}
 use Rattle.study.specs.Theorems.{ValidContents}
 use Rattle.study.proofs.CallLaws.{enters, entered-size, withdraws, withdrawn-size}
+use Rattle.study.proofs.MinimaLaws.{understood-raised, too-much}
 use Rattle.validity.specs.Memory.{State, stateOf, short, isDataset, studyOf, contentsOf, setK, setSize, setMinima, setCount, recordOf, distancesOf}
 use Rattle.validity.specs.Memory.{settingsOf, stored}
 use Rattle.dataset.specs.Answers.{freshAnswer, freshLeaves, heldAnswer, heldLeaves, openAnswer, openLeaves, minimaAnswer, minimaLeaves, enterAnswer}
@@ -34,7 +36,7 @@ use Rattle.storage.proofs.PlaceLaws.{cleared-distances, cleared-settings, enter
 use Rattle.storage.specs.Places.{withRow, movedDistance, movedSetting}
 use Rattle.triangle.specs.declared.Violation.{Violation}
 use Rattle.triangle.specs.declared.Violation.the-variants as ViolationCase
-use Rattle.dataset.specs.Accepted.{Passed, EnterAccepted, WithdrawAccepted}
+use Rattle.dataset.specs.Accepted.{Passed, testedMinima, EnterAccepted, WithdrawAccepted}
 
 -- a refused call leaves everything
 stays : {a : Answer} {x : Refusal} {v : Verdict} (new old : State) → a ≡ Refused x → verdictOf a ≡ v → old ≡ settled v new old
@@ -150,30 +152,61 @@ module _ (s : State) {a : Answer} {x : Refusal} (e : a ≡ Refused x) where
 
 -- ---- Minima
 
+-- the record that the code tests
+module _ (M : Minima) {sum : ℕ} (e : sum ≡ sumOfParts M) where
+  pub tested-given : 120 < sum → M ≡ testedMinima M
+  tested-given h = rw (lt-leb (sumOfParts M) 120 (omega arith))
+
+  pub tested-understood : sum ≤ 120 → {N : Minima} → understood M ≡ N → N ≡ testedMinima M
+  tested-understood h q = sym q ∙ rw (le-leb (sumOfParts M) 120 (omega arith))
+
+  pub tested-raised : sum ≤ 120 → 1 ≤ M .b0 → M .b0 < sum → record { b0 = sum; b = M .b } ≡ testedMinima M
+  tested-raised h low below =
+      ap (λ (x : ℕ). record { b0 = x; b = M .b }) e ∙ tested-understood h (understood-raised M low (omega arith))
+
 module _ (s : State) (M : Minima) (P : Passed s) where
   minima-own : (v : Verdict) → firstOf (minimaReasons (studyOf s) M) ≡ v → v ≡ minimaAnswer s M
   unfolding minimaAnswer contentsOf
   minima-own v q = sym q ∙ held-own s (λ H. minimaReasons (H .study) M) (P .not-short) (P .tested)
 
-  pub minima-3 : validMinima (s .dataset .k) M ≡ false → (refused (number 3) ≡ minimaAnswer s M) × (s ≡ minimaLeaves s M)
+  refused-3 : validMinima (s .dataset .k) (understood M) ≡ false → (refused (number 3) ≡ minimaAnswer s M) × (s ≡ minimaLeaves s M)
   unfolding minimaLeaves heldLeaves minimaAnswer minimaReasons firstOf studyOf
-  minima-3 f =
+  refused-3 f =
       let a = minima-own (refused (number 3)) (rw f) in
       (a, ap (λ v. settled v (stored (settingMinima M (contentsOf s)) s) s) a)
 
   -- the record with other minima, over the same memory
-  abbrev with-minima : State → State
-  with-minima t = stateOf (setMinima M (t .dataset)) (t .distances) (t .settings)
+  abbrev with-minima : Minima → State → State
+  with-minima N t = stateOf (setMinima N (t .dataset)) (t .distances) (t .settings)
 
-  minima-laid : with-minima s ≡ stored (settingMinima M (contentsOf s)) s
+  minima-laid : with-minima (understood M) s ≡ stored (settingMinima M (contentsOf s)) s
   unfolding stored recordOf settingMinima withMinima distancesOf settingsOf distance tide
-  minima-laid = sym (ap with-minima (own-layout s (P .study) (P .not-short)))
+  minima-laid = sym (ap (with-minima (understood M)) (own-layout s (P .study) (P .not-short)))
 
-  pub minima-done : validMinima (s .dataset .k) M ≡ true → (accepted ≡ minimaAnswer s M) × (with-minima s ≡ minimaLeaves s M)
+  taken : validMinima (s .dataset .k) (understood M) ≡ true → (accepted ≡ minimaAnswer s M) × (with-minima (understood M) s ≡ minimaLeaves s M)
   unfolding minimaLeaves heldLeaves minimaAnswer minimaReasons firstOf studyOf
-  minima-done f =
+  taken f =
       let a = minima-own accepted (rw f) in
       (a, minima-laid ∙ ap (λ v. settled v (stored (settingMinima M (contentsOf s)) s) s) a)
+
+  module _ {N : Minima} (e : N ≡ testedMinima M) where
+    -- what is tested is the record as understood, or neither is valid
+    understood-or-invalid : (N ≡ understood M) ⊎ ((validMinima (s .dataset .k) N ≡ false) × (validMinima (s .dataset .k) (understood M) ≡ false))
+    understood-or-invalid =
+        ⊎-elim (λ (h : 120 < sumOfParts M).
+        let n = too-much (s .dataset .k) M h in
+        inr (ap (validMinima (s .dataset .k)) (e ∙ sym (tested-given M refl h)) ∙ n .0, n .1))
+        (λ (h : sumOfParts M ≤ 120). inl (e ∙ sym (tested-understood M refl h refl)))
+        (split 120 (sumOfParts M))
+
+    pub minima-3 : validMinima (s .dataset .k) N ≡ false → (refused (number 3) ≡ minimaAnswer s M) × (s ≡ minimaLeaves s M)
+    minima-3 f = refused-3 (⊎-elim (λ q. ap (validMinima (s .dataset .k)) (sym q) ∙ f) (λ n. n .1) understood-or-invalid)
+
+    pub minima-done : validMinima (s .dataset .k) N ≡ true → (accepted ≡ minimaAnswer s M) × (with-minima N s ≡ minimaLeaves s M)
+    minima-done f =
+        ⊎-elim (λ q. let w = taken (ap (validMinima (s .dataset .k)) (sym q) ∙ f) in (w .0, ap (λ X. with-minima X s) q ∙ w .1))
+        (λ n. absurd (true≢false (sym f ∙ n .0)))
+        understood-or-invalid
 
 -- ---- Enter
 

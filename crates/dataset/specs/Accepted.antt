@@ -1,11 +1,13 @@
 -- Inner promises of the calls: what a call may rely on once it is accepted, or once short memory and 21 are past. Assumes nothing.
 use Prim.Native.Nat.{ℕ, _≤_, _<_}
 use mathlib.Core.Path.{_≡_}
-use mathlib.Core.Bool.{true, false}
+use mathlib.Core.Bool.{true, false, cond}
 use mathlib.Core.List.{List}
+use lib.Dec.{leb}
 use lib.ListN.{length}
 use Rattle.study.specs.Limits.{maxTides, maxWithdrawals}
-use Rattle.study.specs.Calls.{entering, withdrawing}
+use Rattle.study.specs.declared.Minima.{Minima}
+use Rattle.study.specs.Calls.{sumOfParts, understood, entering, withdrawing}
 use Rattle.validity.specs.Memory.{State, short, isDataset, contentsOf, stored}
 use Rattle.dataset.specs.Answers.{enterLeaves, withdrawLeaves}
 use Rattle.validity.specs.Validity.{IsStudy, Long}
@@ -16,6 +18,10 @@ pub record Passed (s : State) : Type 0 where
   pub tested : isDataset s ≡ true
   pub study : IsStudy s
   pub long : Long s
+
+-- the record that Minima tests: as understood, but as given where the b's are together above 120; then it is refused either way
+abbrev pub testedMinima : Minima → Minima
+testedMinima M = cond (leb (sumOfParts M) maxTides) (understood M) M
 
 -- what an accepted Enter tells
 pub record EnterAccepted (s : State) (setting : ℕ) (row : List ℕ) : Type 0 where

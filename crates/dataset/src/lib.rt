@@ -8,6 +8,7 @@ use study::MAX_WITHDRAWALS;
 use study::Minima;
 use study::Outcome;
 use study::Refusal;
+use study::wide;
 use triangle::Violation;
 use validity::is_short;
 ghost use mathlib.Core.Path.{_≡_};
@@ -16,7 +17,7 @@ ghost use Rattle.study.specs.Refusals.{verdictOf};
 ghost use Rattle.validity.specs.Memory.{stateOf, entryState, exitState};
 ghost use Rattle.dataset.specs.Answers.{heldAnswer, openAnswer, openLeaves, minimaAnswer, minimaLeaves, enterAnswer, enterLeaves, withdrawAnswer};
 ghost use Rattle.dataset.specs.Answers.{withdrawLeaves};
-ghost use Rattle.dataset.specs.Accepted.{Passed, EnterAccepted, WithdrawAccepted};
+ghost use Rattle.dataset.specs.Accepted.{Passed, testedMinima, EnterAccepted, WithdrawAccepted};
 
 // The dataset becomes empty, whatever it was.
 pub fn open(dataset: Dataset, distances: &mut [u32], settings: &mut [u8], k: u8) -> Outcome
@@ -71,7 +72,26 @@ pub fn check(dataset: Dataset, distances: &[u32], settings: &[u8]) -> Answer
     Answer::Refused(Refusal::NotDataset)
 }
 
-// Replaces the minima. The memory is only read.
+// The record as Minima understands it (document 02, 2.2). One whose b's are together above 120 stays: it is refused as it is.
+fn understood(minima: Minima) -> Minima
+    ensures { λ r. ⌜ r ≡ testedMinima minima ⌝ }
+{
+    let b0 = minima.b0;
+    let b = minima.b;
+    let sum = validity::sum_minima(b);
+    if MAX_TIDES < sum {
+        return minima;
+    }
+    if b0 < 1 {
+        return minima;
+    }
+    if sum <= wide(b0) {
+        return minima;
+    }
+    Minima { b0: sum as u8, b }
+}
+
+// Replaces the minima by those understood. The memory is only read.
 pub fn set_minima(dataset: Dataset, distances: &[u32], settings: &[u8], minima: Minima) -> Outcome
     ensures answer { λ r. ⌜ verdictOf (r .answer) ≡ minimaAnswer (entryState dataset distances settings) minima ⌝ }
     ensures leaves { λ r. ⌜ entryState (r .dataset) distances settings ≡ minimaLeaves (entryState dataset distances settings) minima ⌝ }
@@ -80,14 +100,15 @@ pub fn set_minima(dataset: Dataset, distances: &[u32], settings: &[u8], minima: 
     let Answer::Done = answer else {
         return Outcome { answer, dataset };
     };
-    if !validity::valid_minima(minima, dataset.k) {
+    let taken = understood(minima);
+    if !validity::valid_minima(taken, dataset.k) {
         return Outcome {
             answer: Answer::Refused(Refusal::Minima),
             dataset,
         };
     }
     let mut next = dataset;
-    next.minima = minima;
+    next.minima = taken;
     Outcome {
         answer,
         dataset: next,

@@ -15,8 +15,8 @@ use Rattle.lists.proofs.Tests.{T-true, T-false, not-not, test, split, between-T
 use Rattle.study.specs.declared.Minima.{Minima}
 use Rattle.study.specs.Study.{Tide, Study, Contents, size, noTide, tide, distance, validMinima, TriangleInequality, Valid, MeasuredStudy}
 use Rattle.study.specs.Refusals.{accepted, refused, Reason, firstOf}
-use Rattle.study.specs.Calls.{openReasons, opened, opening, minimaReasons, withMinima, settingMinima, violations, enterReasons}
-use Rattle.study.specs.Calls.{measuredReasons, entered, entering}
+use Rattle.study.specs.Calls.{openReasons, opened, opening, understood, minimaReasons, withMinima, settingMinima, violations}
+use Rattle.study.specs.Calls.{enterReasons, measuredReasons, entered, entering}
 use Rattle.study.specs.Calls.{withdrawReasons, removeAt, shortened, withdrawn, withdrawing, skip}
 use Rattle.study.specs.Theorems.{ValidContents}
 use Rattle.study.proofs.StudyLaws.{validMinima-T, distance-both-ways, distance-itself}
@@ -79,7 +79,7 @@ minima-valid M H ok e =
         k-low = S .k-low;
         k-high = S .k-high;
         few = S .few;
-        minima = not-not (validMinima (H .study .k) M) (none-holds (minimaReasons (H .study) M) e .0);
+        minima = not-not (validMinima (H .study .k) (understood M)) (none-holds (minimaReasons (H .study) M) e .0);
         setting-low = S .setting-low;
         setting-high = S .setting-high;
         row-length = S .row-length;

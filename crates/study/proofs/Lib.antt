@@ -5,5 +5,6 @@ pub mod Dictionary
 pub mod StudyLaws
 pub mod TriangleLaws
 pub mod CallLaws
+pub mod MinimaLaws
 pub mod Proofs
 pub mod RenumberingLaws

@@ -1,15 +1,18 @@
--- The three records of Theorems.antt. Assumes nothing.
+-- The records `For..` of Theorems.antt. Assumes nothing.
+use mathlib.Core.Path.{sym, subst}
 use mathlib.Core.Bool.{true}
 use lib.Dec.{T}
 use lib.ListN.{length}
+use Rattle.study.specs.declared.Minima.{Minima}
 use Rattle.study.specs.Problem.{Problem, centres, labels, radius, blocking}
-use Rattle.study.specs.Study.{Study, problem, Valid}
-use Rattle.study.specs.Theorems.{Lawful, Canonical, ForProblem, ForStudy, ForCalls}
+use Rattle.study.specs.Study.{Study, problem, validMinima, Valid}
+use Rattle.study.specs.Theorems.{Lawful, Canonical, ForProblem, ForStudy, ForCalls, ForMinima}
 use Rattle.study.proofs.ProblemLaws.{cover, apart, assignments-are, assignable-by, greatestDiameter-is, feasible-T}
 use Rattle.study.proofs.Approximation.{two-approximation, one-block, feasible-radius, blocking-assigns, feasible-exactly, assignable-exactly}
 use Rattle.study.proofs.Dictionary.{blocking-precedes, blocking-found}
 use Rattle.study.proofs.StudyLaws.{study-symmetric, study-lawful, study-reordered, ample-T}
 use Rattle.study.proofs.CallLaws.{opening-valid, minima-valid, entering-valid, withdrawing-valid}
+use Rattle.study.proofs.MinimaLaws.{acceptable-T, valid-understood, newly-below, below-invalid, minima-accepted}
 
 pub canonical : (P : Problem) → Lawful P → T (P .enough (λ t. true)) → Canonical P
 canonical P L h =
@@ -50,3 +53,17 @@ for-study S ok =
 
 pub for-calls : ForCalls
 for-calls = record { on-open = opening-valid; on-minima = minima-valid; on-enter = entering-valid; on-withdraw = withdrawing-valid }
+
+pub for-minima : (S : Study) (M : Minima) → ForMinima S M
+for-minima S M =
+    let a = acceptable-T (S .k) M in
+    let r = minima-accepted S M in
+    record {
+      exactly = (λ e. a .0 (r .1 e), λ A. r .0 (a .1 A));
+      as-before = λ t.
+          let e = valid-understood (S .k) M t in (r .0 (subst (λ N. T (validMinima (S .k) N)) (sym e) t), e);
+      newly = (
+        λ n. (a .0 (r .1 (n .0)), newly-below (S .k) M (r .1 (n .0)) (n .1)),
+        λ m. (r .0 (a .1 (m .0)), below-invalid (S .k) M (m .1)),
+      );
+    }

@@ -5,7 +5,7 @@ use mathlib.Core.Bool.{Bool, true, cond, not, _&&_}
 use mathlib.Core.List.{List, [], _∷_, _++_, map, flatMap}
 use lib.Dec.{leb, eqb, ltb}
 use lib.ListN.{length, getD, replicate}
-use Rattle.lists.specs.Lists.{between, each, iota, every, countBelow, filter, isEmpty}
+use Rattle.lists.specs.Lists.{between, each, iota, every, sumBelow, countBelow, filter, isEmpty}
 use Rattle.study.specs.Limits.{maxTides, maxSettings, maxDistance, maxWithdrawals}
 use Rattle.study.specs.declared.Minima.{Minima}
 use Rattle.study.specs.declared.BlockRecord.{BlockRecord}
@@ -33,17 +33,25 @@ opening k = record { study = opened k; withdrawals = 0 }
 
 -- ---- Minima
 
--- 3: minima that no study with this k has
+-- the b's together
+abbrev pub sumOfParts : Minima → ℕ
+sumOfParts M = sumBelow maxSettings (λ j. getD (M .b) j 0)
+
+-- document 02, 2.2: the record as Minima understands it: b0 is the sum of the b's where it is 1 or more and below that sum
+unfoldable pub understood : Minima → Minima
+understood M = cond (leb 1 (M .b0) && ltb (M .b0) (sumOfParts M)) (record { b0 = sumOfParts M; b = M .b }) M
+
+-- 3: minima, as understood, that no study with this k has
 unfoldable pub minimaReasons : Study → Minima → List Reason
-minimaReasons S M = (not (validMinima (S .k) M) ⇒ number 3) ∷ []
+minimaReasons S M = (not (validMinima (S .k) (understood M)) ⇒ number 3) ∷ []
 
 -- other minima
 unfoldable pub withMinima : Minima → Study → Study
 withMinima M S = record { k = S .k; minima = M; tides = S .tides }
 
--- the count stays
+-- those understood; the count stays
 unfoldable pub settingMinima : Minima → Contents → Contents
-settingMinima M H = withStudy (withMinima M (H .study)) H
+settingMinima M H = withStudy (withMinima (understood M) (H .study)) H
 
 -- ---- Enter
 

@@ -1,9 +1,9 @@
--- What is proved of the definitions; there are no proofs here. `for-problem`, `for-study` and `for-calls` of Proofs.antt prove the three
--- records at the end. Assumes nothing.
+-- What is proved of the definitions; there are no proofs here. `for-problem`, `for-study`, `for-calls` and `for-minima` of Proofs.antt prove
+-- the records `For..`. Assumes nothing.
 use Prim.Native.Nat.{ℕ, suc, _+_, _*_, _≤_, _<_}
 use mathlib.Core.Path.{_≡_}
 use mathlib.Core.Logic.{_⊎_, _↔_}
-use mathlib.Core.Bool.{Bool, true}
+use mathlib.Core.Bool.{Bool, true, not}
 use mathlib.Core.List.{List}
 use lib.Dec.{T, eqb}
 use lib.ListN.{length, getD, take}
@@ -12,9 +12,11 @@ use Rattle.study.specs.Limits.{maxWithdrawals, maxSettings}
 use Rattle.study.specs.declared.Minima.{Minima}
 use Rattle.study.specs.Problem.{Problem, centres, centreOf, block, labels, assignments, assignable, candidates, radius, blocking}
 use Rattle.study.specs.Problem.{diameter, greatestDiameter, Feasible, feasible}
-use Rattle.study.specs.Study.{Study, Contents, size, tide, problem, Valid, Renumbered}
+use Rattle.study.specs.Study.{Study, Contents, size, tide, problem, validMinima, Valid, Renumbered}
 use Rattle.study.specs.Refusals.{accepted, firstOf}
-use Rattle.study.specs.Calls.{openReasons, opening, minimaReasons, settingMinima, enterReasons, entering, withdrawReasons, withdrawing}
+use Rattle.study.specs.Calls.{openReasons, opening, sumOfParts, understood, minimaReasons, settingMinima, enterReasons, entering}
+use Rattle.study.specs.Calls.{withdrawReasons, withdrawing}
+use Rattle.study.specs.Minima.{Acceptable}
 
 -- ---- what the theorems ask of a problem
 
@@ -117,3 +119,12 @@ pub record ForCalls : Type 0 where
   pub on-enter : (setting : ℕ) (row : List ℕ) (H : Contents) → ValidContents H → firstOf (enterReasons (H .study) setting row) ≡ accepted
       → ValidContents (entering setting row H)
   pub on-withdraw : (t : ℕ) (H : Contents) → ValidContents H → firstOf (withdrawReasons H t) ≡ accepted → ValidContents (withdrawing t H)
+
+-- what Minima accepts (document 02, 2.2), for every study and record; `on-minima` above says that what is accepted makes a valid dataset
+pub record ForMinima (S : Study) (M : Minima) : Type 0 where
+  -- reason 3 is exact
+  pub exactly : (firstOf (minimaReasons S M) ≡ accepted) ↔ Acceptable (S .k) M
+  -- a record that was accepted before is understood as it is, so it gives what it gave
+  pub as-before : T (validMinima (S .k) M) → (firstOf (minimaReasons S M) ≡ accepted) × (understood M ≡ M)
+  -- newly accepted are those with b0 below the sum, and no others
+  pub newly : ((firstOf (minimaReasons S M) ≡ accepted) × T (not (validMinima (S .k) M))) ↔ (Acceptable (S .k) M × (M .b0 < sumOfParts M))

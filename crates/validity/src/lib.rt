@@ -171,7 +171,7 @@ fn zeros_above(b: [u8; MAX_SETTINGS], k: u8) -> bool
 }
 
 // The b's together, with room for all of them.
-fn sum_minima(b: [u8; MAX_SETTINGS]) -> usize
+pub fn sum_minima(b: [u8; MAX_SETTINGS]) -> usize
     ensures { λ r. ⌜ r ≡ sumBelow maxSettings (λ j. getD b j 0) ⌝ }
 {
     let mut total: usize = 0;
@@ -183,7 +183,7 @@ fn sum_minima(b: [u8; MAX_SETTINGS]) -> usize
     total
 }
 
-// Reason 3.
+// Reason 3 of Read, and Minima's of the record as it is understood.
 pub fn valid_minima(minima: Minima, k: u8) -> bool
     ensures { λ r. ⌜ r ≡ validMinima k minima ⌝ }
 {

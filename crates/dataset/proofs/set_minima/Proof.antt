@@ -16,14 +16,15 @@ returns c =
 
 returns-2 : tie.Need-returns-2
 returns-2 c =
-    let e = c .before .before in
-    minima-3 _ _ (passed _ (e .enum-told .given .1) (e .before .before .check .ensures)) (test-fails (c .before .valid-minima .ensures) (c .if1 .taken))
+    let e = c .before .before .before in
+    let held = passed _ (e .enum-told .given .1) (e .before .before .check .ensures) in
+    minima-3 _ _ held (c .before .before .understood .ensures) (test-fails (c .before .valid-minima .ensures) (c .if1 .taken))
 
 returns-3 : tie.Need-returns-3
 returns-3 c =
-    let e = c .before .before in
+    let e = c .before .before .before in
     let held = passed _ (e .enum-told .given .1) (e .before .before .check .ensures) in
-    let w = minima-done _ _ held (test-passes (c .before .valid-minima .ensures) (c .if1 .left)) in
+    let w = minima-done _ _ held (c .before .before .understood .ensures) (test-passes (c .before .valid-minima .ensures) (c .if1 .left)) in
     (ap verdictOf (e .enum-told .given .1) ∙ w .0, w .1)
 
 pub set-minima-spec : {M : Type 1} → statement M
@@ -34,6 +35,7 @@ set-minima-spec =
     (λ c. search needs)
     (λ c. search needs)
     returns
+    (λ c κs. search needs)
     (λ c κs. search needs)
     returns-2
     returns-3)
