@@ -3,7 +3,7 @@ use Prim.Native.Nat.{ℕ, zero, suc, _+_, _-_, _≤_, _<_}
 use native.Mathlib.Omega.{arith}
 use mathlib.Core.Path.{_≡_, refl, sym, ap, ap₂, _∙_, subst}
 use mathlib.Core.Logic.{⊎-elim}
-use mathlib.Core.Bool.{true, cond}
+use mathlib.Core.Bool.{cond}
 use mathlib.Core.List.{List, [], _∷_, _++_, flatMap, append-assoc}
 use lib.Dec.{leb, ltb, le→leb}
 use lib.ListN.{length, take, drop, getD, List·getD-eq-default}
@@ -15,15 +15,15 @@ use Rattle.lists.proofs.Counts.{sum-suc}
 use Rattle.lists.proofs.Counting.{sum-front}
 use Rattle.lists.proofs.Scans.{between-in}
 use Rattle.lists.proofs.Tables.{tabulate-is}
-use Rattle.study.specs.declared.Minima.{Minima}
 use Rattle.study.specs.Minima.{MinimaFit}
-use Rattle.study.specs.Study.{Tide, Study, Contents, withTides, size, noTide, tide, distance, validMinima, Valid}
+use Rattle.study.specs.Study.{Tide, Study, Contents, withTides, size, noTide, tide, distance, Valid}
 use Rattle.study.specs.Refusals.{Verdict, accepted, firstOf}
-use Rattle.study.specs.Calls.{openReasons, opened, opening, minimaReasons, withMinima, settingMinima, violations, enterReasons, entering}
+use Rattle.study.specs.Calls.{openReasons, opened, opening, withMinima, settingMinima, violations, enterReasons, entering}
 use Rattle.study.specs.Calls.{entered as withTide}
 use Rattle.study.proofs.StudyLaws.{validMinima-T, distance-both-ways}
 use Rattle.study.proofs.TriangleLaws.{obeyed-of, triangle-of}
 use Rattle.study.proofs.CallLaws.{Enters}
+use Rattle.study.proofs.Proofs.{for-minima}
 use Rattle.file_format.proofs.DistanceLaws.{distance-row}
 use Rattle.metric_closure.specs.Tables.{InRange}
 use Rattle.sheet_text.specs.Text.{decimal}
@@ -44,10 +44,6 @@ use Rattle.closure_text.proofs.ReadingLaws.{ReadsRow, row-none, row-mor
 open-accepted : (k : ℕ) → 1 ≤ k → k ≤ 8 → firstOf (openReasons k) ≡ accepted
 unfolding firstOf openReasons
 open-accepted k l h = rw (between-in 1 8 k l h)
-
-minima-accepted : (S : Study) (M : Minima) → validMinima (S .k) M ≡ true → firstOf (minimaReasons S M) ≡ accepted
-unfolding firstOf minimaReasons
-minima-accepted S M e = rw e
 
 enters-accepted : (S : Study) (x : ℕ) (row : List ℕ) → Enters S x row → firstOf (enterReasons S x row) ≡ accepted
 unfolding firstOf enterReasons
@@ -208,8 +204,8 @@ module _ (S : Study) (ok : Valid S) where
         → Reads text (minimaOf text (opening (S .k)) c) (fresh (first 0 S)) (10 ∷ rest)
     unfolding minimaOf opening opened settingMinima withMinima
     minima-reads L =
-        reads-then _ (minima-row L .row) (λ d K.
-        rw minima-back (reads-called (minima-accepted (opened (S .k)) (S .minima) (T-true (validMinima (S .k) (S .minima)) (ok .minima))) refl K))
+        let before = for-minima (opened (S .k)) (S .minima) .as-before (ok .minima) in
+        reads-then _ (minima-row L .row) (λ d K. rw (minima-back, before .1) (reads-called (before .0) refl K))
 
 -- ---- turn after turn
 

@@ -42,9 +42,10 @@ textIn (ended H l) = closureText (H .study)
 textIn (going H c) = []
 textIn (stopped t) = []
 
--- a tide between lowers one pair; two in falling order lower three
+-- a tide between lowers one pair; two in falling order lower three; b0 is printed as it is understood
 abbrev pub Printed : Type 0
 Printed =
     map (λ (s : String). textIn (textOf RuleCase.Measured (ascii s)))
-    ("1 # k\n1 0\n1\n1 5\n1 9 2\n" ∷ "2\n2 1 0\n2\n1 9\n2 1 1\n1 9 1 9" ∷ [])
-    ≡ ascii "# 1 pairs lowered\n1\n1 0\n1\n1 5\n1 7 2\n" ∷ ascii "# 3 pairs lowered\n2\n2 1 0\n2\n1 2\n2 1 1\n1 3 1 2\n" ∷ []
+    ("1 # k\n1 0\n1\n1 5\n1 9 2\n" ∷ "2\n2 1 0\n2\n1 9\n2 1 1\n1 9 1 9" ∷ "2 1 1 1" ∷ [])
+    ≡ ascii "# 1 pairs lowered\n1\n1 0\n1\n1 5\n1 7 2\n" ∷ ascii "# 3 pairs lowered\n2\n2 1 0\n2\n1 2\n2 1 1\n1 3 1 2\n"
+    ∷ ascii "# 0 pairs lowered\n2\n2 1 1\n" ∷ []

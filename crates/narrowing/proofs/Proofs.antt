@@ -15,13 +15,13 @@ use Rattle.lists.proofs.Scans.{between-high}
 use Rattle.lists.proofs.Counts.{sum-suc}
 use Rattle.lists.proofs.Counting.{sum-front}
 use Rattle.study.specs.declared.Minima.{Minima}
-use Rattle.study.specs.Minima.{MinimaFit}
+use Rattle.study.specs.Minima.{Acceptable}
 use Rattle.study.specs.Study.{Contents, size, validMinima}
 use Rattle.study.specs.Refusals.{number, Verdict, accepted, refused, settled, Reason, firstOf, freshReasons, heldReasons}
-use Rattle.study.specs.Calls.{openReasons, opening, minimaReasons, settingMinima, enterReasons, entering, withdrawReasons, withdrawing}
+use Rattle.study.specs.Calls.{openReasons, opening, understood, minimaReasons, settingMinima, enterReasons, entering, withdrawReasons, withdrawing}
 use Rattle.study.specs.Theorems.{ValidContents}
-use Rattle.study.proofs.StudyLaws.{validMinima-T}
 use Rattle.study.proofs.CallLaws.{none-holds}
+use Rattle.study.proofs.MinimaLaws.{fit-acceptable, acceptable-T}
 use Rattle.validity.specs.Memory.{State, stateOf, setK, setMinima, short, isDataset, contentsOf, stored}
 use Rattle.validity.specs.Validity.{IsStudy}
 use Rattle.validity.proofs.Proofs.{for-datasets}
@@ -68,37 +68,39 @@ module _ (n x : ℕ) (few : n < 255) where
 narrow-at : (bs : List ℕ) (j : ℕ) → getD (map narrowed bs) j 0 ≡ narrowed (getD bs j 0)
 narrow-at bs j = ap (getD (map narrowed bs) j) (sym (narrow-small 0 (omega arith))) ∙ List·getD-map narrowed bs j 0
 
--- no b is above b0
-fit-small : {k : ℕ} {M : Minima} → MinimaFit k M → (j : ℕ) → j < length (M .b) → getD (M .b) j 0 ≤ 120
-fit-small {k} {M} F j h =
+-- no b is above their sum
+b-small : {k : ℕ} {M : Minima} → Acceptable k M → (j : ℕ) → j < length (M .b) → getD (M .b) j 0 ≤ 120
+b-small {k} {M} A j h =
     let b : ℕ → ℕ = λ i. getD (M .b) i 0 in
-    omega (arith, F .eight, F .sum, F .high, sum-suc j b, sum-front b (suc j) 8 (omega (arith, F .eight)))
+    omega (arith, A .eight, A .sum, sum-suc j b, sum-front b (suc j) 8 (omega (arith, A .eight)))
 
 module _ (k : ℕ) (M : Minima) where
   uncut : narrowed (M .b0) ≡ M .b0 → ((j : ℕ) → j < length (map narrowed (M .b)) → narrowed (getD (M .b) j 0) ≡ getD (M .b) j 0) → narrowMinima M ≡ M
   unfolding narrowMinima
   uncut e f = λ i. record { b0 = e i; b = ext-getD 0 (map narrowed (M .b)) (M .b) (length-map (M .b) narrowed) (λ j h. narrow-at (M .b) j ∙ f j h) i }
 
-  -- minima that fit, before or after, were not cut
-  fit-uncut : MinimaFit k M → narrowMinima M ≡ M
-  fit-uncut F =
-      uncut (narrow-small (M .b0) (omega (arith, F .high)))
-      (λ j h. narrow-small (getD (M .b) j 0) (omega (arith, fit-small F j (omega (arith, length-map (M .b) narrowed)))))
+  -- minima that Minima takes, before or after, were not cut
+  taken-uncut : Acceptable k M → narrowMinima M ≡ M
+  taken-uncut A =
+      uncut (narrow-small (M .b0) (omega (arith, A .high)))
+      (λ j h. narrow-small (getD (M .b) j 0) (omega (arith, b-small A j (omega (arith, length-map (M .b) narrowed)))))
 
-  narrow-uncut : MinimaFit k (narrowMinima M) → narrowMinima M ≡ M
+  narrow-uncut : Acceptable k (narrowMinima M) → narrowMinima M ≡ M
   unfolding narrowMinima
-  narrow-uncut F =
-      uncut (narrow-below (M .b0) (omega (arith, F .high)))
-      (λ j h. narrow-below (getD (M .b) j 0) (omega (arith, fit-small F j h, narrow-at (M .b) j)))
+  narrow-uncut A =
+      uncut (narrow-below (M .b0) (omega (arith, A .high)))
+      (λ j h. narrow-below (getD (M .b) j 0) (omega (arith, b-small A j h, narrow-at (M .b) j)))
 
-  valid-same : validMinima k (narrowMinima M) ≡ validMinima k M
+  abbrev valid? : Minima → Bool
+  valid? N = validMinima k (understood N)
+
+  valid-same : valid? (narrowMinima M) ≡ valid? M
   valid-same =
-      ⊎-elim (ap (validMinima k)) (λ n. n .0 ∙ sym (n .1))
-      (either (validMinima k (narrowMinima M)) (validMinima k M) (λ t. narrow-uncut (validMinima-T k (narrowMinima M) .0 t))
-      (λ t. fit-uncut (validMinima-T k M .0 t)))
+      ⊎-elim (ap valid?) (λ n. n .0 ∙ sym (n .1))
+      (either (valid? (narrowMinima M)) (valid? M) (λ t. narrow-uncut (acceptable-T k (narrowMinima M) .0 t)) (λ t. taken-uncut (acceptable-T k M .0 t)))
 
-  valid-uncut : T (not (not (validMinima k M))) → narrowMinima M ≡ M
-  valid-uncut t = fit-uncut (validMinima-T k M .0 (not-not (validMinima k M) t))
+  valid-uncut : T (not (not (valid? M))) → narrowMinima M ≡ M
+  valid-uncut t = taken-uncut (acceptable-T k M .0 (not-not (valid? M) t))
 
 -- ---- a call given other arguments: the same reasons, and the same contents where none of them holds
 
@@ -139,12 +141,12 @@ module _ (s : State) where
       λ i. stateOf (setK (e i) (setMinima (f i) (s .dataset))) (s .distances) (s .settings)
 
   dataset-uncut : IsStudy s → narrowState s ≡ s
-  dataset-uncut D = record-uncut (narrow-small (s .dataset .k) (omega (arith, D .k-high))) (fit-uncut (s .dataset .k) (s .dataset .minima) (D .minima))
+  dataset-uncut D = record-uncut (narrow-small (s .dataset .k) (omega (arith, D .k-high))) (taken-uncut (s .dataset .k) (s .dataset .minima) (fit-acceptable (D .minima)))
 
   narrow-dataset-uncut : IsStudy (narrowState s) → narrowState s ≡ s
   unfolding narrowDataset
   narrow-dataset-uncut D =
-      record-uncut (narrow-below (s .dataset .k) (omega (arith, D .k-high))) (narrow-uncut (narrowed (s .dataset .k)) (s .dataset .minima) (D .minima))
+      record-uncut (narrow-below (s .dataset .k) (omega (arith, D .k-high))) (narrow-uncut (narrowed (s .dataset .k)) (s .dataset .minima) (fit-acceptable (D .minima)))
 
   record-same : (own : Contents → List Reason) → (heldAnswer (narrowState s) own ≡ heldAnswer s own) × (heldAnswer s own ≡ accepted → narrowState s ≡ s)
   unfolding heldAnswer heldReasons freshReasons firstOf short

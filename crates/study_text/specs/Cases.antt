@@ -1,4 +1,4 @@
--- Texts and what is said of them. There are no proofs here: CasesProof.antt proves both statements, by computation. Assumes nothing.
+-- Texts and what is said of them. There are no proofs here: CasesProof.antt proves the three statements, by computation. Assumes nothing.
 use Prim.Native.String.{String}
 use mathlib.Core.Path.{_≡_}
 use mathlib.Core.List.{List, [], _∷_, map}
@@ -31,6 +31,10 @@ cases =
     ∷ ("" gives missing 1)
     ∷ ("1\n1" gives missing 2)
     ∷ ("1\n1 0\n1\n1\n" gives missing 5)
+    -- b's together 120 make b0 so, 121 and b0 = 0 are refused
+    ∷ ("1\n2 120" gives done 7)
+    ∷ ("1\n2 121" gives refusedAt 2 (number 3))
+    ∷ ("1\n0 1" gives refusedAt 2 (number 3))
     -- refused; numbers above 255 too
     ∷ ("9" gives refusedAt 1 (number 2))
     ∷ ("257" gives refusedAt 1 (number 2))
@@ -49,3 +53,7 @@ TextCases = map (λ (c : TextCase). packAnswer (ascii (c .text)) 8) cases ≡ ma
 -- the file of one tide, and a byte past it
 abbrev pub OneTideFile : Type 0
 OneTideFile = packLeaves (ascii "1 1 0 1\n") (replicate 8 170) ≡ 0x54 ∷ 0x02 ∷ 0x20 ∷ 0x40 ∷ 0x00 ∷ 0x00 ∷ 0x00 ∷ 170 ∷ []
+
+-- b0 = 2 and three settings at 1 (document 02, 2.2): the file has b0 = 3
+abbrev pub RaisedFile : Type 0
+RaisedFile = packLeaves (ascii "3 2 1 1 1\n") (replicate 9 170) ≡ 0x54 ∷ 0x00 ∷ 0x60 ∷ 0xC0 ∷ 0x00 ∷ 0x00 ∷ 0x81 ∷ 0x02 ∷ 170 ∷ []
