@@ -2,16 +2,16 @@
 use mathlib.Core.Path.{refl}
 use mathlib.Core.List.{flatMap}
 use Rattle.lists.specs.Lists.{every, sumBelow, countBelow, tabulate}
-use Rattle.study.specs.Study.{noTide, tide, distance, meets, sufficient}
+use Rattle.study.specs.Study.{noTide, tide, distance, meets, sufficient, validMinima}
 use Rattle.study.specs.Refusals.{firstOf, freshReasons, heldReasons}
-use Rattle.study.specs.Calls.{openReasons, minimaReasons, triangle, violations, enterReasons, entered, entering, withdrawReasons, withdrawn, shortened}
-use Rattle.study.specs.Calls.{withdrawing, centresReasons, blockReasons, judgeReasons}
+use Rattle.study.specs.Calls.{openReasons, understood, minimaReasons, withMinima, settingMinima, triangle, violations, enterReasons, entered, entering}
+use Rattle.study.specs.Calls.{withdrawReasons, withdrawn, shortened, withdrawing, centresReasons, blockReasons, judgeReasons}
 use Rattle.file_format.specs.Bits.{binary, allBits, pack, packed}
 use Rattle.file_format.specs.File.{tideFields, fields, fileOf, headReasons, readReasons}
 use Rattle.study_file.specs.Answers.{writeReasons}
 use Rattle.guarantee.specs.Runs.{updating, inquiring}
 use Rattle.guarantee.specs.History.{reasonsAfter, verdict, changed, step, following}
-use Rattle.guarantee.specs.Cases.{order, CallsInOrder, OneRun}
+use Rattle.guarantee.specs.Cases.{order, CallsInOrder, OneRun, minimaCases, MinimaLeft}
 
 pub in-order : CallsInOrder
 unfolding order verdict reasonsAfter heldReasons freshReasons updating inquiring readReasons headReasons openReasons minimaReasons
@@ -25,3 +25,8 @@ unfolding following step verdict reasonsAfter heldReasons freshReasons changed u
     withdrawReasons withdrawing withdrawn shortened firstOf
     violations triangle distance tide noTide every flatMap
 one-run = refl
+
+pub minima-left : MinimaLeft
+unfolding minimaCases following step verdict reasonsAfter heldReasons freshReasons changed updating minimaReasons understood settingMinima withMinima
+    validMinima firstOf every sumBelow
+minima-left = refl

@@ -18,7 +18,7 @@ use Rattle.lists.proofs.Counting.{count-front, Nth}
 use Rattle.study.specs.declared.Minima.{Minima}
 use Rattle.study.specs.Study.{Tide, Study, Contents, size, noTide, tide, distance}
 use Rattle.study.specs.Refusals.{Verdict, accepted, refused, settled, Reason, firstOf}
-use Rattle.study.specs.Calls.{opened, opening, withMinima, settingMinima, entered, entering, withdrawn, withdrawing, skip}
+use Rattle.study.specs.Calls.{opened, opening, understood, withMinima, settingMinima, entered, entering, withdrawn, withdrawing, skip}
 use Rattle.study.proofs.CallLaws.{entered-size, entered-old, entered-new, entered-held, entered-row, old-or-new, skip-is, withdrawn-setting}
 use Rattle.study.proofs.CallLaws.{withdrawn-distance, withdrawn-size, skip-inside, withdraws}
 use Rattle.file_format.specs.File.{decoded}
@@ -283,7 +283,7 @@ agree-changing own f g m tooShort (some H) (some L) e K = m H L (past-ladder too
 change-matches : (c : Change) (H : Contents) (L : Ledger) → firstOf (updating c .own H) ≡ accepted → Matches (H .study) L
     → Matches (updating c .makes H .study) (noting c L)
 unfolding updating settingMinima entering withdrawing
-change-matches (set-minima M) H L e K = minima-matches (H .study) L M K
+change-matches (set-minima M) H L e K = minima-matches (H .study) L (understood M) K
 change-matches (enter setting row) H L e K = arrival-matches (H .study) L setting row K
 change-matches (withdraw t) H L e K = let w = withdraws H t e in gone-matches (H .study) L t K (omega (arith, w .low, w .high))
 

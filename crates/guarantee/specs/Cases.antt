@@ -1,4 +1,5 @@
--- Calls by computation: where two reasons hold at once the earlier one counts, and a run with refused calls in it. Assumes nothing.
+-- Calls by computation: where two reasons hold at once the earlier one counts, a run with refused calls in it, and the minima that Minima
+-- leaves. Assumes nothing.
 use Prim.Native.Nat.{ℕ}
 use mathlib.Core.Path.{_≡_}
 use mathlib.Core.Bool.{Bool, true, false}
@@ -88,3 +89,39 @@ OneRun =
     following false (holding (minima 2 0) two 0)
     (call-change (enter 1 (1 ∷ 1 ∷ [])) ∷ call-change (enter 1 (1 ∷ 2 ∷ [])) ∷ call-change (withdraw 1) ∷ call-change (withdraw 3) ∷ [])
     ≡ holding (minima 2 0) (record { setting = 1; row = [] } ∷ record { setting = 1; row = 2 ∷ [] } ∷ []) 1
+
+-- a minimum for setting 1 alone
+abbrev pub alone : ℕ → ℕ → Minima
+alone b0 b = record { b0 = b0; b = b ∷ replicate 7 0 }
+
+-- what Minima is given, and the minima held afterwards, where they were b0 = 1 and each b = 0
+pub record MinimaCase : Type 0 where
+  pub given : Minima
+  pub left : Minima
+
+infix 10 _leaves_
+-- a case as it is written below
+abbrev pub _leaves_ : Minima → Minima → MinimaCase
+M leaves N = record { given = M; left = N }
+
+-- document 02, 2.2
+unfoldable pub minimaCases : List MinimaCase
+minimaCases =
+    -- b0 below the sum is raised, up to 120; b0 at the sum or above it stays
+    (alone 1 2 leaves alone 2 2)
+    ∷ (alone 1 120 leaves alone 120 120)
+    ∷ (alone 2 2 leaves alone 2 2)
+    ∷ (alone 120 119 leaves alone 120 119)
+    -- refused: b0 = 0, b0 = 121, sums of 121 and 2,040, minima of settings above k
+    ∷ (alone 0 1 leaves minima 1 0)
+    ∷ (alone 121 0 leaves minima 1 0)
+    ∷ (alone 1 121 leaves minima 1 0)
+    ∷ (minima 255 255 leaves minima 1 0)
+    ∷ (minima 1 1 leaves minima 1 0)
+    ∷ []
+
+-- two tides, k = 1
+abbrev pub MinimaLeft : Type 0
+MinimaLeft =
+    map (λ (c : MinimaCase). following false (holding (minima 1 0) two 0) (call-change (set-minima (c .given)) ∷ [])) minimaCases
+    ≡ map (λ (c : MinimaCase). holding (c .left) two 0) minimaCases
