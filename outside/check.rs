@@ -351,6 +351,7 @@ struct Seen {
     enumerated: u64,
     lowered: u64,   // tables that were lowered
     untouched: u64, // tables that came back untouched
+    raised: u64,    // minima that were taken with another b0
 }
 
 impl Seen {
@@ -365,6 +366,7 @@ impl Seen {
             enumerated: 0,
             lowered: 0,
             untouched: 0,
+            raised: 0,
         }
     }
 
@@ -432,6 +434,9 @@ impl Seen {
                     fail(&what, &before_w, &before_call);
                 }
             }
+        }
+        if let (Call::Minima { minima }, 0) = (&*call, answer) {
+            self.raised += (w.record.places[2] != minima.places[0] as u16) as u64;
         }
         if let (Call::Mend { result, .. }, 0) = (&*call, answer) {
             if result.places[0] > 0 {
@@ -1002,7 +1007,10 @@ impl Run {
         let call = match what {
             0 => Call::Open { k: rng.within(1, 8) as u32 },
             1 => {
-                let m = minima_for(rng, k, &self.w.settings.places[..n]);
+                let mut m = minima_for(rng, k, &self.w.settings.places[..n]);
+                if m[0] > 1 && rng.one_in(6) {
+                    m[0] = rng.within(1, m[0] as usize - 1) as u8;
+                }
                 let mut minima = room(rng, 9, 2);
                 minima.places[..9].copy_from_slice(&m);
                 Call::Minima { minima }
@@ -1793,12 +1801,95 @@ fn worked(seen: &mut Seen, rng: &mut Rng) {
     expect(run.make(seen, &mut call, 0), 0, "case 9");
 }
 
+/// Document 02, 2.2: b0 below the sum of the b's.
+fn below_the_sum(seen: &mut Seen, rng: &mut Rng) {
+    let nine = |given: &[u8]| {
+        let mut m = [0; 9];
+        m[..given.len()].copy_from_slice(given);
+        m
+    };
+    // k, minima; the b0 held afterwards, or 0 where they are refused
+    let cases: [(u32, &[u8], u16); 26] = [
+        (3, &[2, 1, 1, 1], 3),
+        (3, &[1, 1, 1, 1], 3),
+        (3, &[3, 1, 1, 1], 3),
+        (3, &[4, 1, 1, 1], 4),
+        (3, &[1, 0, 0, 2], 2),
+        (3, &[0], 0),
+        (3, &[0, 1, 1, 1], 0),
+        // above k
+        (3, &[2, 1, 1, 1, 1], 0),
+        (3, &[9, 1, 1, 1, 1], 0),
+        (1, &[1, 0, 1], 0),
+        // b0 or the sum at 120, and above
+        (1, &[120], 120),
+        (1, &[120, 120], 120),
+        (1, &[1, 120], 120),
+        (2, &[119, 60, 60], 120),
+        (8, &[1, 15, 15, 15, 15, 15, 15, 15, 15], 120),
+        (1, &[121], 0),
+        (1, &[121, 121], 0),
+        (1, &[121, 122], 0),
+        (1, &[1, 121], 0),
+        (1, &[120, 121], 0),
+        (8, &[1, 16, 15, 15, 15, 15, 15, 15, 15], 0),
+        // sums that come round to 0 in eight bits; 2,040
+        (2, &[1, 128, 128], 0),
+        (8, &[1, 32, 32, 32, 32, 32, 32, 32, 32], 0),
+        (8, &[0, 255, 255, 255, 255, 255, 255, 255, 255], 0),
+        (8, &[1, 255, 255, 255, 255, 255, 255, 255, 255], 0),
+        (8, &[255, 255, 255, 255, 255, 255, 255, 255, 255], 0),
+    ];
+    for (k, given, b0) in cases {
+        let mut run = Run::new(rng, 1);
+        expect(run.make(seen, &mut Call::Open { k }, 0), 0, "Open");
+        let mut call = Call::Minima { minima: exact(rng, &nine(given)) };
+        let refused = if b0 == 0 { 3 } else { 0 };
+        expect(run.make(seen, &mut call, 0), refused, &format!("Minima {given:?}, k = {k}"));
+        if run.w.record.places[2] != b0.max(1) {
+            fail("the b0 that Minima leaves", &run.w, &call);
+        }
+    }
+    // Block, Judge and Write after a raised record, beside the same record written out
+    let file = plain::file_of(&known_study());
+    let mut run = Run::new(rng, 4);
+    let mut read = Call::Read { file: exact(rng, &file) };
+    expect(run.make(seen, &mut read, 0), 0, "the known file is read");
+    for (short, whole) in [([1, 1, 1], [2, 1, 1]), ([2, 1, 2], [3, 1, 2]), ([1, 2, 3], [5, 2, 3])] {
+        let mut runs = [run.clone(), run.clone()];
+        for (one, given) in runs.iter_mut().zip([short, whole]) {
+            let mut call = Call::Minima { minima: exact(rng, &nine(&given)) };
+            expect(one.make(seen, &mut call, 0), 0, &format!("Minima {given:?}"));
+        }
+        for what in [5, 6, 8] {
+            let (mut call, _) = runs[0].propose_call(rng, what, 5, 2);
+            let mut other = call.clone();
+            let answer = runs[0].make(seen, &mut call, 0);
+            expect(runs[1].make(seen, &mut other, 0), answer, "the record written out");
+            if call != other || runs[0].w != runs[1].w {
+                fail("a raised record beside the same written out", &runs[0].w, &call);
+            }
+        }
+    }
+    // a record and a file whose b0 is below the sum are still refused
+    for what in [1, 2, 3, 4, 5, 6, 8] {
+        let mut w = run.w.clone();
+        w.record.places[2] = 1;
+        let (mut call, _) = run.propose_call(rng, what, 5, 2);
+        expect(seen.call(&mut w, &mut call), 21, &format!("{} with b0 = 1", NAMES[what]));
+    }
+    let below = plain::file_of(&Study { b0: 1, ..known_study() });
+    let mut read = Call::Read { file: exact(rng, &below) };
+    expect(run.make(seen, &mut read, 0), 3, "a file with b0 = 1");
+}
+
 fn main() {
     let mut seen = Seen::new();
     let mut rng = Rng(0x1D5_7EA5_0F_71DE);
     type Group = (&'static str, Box<dyn Fn(&mut Seen, &mut Rng)>);
     let groups: Vec<Group> = vec![
         ("worked cases", Box::new(worked)),
+        ("b0 below the sum", Box::new(below_the_sum)),
         ("each slice short", Box::new(short)),
         ("every place", Box::new(every_place)),
         ("every number", Box::new(numbers)),
@@ -1834,12 +1925,14 @@ fn main() {
         println!("{line}");
     }
     whole &= seen.yes > 0 && seen.no > 0;
+    whole &= seen.raised > 0;
     whole &= seen.lowered > 0 && seen.untouched > 0;
     println!("Judge said yes {} times and no {} times", seen.yes, seen.no);
     println!(
         "{} blockings of up to 7 tides also by full enumeration, none wider than twice the least",
         seen.enumerated
     );
+    println!("{} minima taken with b0 raised to the sum of the b's", seen.raised);
     println!("{} tables lowered, {} untouched", seen.lowered, seen.untouched);
     if !whole {
         println!("FAILED: a refusal or an acceptance of the table above was never seen");
