@@ -99,28 +99,30 @@ pub fn case_1(so_far: Tally) -> Tally {
         .see(has_assignment(small, 4))
 }
 
-pub fn case_2(so_far: Tally) -> Tally {
-    let small = Small {
+// Two settings, one tide of each to a block.
+fn pairs(b0: u8) -> Small {
+    Small {
         n: 4,
         k: 2,
         minima: Minima {
-            b0: 2,
+            b0,
             b: [1, 1, 0, 0, 0, 0, 0, 0],
         },
         settings: [1, 2, 1, 2, 0, 0, 0],
         distances: table([0, 1, 10, 11, 0, 0, 0], [0; 7]),
+    }
+}
+
+// With b0 = 1, which Minima takes as 2 (document 02, 2.2), Block gives the same.
+pub fn case_2(so_far: Tally) -> Tally {
+    let expected = Expected {
+        count: 2,
+        radius: 1,
+        first: 1,
+        second: 1,
+        list: [1, 1, 2, 2, 0, 0, 0],
     };
-    blocks(
-        so_far,
-        small,
-        Expected {
-            count: 2,
-            radius: 1,
-            first: 1,
-            second: 1,
-            list: [1, 1, 2, 2, 0, 0, 0],
-        },
-    )
+    blocks(blocks(so_far, pairs(2), expected), pairs(1), expected)
 }
 
 pub fn case_3(so_far: Tally) -> Tally {

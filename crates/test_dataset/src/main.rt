@@ -115,26 +115,53 @@ fn set_of_two(minima: Minima) -> Outcome {
     dataset::set_minima(two, &distances, &settings, minima)
 }
 
-fn minima(so_far: Tally) -> Tally {
+// The same b for each setting, of no tides, k = 8.
+fn set_of_eight(b0: u8, b: u8) -> Outcome {
+    let mut distances = [7u32; 14403];
+    let mut settings = [9u8; 123];
+    let empty = opened(&mut distances, &mut settings, 8);
+    dataset::set_minima(empty, &distances, &settings, Minima { b0, b: [b; 8] })
+}
+
+fn minima_refused(so_far: Tally) -> Tally {
     let mut t = so_far;
+    // b0 = 0 without and with a sum; b0 = 121; a sum of 121
     t = t.outcome(set_of_two(samples::minima(0, 0, 0)), 3);
+    t = t.outcome(set_of_two(samples::minima(0, 5, 0)), 3);
     t = t.outcome(set_of_two(samples::minima(121, 0, 0)), 3);
-    t = t.outcome(set_of_two(samples::minima(5, 6, 0)), 3);
-    // a b above k; and b's whose sum would be 0 in a byte
+    t = t.outcome(set_of_two(samples::minima(121, 121, 0)), 3);
+    t = t.outcome(set_of_two(samples::minima(5, 121, 0)), 3);
+    // a b above k, with b0 above the sum and below it
     t = t.outcome(set_of_two(samples::minima(5, 1, 1)), 3);
-    t = t.outcome(
-        set_of_two(Minima {
-            b0: 5,
-            b: [128, 128, 0, 0, 0, 0, 0, 0],
-        }),
-        3,
-    );
-    let set = set_of_two(samples::minima(MAX_BLOCK_MINIMUM, MAX_BLOCK_MINIMUM, 0));
+    t = t.outcome(set_of_two(samples::minima(1, 1, 1)), 3);
+    // sums of 256, which is 0 in a byte, and of 2,040
+    t = t.outcome(set_of_eight(5, 32), 3);
+    t = t.outcome(set_of_eight(0, 255), 3);
+    t = t.outcome(set_of_eight(1, 255), 3);
+    t.outcome(set_of_eight(255, 255), 3)
+}
+
+// Taken with this b0; the b and the tides stay.
+fn taken(so_far: Tally, b0: u8, first: u8, left: u8) -> Tally {
+    let set = set_of_two(samples::minima(b0, first, 0));
     let next = set.dataset;
     let after = next.minima;
-    t = t.outcome(set, 0);
-    t = t.see(after.b0 == MAX_BLOCK_MINIMUM);
-    t.see(next.n == 2)
+    let b = after.b;
+    so_far
+        .outcome(set, 0)
+        .see(after.b0 == left)
+        .see(b[0] == first && next.n == 2)
+}
+
+// b0 at the sum or above it stays; below it, it is raised (document 02, 2.2).
+fn minima_taken(so_far: Tally) -> Tally {
+    let mut t = so_far;
+    t = taken(t, MAX_BLOCK_MINIMUM, 7, MAX_BLOCK_MINIMUM);
+    t = taken(t, MAX_BLOCK_MINIMUM, MAX_BLOCK_MINIMUM, MAX_BLOCK_MINIMUM);
+    t = taken(t, 6, 6, 6);
+    t = taken(t, 5, 6, 6);
+    t = taken(t, 1, MAX_BLOCK_MINIMUM, MAX_BLOCK_MINIMUM);
+    t.outcome(set_of_eight(1, 15), 0)
 }
 
 fn enter_third(setting: u8, row: &[u32]) -> Outcome {
@@ -288,7 +315,7 @@ fn print_enter() {
 fn main() {
     open_places(open_answers(tally::new())).print(b"open");
     no_dataset(short_memory(tally::new())).print(b"no dataset");
-    minima(tally::new()).print(b"minima");
+    minima_taken(minima_refused(tally::new())).print(b"minima");
     print_enter();
     spoiled::trials(tally::new()).print(b"one wrong place");
     full(tally::new()).print(b"full");

@@ -55,8 +55,19 @@ fn with_distance(p: usize, q: usize, x: u32) -> Answer {
     checked(record(2, 3, 1), NOWHERE, 0, p, q, x)
 }
 
+// Setting 1 with b = 2.
+fn with_b(b0: u8) -> Answer {
+    let mut wrong = record(2, 3, b0);
+    let minima = samples::minima(b0, 2, 0);
+    wrong.minima = minima;
+    checked(wrong, NOWHERE, 0, NOWHERE, NOWHERE, 0)
+}
+
 fn records(so_far: Tally) -> Tally {
     let mut t = so_far;
+    // b0 at the sum and below it
+    t = t.answer(with_b(2), 0);
+    t = t.answer(with_b(1), 21);
     t = t.answer(with_record(2, 3, 1), 0);
     t = t.answer(with_record(0, 3, 1), 21);
     t = t.answer(with_record(1, 3, 1), 21);
