@@ -198,6 +198,8 @@ order =
     ∷ (read (0x54 ∷ 0x00 ∷ 0x20 ∷ 0x00 ∷ 0x00 ∷ 0x00 ∷ []) gives refusal (number 8))
     -- 3, not 11: b0 = 0, a fill bit set
     ∷ (read (0x54 ∷ 0x00 ∷ 0x20 ∷ 0x00 ∷ 0x00 ∷ 0x00 ∷ 0x01 ∷ []) gives refusal (number 3))
+    -- 3, not accepted: b0 = 1 below b1 = 2, which Minima would raise
+    ∷ (read (0x54 ∷ 0x00 ∷ 0x20 ∷ 0x40 ∷ 0x00 ∷ 0x01 ∷ 0x00 ∷ []) gives refusal (number 3))
     -- 11, not 5: a fill bit set, tide 1 has setting 2
     ∷ (read (0x54 ∷ 0x02 ∷ 0x20 ∷ 0x40 ∷ 0x00 ∷ 0x00 ∷ 0x11 ∷ []) gives refusal (number 11))
     -- 5, not 7: tide 3 has setting 2, and is at 1 and 1 from two tides at 3
