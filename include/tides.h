@@ -21,8 +21,8 @@ extern "C" {
  *
  *  1  record, memory, list, table or file too short  10  n of a file or table above 120
  *  2  k not 1 to 8                                   11  filling bits not zero
- *  3  b0 not 1 to 120, the b's together above b0,    12  judged list's length differs from n
- *     or a b above k not 0                           13  table not the same both ways, or a tide not at 0 from itself
+ *  3  b0 not 1 to 120, a b above k not 0, or the b's 12  judged list's length differs from n
+ *     together above b0 (tides_minima: above 120)    13  table not the same both ways, or a tide not at 0 from itself
  *  4  row length differs from the tides held         21  record and memory are no dataset
  *  5  setting not 1 to k                             22  120 tides held already
  *  6  distance above 1,048,575                       23  no tide of that number
@@ -35,7 +35,10 @@ extern "C" {
 uint32_t tides_open(uint16_t *record, size_t record_length, uint32_t *distances, size_t distances_length, uint8_t *settings,
                     size_t settings_length, uint32_t k);
 
-/* Replaces the minima by 9 bytes: b0, b1 .. b8. Reasons: 1, 21, 3. */
+/*
+ * Replaces the minima by 9 bytes: b0, b1 .. b8. A b0 that is at least 1 and below the sum of the b's is taken as that sum, and the record
+ * then holds the sum. Reasons: 1, 21, 3.
+ */
 uint32_t tides_minima(uint16_t *record, size_t record_length, const uint32_t *distances, size_t distances_length,
                       const uint8_t *settings, size_t settings_length, const uint8_t *minima, size_t minima_length);
 

@@ -141,12 +141,15 @@ module _ (s : State) where
       λ i. stateOf (setK (e i) (setMinima (f i) (s .dataset))) (s .distances) (s .settings)
 
   dataset-uncut : IsStudy s → narrowState s ≡ s
-  dataset-uncut D = record-uncut (narrow-small (s .dataset .k) (omega (arith, D .k-high))) (taken-uncut (s .dataset .k) (s .dataset .minima) (fit-acceptable (D .minima)))
+  dataset-uncut D =
+      record-uncut (narrow-small (s .dataset .k) (omega (arith, D .k-high)))
+      (taken-uncut (s .dataset .k) (s .dataset .minima) (fit-acceptable (D .minima)))
 
   narrow-dataset-uncut : IsStudy (narrowState s) → narrowState s ≡ s
   unfolding narrowDataset
   narrow-dataset-uncut D =
-      record-uncut (narrow-below (s .dataset .k) (omega (arith, D .k-high))) (narrow-uncut (narrowed (s .dataset .k)) (s .dataset .minima) (fit-acceptable (D .minima)))
+      record-uncut (narrow-below (s .dataset .k) (omega (arith, D .k-high)))
+      (narrow-uncut (narrowed (s .dataset .k)) (s .dataset .minima) (fit-acceptable (D .minima)))
 
   record-same : (own : Contents → List Reason) → (heldAnswer (narrowState s) own ≡ heldAnswer s own) × (heldAnswer s own ≡ accepted → narrowState s ≡ s)
   unfolding heldAnswer heldReasons freshReasons firstOf short

@@ -48,31 +48,28 @@ fit-acceptable F = record { low = F .low; high = F .high; eight = F .eight; sum 
 module _ (k : ℕ) (M : Minima) where
   understood-fit : Acceptable k M → MinimaFit k (understood M)
   understood-fit A =
-      ⊎-elim (λ (h : M .b0 < sumOfParts M). subst (MinimaFit k) (sym (understood-raised M (A .low) h)) (as-raised h))
-      (λ (h : sumOfParts M ≤ M .b0). subst (MinimaFit k) (sym (understood-enough M h)) (as-given h))
-      (split (M .b0) (sumOfParts M))
+      ⊎-elim (λ h. subst (MinimaFit k) (sym (understood-raised M (A .low) h)) (as-raised h))
+      (λ h. subst (MinimaFit k) (sym (understood-enough M h)) (as-given h)) (split (M .b0) (sumOfParts M))
     where
       as-raised : M .b0 < sumOfParts M → MinimaFit k (raised M)
-      as-raised h =
-          record { low = omega (arith, A .low); high = A .sum; eight = A .eight; sum = le-refl (sumOfParts M); above = A .above }
+      as-raised h = record { low = omega (arith, A .low); high = A .sum; eight = A .eight; sum = le-refl (sumOfParts M); above = A .above }
 
       as-given : sumOfParts M ≤ M .b0 → MinimaFit k M
       as-given h = record { low = A .low; high = A .high; eight = A .eight; sum = h; above = A .above }
 
   understood-acceptable : MinimaFit k (understood M) → Acceptable k M
-  understood-acceptable F =
-      ⊎-elim (λ (z : M .b0 < 1). given (understood-zero M z))
-      (λ (l : 1 ≤ M .b0).
-      ⊎-elim (λ (h : M .b0 < sumOfParts M). from-raised l h (subst (MinimaFit k) (understood-raised M l h) F))
-      (λ (h : sumOfParts M ≤ M .b0). given (understood-enough M h))
-      (split (M .b0) (sumOfParts M)))
-      (split (M .b0) 1)
+  understood-acceptable F = ⊎-elim (λ z. from-given (understood-zero M z)) from-one (split (M .b0) 1)
     where
-      given : understood M ≡ M → Acceptable k M
-      given e = fit-acceptable (subst (MinimaFit k) e F)
+      from-given : understood M ≡ M → Acceptable k M
+      from-given e = fit-acceptable (subst (MinimaFit k) e F)
 
       from-raised : 1 ≤ M .b0 → M .b0 < sumOfParts M → MinimaFit k (raised M) → Acceptable k M
       from-raised l h R = record { low = l; high = omega (arith, R .high); eight = R .eight; sum = R .high; above = R .above }
+
+      from-one : 1 ≤ M .b0 → Acceptable k M
+      from-one l =
+          ⊎-elim (λ h. from-raised l h (subst (MinimaFit k) (understood-raised M l h) F)) (λ h. from-given (understood-enough M h))
+          (split (M .b0) (sumOfParts M))
 
   pub acceptable-T : T (validMinima k (understood M)) ↔ Acceptable k M
   acceptable-T =

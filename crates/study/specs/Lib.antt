@@ -1,4 +1,4 @@
--- To be read beside document 01: Problem, Study, Refusals, Calls; what is proved of them: Theorems, Renumbering. Minima and Triangle: two
+-- To be read beside document 01: Problem, Study, Refusals, Calls; what is proved of them: Theorems, Renumbering. Minima and Triangle:
 -- tests in plain words.
 pub mod Limits
 pub mod Problem
