@@ -164,16 +164,23 @@ module _ (M : Minima) {sum : ℕ} (e : sum ≡ sumOfParts M) where
   tested-raised h low below =
       ap (λ (x : ℕ). record { b0 = x; b = M .b }) e ∙ tested-understood h (understood-raised M low (omega arith))
 
+module _ (k : ℕ) (M : Minima) {N : Minima} (e : N ≡ testedMinima M) where
+  -- it is the record as understood, or neither is valid
+  understood-or-invalid : (N ≡ understood M) ⊎ ((validMinima k N ≡ false) × (validMinima k (understood M) ≡ false))
+  understood-or-invalid =
+      ⊎-elim (λ h. let n = too-much k M h in inr (ap (validMinima k) (e ∙ sym (tested-given M refl h)) ∙ n .0, n .1))
+      (λ h. inl (e ∙ sym (tested-understood M refl h refl))) (split 120 (sumOfParts M))
+
+  tested-valid : validMinima k (understood M) ≡ validMinima k N
+  tested-valid = ⊎-elim (λ q. ap (validMinima k) (sym q)) (λ n. n .1 ∙ sym (n .0)) understood-or-invalid
+
+  tested-is : validMinima k N ≡ true → N ≡ understood M
+  tested-is f = ⊎-elim (λ q. q) (λ n. absurd (true≢false (sym f ∙ n .0))) understood-or-invalid
+
 module _ (s : State) (M : Minima) (P : Passed s) where
   minima-own : (v : Verdict) → firstOf (minimaReasons (studyOf s) M) ≡ v → v ≡ minimaAnswer s M
   unfolding minimaAnswer contentsOf
   minima-own v q = sym q ∙ held-own s (λ H. minimaReasons (H .study) M) (P .not-short) (P .tested)
-
-  refused-3 : validMinima (s .dataset .k) (understood M) ≡ false → (refused (number 3) ≡ minimaAnswer s M) × (s ≡ minimaLeaves s M)
-  unfolding minimaLeaves heldLeaves minimaAnswer minimaReasons firstOf studyOf
-  refused-3 f =
-      let a = minima-own (refused (number 3)) (rw f) in
-      (a, ap (λ v. settled v (stored (settingMinima M (contentsOf s)) s) s) a)
 
   -- the record with other minima, over the same memory
   abbrev with-minima : Minima → State → State
@@ -183,30 +190,19 @@ module _ (s : State) (M : Minima) (P : Passed s) where
   unfolding stored recordOf settingMinima withMinima distancesOf settingsOf distance tide
   minima-laid = sym (ap (with-minima (understood M)) (own-layout s (P .study) (P .not-short)))
 
-  taken : validMinima (s .dataset .k) (understood M) ≡ true → (accepted ≡ minimaAnswer s M) × (with-minima (understood M) s ≡ minimaLeaves s M)
-  unfolding minimaLeaves heldLeaves minimaAnswer minimaReasons firstOf studyOf
-  taken f =
-      let a = minima-own accepted (rw f) in
-      (a, minima-laid ∙ ap (λ v. settled v (stored (settingMinima M (contentsOf s)) s) s) a)
-
   module _ {N : Minima} (e : N ≡ testedMinima M) where
-    -- what is tested is the record as understood, or neither is valid
-    understood-or-invalid : (N ≡ understood M) ⊎ ((validMinima (s .dataset .k) N ≡ false) × (validMinima (s .dataset .k) (understood M) ≡ false))
-    understood-or-invalid =
-        ⊎-elim (λ (h : 120 < sumOfParts M).
-        let n = too-much (s .dataset .k) M h in
-        inr (ap (validMinima (s .dataset .k)) (e ∙ sym (tested-given M refl h)) ∙ n .0, n .1))
-        (λ (h : sumOfParts M ≤ 120). inl (e ∙ sym (tested-understood M refl h refl)))
-        (split 120 (sumOfParts M))
-
     pub minima-3 : validMinima (s .dataset .k) N ≡ false → (refused (number 3) ≡ minimaAnswer s M) × (s ≡ minimaLeaves s M)
-    minima-3 f = refused-3 (⊎-elim (λ q. ap (validMinima (s .dataset .k)) (sym q) ∙ f) (λ n. n .1) understood-or-invalid)
+    unfolding minimaLeaves heldLeaves minimaAnswer minimaReasons firstOf studyOf
+    minima-3 f =
+        let a = minima-own (refused (number 3)) (rw (tested-valid (s .dataset .k) M e, f)) in
+        (a, ap (λ v. settled v (stored (settingMinima M (contentsOf s)) s) s) a)
 
     pub minima-done : validMinima (s .dataset .k) N ≡ true → (accepted ≡ minimaAnswer s M) × (with-minima N s ≡ minimaLeaves s M)
+    unfolding minimaLeaves heldLeaves minimaAnswer minimaReasons firstOf studyOf
     minima-done f =
-        ⊎-elim (λ q. let w = taken (ap (validMinima (s .dataset .k)) (sym q) ∙ f) in (w .0, ap (λ X. with-minima X s) q ∙ w .1))
-        (λ n. absurd (true≢false (sym f ∙ n .0)))
-        understood-or-invalid
+        let a = minima-own accepted (rw (tested-valid (s .dataset .k) M e, f)) in
+        let laid = ap (λ X. with-minima X s) (tested-is (s .dataset .k) M e f) ∙ minima-laid in
+        (a, laid ∙ ap (λ v. settled v (stored (settingMinima M (contentsOf s)) s) s) a)
 
 -- ---- Enter
 
