@@ -72,13 +72,14 @@ pub fn agrees(small: Small, plain: Plain) -> bool {
 }
 
 // Studies in which Block gives what the plain blocker gives, those of them that are refused 24 and 25, that have several blocks,
-// and in which a candidate above the radius has no assignment.
+// in which a candidate above the radius has no assignment, and in which Minima raises b0.
 pub struct Compared {
     agreed: Tally,
     no_tides: Tally,
     too_few: Tally,
     several: Tally,
     gaps: Tally,
+    raised: Tally,
 }
 
 impl Compared {
@@ -93,6 +94,7 @@ impl Compared {
             several: self.several.see(done && 1 < centres.count),
             gaps: self.gaps
                 .see(done && exhaustive::gap_above(small, plain.radius)),
+            raised: self.raised.see(studies::is_below(small.minima)),
         }
     }
 
@@ -103,6 +105,7 @@ impl Compared {
         self.several.print(b"with several blocks");
         self.gaps
             .print(b"with no assignment at a greater candidate");
+        self.raised.print(b"with b0 below the sum of the b's");
     }
 }
 
@@ -113,6 +116,7 @@ fn none() -> Compared {
         too_few: tally::new(),
         several: tally::new(),
         gaps: tally::new(),
+        raised: tally::new(),
     }
 }
 

@@ -2,8 +2,10 @@
 use crate::small::Small;
 use crate::small::table;
 use study::Minima;
+use study::wide;
 use test_random::between;
 use test_random::next;
+use validity::sum_minima;
 
 // Seven numbers from low to high.
 pub fn numbers(seed: u64, low: u8, high: u8) -> [u8; 7] {
@@ -90,9 +92,37 @@ fn spread(seed: u64) -> Small {
     }
 }
 
-pub fn study(seed: u64) -> Small {
+// Whether b0 is below the sum of the b's, so that Minima raises it (document 02, 2.2).
+pub fn is_below(minima: Minima) -> bool {
+    let b = minima.b;
+    wide(minima.b0) < sum_minima(b)
+}
+
+// A b0 that is the sum of the b's, written as any number from 1 to it: the same minima to Minima, and to the plain blocker the same blocks,
+// since one with each b has their sum of tides.
+fn lowered(seed: u64, minima: Minima) -> Minima {
+    let b0 = minima.b0;
+    let b = minima.b;
+    if wide(b0) != sum_minima(b) {
+        return minima;
+    }
+    Minima {
+        b0: between(seed, 1, b0),
+        b,
+    }
+}
+
+fn drawn(seed: u64) -> Small {
     if between(seed, 0, 1) == 0 {
         return crowded(next(seed));
     }
     spread(next(seed))
+}
+
+pub fn study(seed: u64) -> Small {
+    let small = drawn(seed);
+    let mut given = small;
+    let minima = lowered(next(seed) + 6000, small.minima);
+    given.minima = minima;
+    given
 }
