@@ -5,5 +5,6 @@ pub mod LentRecords
 pub mod ProblemOfArrays
 pub mod CentresLaws
 pub mod BlockLaws
+pub mod RowLaws
 pub mod JudgeLaws
 pub mod TidesLaws

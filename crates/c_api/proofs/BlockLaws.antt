@@ -17,6 +17,7 @@ use Rattle.study.specs.Problem.{blocking}
 use Rattle.study.specs.Study.{Study, Contents, problem}
 use Rattle.study.specs.Refusals.{numbered, accepted, refused, settled, Reason}
 use Rattle.study.specs.Calls.{blockReasons, Figures, figures, blockRecord, blockedOf}
+use Rattle.study.proofs.CallLaws.{reply-refused, reply-value}
 use Rattle.validity.specs.Memory.{State, studyOf, contentsOf}
 use Rattle.blocking.specs.declared.block.BlockRows.{BlockRows}
 use Rattle.blocking.specs.Answers.{blockAnswer, blockReply, blockList, blockRecords}
@@ -27,7 +28,7 @@ use Rattle.c_api.proofs.RecordLaws.{withRecord, front-written}
 use Rattle.c_api.specs.Records.{Narrow, ColumnRoom}
 use Rattle.c_api.proofs.CodeLaws.{small, held-narrow}
 use Rattle.c_api.proofs.CallLaws.{lacks-one}
-use Rattle.c_api.proofs.OutputLaws.{reply-refused, reply-value, output-refused, output-done, code-too-short, output-too-short}
+use Rattle.c_api.proofs.OutputLaws.{output-refused, output-done, code-too-short, output-too-short}
 use Rattle.c_api.proofs.OutputLaws.{Reads, code-own, output-own}
 
 -- ---- the list

@@ -12,6 +12,7 @@ use Rattle.study.specs.declared.Judged.the-variants as JudgedCase
 use Rattle.study.specs.Study.{Contents}
 use Rattle.study.specs.Refusals.{numbered, accepted, refused, value, Reason}
 use Rattle.study.specs.Calls.{judgeReasons, Judgement, judgement, judgedOf}
+use Rattle.study.proofs.CallLaws.{reply-refused, reply-value}
 use Rattle.validity.specs.Memory.{State, studyOf, contentsOf}
 use Rattle.blocking.specs.Answers.{judgeAnswer, judgeReply}
 use Rattle.c_api.specs.Api.{Lent, code, judgementPair, judgeVerdict, judgeResult}
@@ -19,7 +20,7 @@ use Rattle.c_api.proofs.RecordLaws.{withRecord, front-written}
 use Rattle.c_api.specs.Records.{Narrow}
 use Rattle.c_api.proofs.CodeLaws.{small, held-narrow}
 use Rattle.c_api.proofs.CallLaws.{lacks-one}
-use Rattle.c_api.proofs.OutputLaws.{reply-refused, reply-value, output-refused, output-done, code-too-short, output-too-short}
+use Rattle.c_api.proofs.OutputLaws.{output-refused, output-done, code-too-short, output-too-short}
 use Rattle.c_api.proofs.OutputLaws.{Reads, code-own, output-own}
 
 module _ (s : State) (list : List ℕ) (j : Judged) (p : judgedOf j ≡ judgeReply s list) where

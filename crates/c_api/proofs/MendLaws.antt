@@ -7,6 +7,7 @@ use lib.ListN.{length, set}
 use Rattle.lists.specs.Lists.{over}
 use Rattle.study.specs.declared.Refusal.{Refusal}
 use Rattle.study.specs.Refusals.{numbered, accepted, refused, settled}
+use Rattle.study.proofs.CallLaws.{reply-refused, reply-value}
 use Rattle.metric_closure.specs.declared.Closed.{Closed}
 use Rattle.metric_closure.specs.declared.Closed.the-variants as ClosedCase
 use Rattle.metric_closure.specs.Closure.{loweredPairs}
@@ -18,7 +19,7 @@ use Rattle.c_api.specs.Api.{code, roomFirst, lacks, mendVerdict, mendTab
 use Rattle.c_api.specs.Records.{Narrow}
 use Rattle.c_api.proofs.CodeLaws.{small, first-narrow}
 use Rattle.c_api.proofs.CallLaws.{lacks-yes, lacks-no}
-use Rattle.c_api.proofs.OutputLaws.{reply-refused, reply-value, output-refused, output-done, first-set, code-too-short, output-too-short}
+use Rattle.c_api.proofs.OutputLaws.{output-refused, output-done, first-set, code-too-short, output-too-short}
 
 -- ---- the answer of the closure
 

@@ -16,6 +16,7 @@ use Rattle.study.specs.Study.{Contents, size, distance, problem}
 use Rattle.study.specs.Refusals.{Numbered, numbered, Verdict, accepted, refused, verdictOf, settled, value, refusal, replied, Reason}
 use Rattle.study.specs.Calls.{centresReasons, centreNumbers}
 use Rattle.study.specs.Theorems.{ValidContents}
+use Rattle.study.proofs.CallLaws.{reply-refused, reply-value}
 use Rattle.file_format.specs.File.{fileOf, byteLength}
 use Rattle.file_format.proofs.Proofs.{files}
 use Rattle.radius_search.proofs.FrontLaws.{centres-few}
@@ -36,16 +37,6 @@ use Rattle.c_api.specs.Records.{Narrow}
 use Rattle.c_api.proofs.RecordLaws.{withRecord}
 use Rattle.c_api.proofs.CodeLaws.{small, held-narrow}
 use Rattle.c_api.proofs.CallLaws.{lacks-one, lacks-neither, Same, same-held}
-
--- ---- a reply, and the verdict in it
-
-pub reply-refused : {A : Type 0} {y : Numbered} (v : Verdict) (x : A) → refusal y ≡ replied v x → v ≡ refused y
-reply-refused accepted x e = absurd (let z : _≡_ {A = ℕ} 0 1 = cc in omega arith)
-reply-refused (refused r) x e = cc
-
-pub reply-value : {A : Type 0} {z : A} (v : Verdict) (x : A) → value z ≡ replied v x → (v ≡ accepted) × (z ≡ x)
-reply-value accepted x e = (refl, cc)
-reply-value (refused r) x e = absurd (let z : _≡_ {A = ℕ} 0 1 = cc in omega arith)
 
 -- ---- what is written
 

@@ -15,6 +15,7 @@ use Rattle.study.specs.Problem.{blocking}
 use Rattle.study.specs.Study.{Study, problem}
 use Rattle.study.specs.Refusals.{Numbered, Verdict, accepted, refused, settled, value, replied, firstOf}
 use Rattle.study.specs.Calls.{centreNumbers, figures, judgement}
+use Rattle.study.proofs.CallLaws.{reply-value}
 use Rattle.file_format.specs.File.{fileOf, decoded, readReasons}
 use Rattle.file_format.specs.Theorems.{Bytes}
 use Rattle.validity.specs.Memory.{State, short, isDataset, studyOf, contentsOf, stored}
@@ -117,18 +118,14 @@ module _ (s : State) where
 
 -- ---- files and datasets
 
-replied-value : {A : Type 0} (v : Verdict) (x y : A) → replied v x ≡ value y → (v ≡ accepted) × (x ≡ y)
-replied-value accepted x y e = (refl, cc)
-replied-value (refused r) x y e = absurd (let z : _≡_ {A = ℕ} 0 1 = cc in omega arith)
-
 -- Write is accepted: it writes the file of a dataset
 module _ (s : State) (bytes : List ℕ) (n : ℕ) (e : writeReply s (length bytes) ≡ value n) where
   abbrev written : List ℕ
   written = fileOf (contentsOf s)
 
-  accepts : (writeAnswer s (length bytes) ≡ accepted) × (length written ≡ n)
+  accepts : (writeAnswer s (length bytes) ≡ accepted) × (n ≡ length written)
   unfolding writeReply
-  accepts = replied-value (writeAnswer s (length bytes)) (length written) n e
+  accepts = reply-value (writeAnswer s (length bytes)) (length written) (sym e)
 
   good : HeldAccepted s (λ H. writeReasons H (length bytes))
   unfolding writeAnswer
@@ -140,7 +137,7 @@ module _ (s : State) (bytes : List ℕ) (n : ℕ) (e : writeReply s (length byte
   file-is : take n (writeLeaves s bytes) ≡ written
   unfolding writeLeaves
   file-is =
-      ap₂ (λ (k : ℕ) v. take k (settled v (over written bytes) bytes)) (sym (accepts .1)) (accepts .0)
+      ap₂ (λ (k : ℕ) v. take k (settled v (over written bytes) bytes)) (accepts .1) (accepts .0)
       ∙ take-append-seam written (drop (length written) bytes)
 
   same : readLeaves s (take n (writeLeaves s bytes)) ≡ s

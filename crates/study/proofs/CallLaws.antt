@@ -14,7 +14,7 @@ use Rattle.lists.specs.Lists.{between, every, sumBelow, isEmpty}
 use Rattle.lists.proofs.Tests.{T-true, T-false, not-not, test, split, between-T, cond-yes, cond-no, every-at}
 use Rattle.study.specs.declared.Minima.{Minima}
 use Rattle.study.specs.Study.{Tide, Study, Contents, size, noTide, tide, distance, validMinima, TriangleInequality, Valid, MeasuredStudy}
-use Rattle.study.specs.Refusals.{accepted, refused, Reason, firstOf}
+use Rattle.study.specs.Refusals.{Numbered, Verdict, accepted, refused, value, refusal, replied, Reason, firstOf}
 use Rattle.study.specs.Calls.{openReasons, opened, opening, understood, minimaReasons, withMinima, settingMinima, violations}
 use Rattle.study.specs.Calls.{enterReasons, measuredReasons, entered, entering}
 use Rattle.study.specs.Calls.{withdrawReasons, removeAt, shortened, withdrawn, withdrawing, skip}
@@ -40,6 +40,16 @@ none-holds (r ∷ rs) e = from (λ f. none-holds rs f) (r .holds) e
     from : (firstOf rs ≡ accepted → NoneHolds rs) → (b : Bool) → cond b (refused (r .because)) (firstOf rs) ≡ accepted → T (not b) × NoneHolds rs
     from ih true f = absurd (never f)
     from ih false f = (tt, ih f)
+
+-- ---- a reply, and the verdict in it
+
+pub reply-refused : {A : Type 0} {y : Numbered} (v : Verdict) (x : A) → refusal y ≡ replied v x → v ≡ refused y
+reply-refused accepted x e = absurd (let z : _≡_ {A = ℕ} 0 1 = cc in omega arith)
+reply-refused (refused r) x e = cc
+
+pub reply-value : {A : Type 0} {z : A} (v : Verdict) (x : A) → value z ≡ replied v x → (v ≡ accepted) × (z ≡ x)
+reply-value accepted x e = (refl, cc)
+reply-value (refused r) x e = absurd (let z : _≡_ {A = ℕ} 0 1 = cc in omega arith)
 
 -- ---- Open
 

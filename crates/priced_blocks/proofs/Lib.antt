@@ -1,0 +1,3 @@
+-- Laws; the functions' proofs stand beside them.
+pub mod CostLaws
+pub mod ReplyLaws
