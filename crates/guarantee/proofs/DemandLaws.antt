@@ -4,17 +4,18 @@ use Prim.Native.Nat.{ℕ, _≤_}
 use native.Mathlib.Omega.{arith}
 use mathlib.Core.Path.{_≡_, refl, sym, ap, ap₂, _∙_, subst}
 use mathlib.Core.Bool.{false}
-use mathlib.Core.List.{List, [], _∷_}
+use mathlib.Core.List.{List, [], _∷_, _++_}
 use lib.Dec.{T, ltb}
 use lib.Arith.{le→nltb}
-use lib.ListN.{length, take, drop}
+use lib.ListN.{length, take, drop, replicate}
 use lib.Seq.{take-append-seam}
 use Rattle.lists.specs.Lists.{over}
 use Rattle.lists.proofs.Tests.{T-true, true-T, T-false}
+use Rattle.study.specs.Limits.{maxSettings}
 use Rattle.study.specs.Problem.{blocking}
 use Rattle.study.specs.Study.{Study, problem}
 use Rattle.study.specs.Refusals.{Numbered, Verdict, accepted, refused, settled, value, replied, firstOf}
-use Rattle.study.specs.Calls.{centreNumbers, figures, judgement}
+use Rattle.study.specs.Calls.{centreNumbers, Figures, figures, judgement}
 use Rattle.study.proofs.CallLaws.{reply-value}
 use Rattle.file_format.specs.File.{fileOf, decoded, readReasons}
 use Rattle.file_format.specs.Theorems.{Bytes}
@@ -26,8 +27,10 @@ use Rattle.dataset.proofs.AnswerLaws.{HeldAccepted, fresh-own, accepted-held, h
 use Rattle.study_file.specs.Answers.{readAnswer, readLeaves, writeReasons, writeAnswer, writeReply, writeLeaves}
 use Rattle.study_file.proofs.Proofs.{for-files}
 use Rattle.blocking.specs.Answers.{centresAnswer, centresFront, centresLeaves, blockAnswer, blockReply, blockList, blockRecords, judgeAnswer, judgeReply}
-use Rattle.guarantee.specs.Runs.{updating, find-centres, make-blocks, judge-list, write-file, Output, inquiring, figureNumbers, judgementNumbers, Call}
-use Rattle.guarantee.specs.Runs.{call-ask, Query, reasons, answer, made, after, lent, told, output}
+use Rattle.pricing.specs.Tariff.{total, shares}
+use Rattle.priced_blocks.specs.Answers.{tariffReply}
+use Rattle.guarantee.specs.Runs.{updating, find-centres, make-blocks, price-blocks, judge-list, write-file, Output, inquiring, figureNumbers}
+use Rattle.guarantee.specs.Runs.{judgementNumbers, Call, call-ask, Query, reasons, answer, made, after, lent, told, output}
 use Rattle.guarantee.specs.Theorems.{replyNumbers, AsContracts, FilesAndDatasets}
 
 -- ---- demand 1
@@ -60,6 +63,12 @@ numbers-settled : {A : Type 0} (f : A → List ℕ) (v : Verdict) (x : A) → se
 numbers-settled f accepted x = refl
 numbers-settled f (refused r) x = refl
 
+priced-settled : (v : Verdict) (F : Figures) (price : ℕ) (parts : List ℕ)
+    → settled v (figureNumbers F ++ (price ∷ parts)) []
+    ≡ replyNumbers (λ G. figureNumbers G ++ (settled v price 0 ∷ settled v parts (replicate maxSettings 0))) (replied v F)
+priced-settled accepted F price parts = refl
+priced-settled (refused r) F price parts = refl
+
 module _ (s : State) where
   abbrev S : Study
   S = studyOf s
@@ -83,7 +92,7 @@ module _ (s : State) where
   pub as-contracts : AsContracts s
   unfolding answer reasons after made output told lent updating inquiring contentsOf freshAnswer freshLeaves heldAnswer heldLeaves openAnswer openLeaves
       readAnswer readLeaves minimaAnswer minimaLeaves enterAnswer enterLeaves withdrawAnswer withdrawLeaves centresAnswer
-      blockAnswer blockReply blockList blockRecords judgeAnswer judgeReply writeAnswer writeReply writeLeaves
+      blockAnswer blockReply blockList blockRecords tariffReply judgeAnswer judgeReply writeAnswer writeReply writeLeaves
   as-contracts =
       record {
         on-open = λ k. (refl, refl);
@@ -98,6 +107,15 @@ module _ (s : State) where
             let tells = Q .tells (contentsOf s) in (
               refl,
               part-settled (λ (o : Output). o .numbers) v tells (Q .lent) ∙ numbers-settled figureNumbers v (figures S),
+              part-settled (λ (o : Output). o .lists) v tells (Q .lent) ∙ sym (part-settled (λ l. l ∷ []) v (over (blocking (problem S)) list) list),
+              part-settled (λ (o : Output). o .records) v tells (Q .lent),
+            );
+        on-tariff = λ list records.
+            let v = blockAnswer s (length list) (length records) in
+            let Q = inquiring (price-blocks list records) in
+            let tells = Q .tells (contentsOf s) in (
+              refl,
+              part-settled (λ (o : Output). o .numbers) v tells (Q .lent) ∙ priced-settled v (figures S) (total S) (shares S),
               part-settled (λ (o : Output). o .lists) v tells (Q .lent) ∙ sym (part-settled (λ l. l ∷ []) v (over (blocking (problem S)) list) list),
               part-settled (λ (o : Output). o .records) v tells (Q .lent),
             );

@@ -11,8 +11,8 @@ use Rattle.study.specs.declared.Minima.{Minima}
 use Rattle.study.specs.declared.BlockRecord.{BlockRecord}
 use Rattle.study.specs.Study.{Tide, Contents, noTide}
 use Rattle.study.specs.Refusals.{number, seven, Verdict, accepted, refused}
-use Rattle.guarantee.specs.Runs.{set-minima, enter, withdraw, find-centres, make-blocks, judge-list, write-file, Call, call-open, call-read}
-use Rattle.guarantee.specs.Runs.{call-change, call-ask}
+use Rattle.guarantee.specs.Runs.{set-minima, enter, withdraw, find-centres, make-blocks, price-blocks, judge-list, write-file, Call, call-open}
+use Rattle.guarantee.specs.Runs.{call-read, call-change, call-ask}
 use Rattle.guarantee.specs.History.{verdict, following}
 
 -- b0, and the same b for each setting
@@ -71,6 +71,10 @@ order =
     ∷ case (holding (minima 2 0) two 0) (call-ask (make-blocks (0 ∷ []) (records 2))) 1
     ∷ case (holding (minima 2 0) two 0) (call-ask (make-blocks (0 ∷ 0 ∷ []) (records 1))) 1
     ∷ record { tooShort = false; held = holding (minima 2 0) two 0; call = call-ask (make-blocks (0 ∷ 0 ∷ []) (records 2)); gives = accepted }
+    -- the tariff as Block
+    ∷ case (holding (minima 1 0) [] 0) (call-ask (price-blocks [] [])) 24
+    ∷ case (holding (minima 3 0) two 0) (call-ask (price-blocks [] [])) 25
+    ∷ case (holding (minima 2 0) two 0) (call-ask (price-blocks (0 ∷ 0 ∷ []) (records 1))) 1
     -- Centres: 24 before 1; Judge: 24 before 12; Write: 1
     ∷ case (holding (minima 1 0) [] 0) (call-ask (find-centres 0 [])) 24
     ∷ case (holding (minima 1 0) two 0) (call-ask (find-centres 0 (0 ∷ []))) 1

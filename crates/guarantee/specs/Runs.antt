@@ -2,16 +2,17 @@
 -- stands once, in the tables `updating` and `inquiring`; `AsContracts` (Theorems) says that it is what the call's contract cites. Assumes
 -- nothing.
 use Prim.Native.Nat.{ℕ}
-use mathlib.Core.List.{List, [], _∷_}
+use mathlib.Core.List.{List, [], _∷_, _++_}
 use lib.ListN.{length}
 use Rattle.lists.specs.Lists.{overwrite, over}
 use Rattle.study.specs.declared.Minima.{Minima}
 use Rattle.study.specs.declared.BlockRecord.{BlockRecord}
 use Rattle.study.specs.Problem.{blocking}
-use Rattle.study.specs.Study.{Contents, problem}
+use Rattle.study.specs.Study.{Study, Contents, problem}
 use Rattle.study.specs.Refusals.{Verdict, settled, Reason, firstOf, freshReasons, heldReasons}
 use Rattle.study.specs.Calls.{openReasons, opening, minimaReasons, settingMinima, enterReasons, entering, withdrawReasons, withdrawing, centresReasons}
 use Rattle.study.specs.Calls.{centreNumbers, blockReasons, Figures, figures, blockRecord, judgeReasons, Judgement, approval, disapproval, judgement}
+use Rattle.pricing.specs.Tariff.{total, shares}
 use Rattle.file_format.specs.File.{fileOf, decoded, readReasons}
 use Rattle.validity.specs.Memory.{State, short, isDataset, contentsOf, stored}
 use Rattle.study_file.specs.Answers.{writeReasons}
@@ -45,6 +46,8 @@ pub data Query : Type 0 where
   find-centres : ℕ → List ℕ → Query
   -- the list and the records for the blocks
   make-blocks : List ℕ → List BlockRecord → Query
+  -- the same, and the blocks are priced (document 02, 2.3: the tariff)
+  price-blocks : List ℕ → List BlockRecord → Query
   -- block numbers made by anyone
   judge-list : List ℕ → Query
   -- the bytes for the file
@@ -75,6 +78,23 @@ abbrev pub judgementNumbers : Judgement → List ℕ
 judgementNumbers (approval w) = 1 ∷ w ∷ []
 judgementNumbers disapproval = 0 ∷ []
 
+-- block count, radius and greatest diameter, the price of all blocks, and the eight settings' shares of it
+abbrev pub priceNumbers : Study → List ℕ
+priceNumbers S = figureNumbers (figures S) ++ (total S ∷ shares S)
+
+-- of a call that makes blocks, and answers these numbers of the study
+abbrev pub blockInquiry : (Study → List ℕ) → List ℕ → List BlockRecord → Inquiry
+blockInquiry numbers list records =
+    record {
+      own = λ H. blockReasons (H .study) (length list) (length records);
+      lent = record { numbers = []; lists = list ∷ []; records = records };
+      tells = λ H. let S = H .study in record {
+        numbers = numbers S;
+        lists = over (blocking (problem S)) list ∷ [];
+        records = overwrite (figures S .blocks) (blockRecord S) records;
+      };
+    }
+
 -- what a query asks, is lent and tells
 unfoldable pub inquiring : Query → Inquiry
 inquiring (find-centres g list) =
@@ -87,16 +107,8 @@ inquiring (find-centres g list) =
         records = [];
       };
     }
-inquiring (make-blocks list records) =
-    record {
-      own = λ H. blockReasons (H .study) (length list) (length records);
-      lent = record { numbers = []; lists = list ∷ []; records = records };
-      tells = λ H. let S = H .study in record {
-        numbers = figureNumbers (figures S);
-        lists = over (blocking (problem S)) list ∷ [];
-        records = overwrite (figures S .blocks) (blockRecord S) records;
-      };
-    }
+inquiring (make-blocks list records) = blockInquiry (λ S. figureNumbers (figures S)) list records
+inquiring (price-blocks list records) = blockInquiry priceNumbers list records
 inquiring (judge-list list) =
     record {
       own = λ H. judgeReasons (H .study) list;

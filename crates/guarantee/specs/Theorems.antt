@@ -1,5 +1,5 @@
--- What is proved of every list of calls; there are no proofs here. `demand1`, `demand2` and `demand3` of proofs/Proofs.antt prove the
--- three records of these names. Assumes nothing.
+-- What is proved of every list of calls; there are no proofs here. `demand1`, `demand2`, `demand3` and `for-tariff` of proofs/Proofs.antt
+-- prove the four records of these names. Assumes nothing.
 use Prim.Native.Nat.{ℕ, suc, _*_, _≤_, _<_}
 use mathlib.Core.Path.{_≡_}
 use mathlib.Core.Logic.{_↔_}
@@ -12,7 +12,7 @@ use Rattle.lists.specs.Lists.{greatest, overwrite, over}
 use Rattle.study.specs.declared.Minima.{Minima}
 use Rattle.study.specs.declared.BlockRecord.{BlockRecord}
 use Rattle.study.specs.Problem.{centres, labels, radius, blocking, diameter, greatestDiameter, Feasible}
-use Rattle.study.specs.Study.{Study, Contents, size, problem, Renumbered}
+use Rattle.study.specs.Study.{Study, Contents, size, tide, problem, Renumbered}
 use Rattle.study.specs.Theorems.{Canonical}
 use Rattle.study.specs.Refusals.{number, Numbered, accepted, refused, settled, Reply, value, refusal, firstOf}
 use Rattle.study.specs.Calls.{opening, Figures, blockRecord}
@@ -22,7 +22,11 @@ use Rattle.validity.specs.Memory.{State, short, isDataset, contentsOf}
 use Rattle.dataset.specs.Answers.{openAnswer, openLeaves, minimaAnswer, minimaLeaves, enterAnswer, enterLeaves, withdrawAnswer, withdrawLeaves}
 use Rattle.study_file.specs.Answers.{readAnswer, readLeaves, writeAnswer, writeReply, writeLeaves}
 use Rattle.blocking.specs.Answers.{centresAnswer, centresFront, centresLeaves, blockAnswer, blockReply, blockList, blockRecords, judgeAnswer, judgeReply}
-use Rattle.guarantee.specs.Runs.{set-minima, enter, withdraw, find-centres, make-blocks, judge-list, write-file, Query, figureNumbers, judgementNumbers}
+use Rattle.pricing.specs.Tariff.{total, tidesUnder, shares}
+use Rattle.pricing.specs.Theorems.{ForShares}
+use Rattle.priced_blocks.specs.Answers.{Bill, tariffReply}
+use Rattle.guarantee.specs.Runs.{set-minima, enter, withdraw, find-centres, make-blocks, price-blocks, judge-list, write-file, Query}
+use Rattle.guarantee.specs.Runs.{figureNumbers, judgementNumbers}
 use Rattle.guarantee.specs.Runs.{Call, call-open, call-read, call-change, call-ask, reasons, answer, after, lent, output, Response, response, run}
 use Rattle.guarantee.specs.History.{held, contentsAfter, studyAfter, learnt}
 use Rattle.guarantee.specs.Ledger.{Ledger, emptyLedger, fileLedger, noteAll, ledgerAfter, Exactly}
@@ -48,6 +52,12 @@ pub record AsContracts (s : State) : Type 0 where
   pub on-block : (list : List ℕ) (records : List BlockRecord) → let c = call-ask (make-blocks list records) in
       (answer s c ≡ blockAnswer s (length list) (length records))
       × (output s c .numbers ≡ replyNumbers figureNumbers (blockReply s (length list) (length records)))
+      × (output s c .lists ≡ blockList s list (length records) ∷ [])
+      × (output s c .records ≡ blockRecords s (length list) records)
+  pub on-tariff : (list : List ℕ) (records : List BlockRecord) → let c = call-ask (price-blocks list records) in
+      let B = tariffReply s (length list) (length records) in
+      (answer s c ≡ blockAnswer s (length list) (length records))
+      × (output s c .numbers ≡ replyNumbers (λ F. figureNumbers F ++ (B .total ∷ B .shares)) (B .blocked))
       × (output s c .lists ≡ blockList s list (length records) ∷ [])
       × (output s c .records ≡ blockRecords s (length list) records)
   pub on-judge : (list : List ℕ) → let c = call-ask (judge-list list) in
@@ -151,3 +161,23 @@ pub record Demand2 : Type 0 where
       → CanonicalBlock S F list₀ list records₀ records
   -- files and datasets correspond one to one
   pub files : FilesAndDatasets
+
+-- ---- the tariff (document 02, 2.3)
+
+-- the response of an accepted tariff: the figures, the price and the shares, and the list and the records as they then stand
+abbrev pub charged : Figures → ℕ → List ℕ → List ℕ → List BlockRecord → Response
+charged F price parts list records =
+    record { verdict = accepted; output = record { numbers = figureNumbers F ++ (price ∷ parts); lists = list ∷ []; records = records } }
+
+-- for every start, every list of calls, and the tariff after it, lent any list and records
+pub record ForTariff : Type 0 where
+  -- it is accepted, or refused by a number, exactly as Block is
+  pub as-block : (start : State) (calls : List Call) (list : List ℕ) (records : List BlockRecord)
+      → let s = run start calls in answer s (call-ask (price-blocks list records)) ≡ answer s (call-ask (make-blocks list records))
+  -- where Block is accepted, its figures, list and records are the same, the price is that of the study's blocking, and the shares add
+  -- up to it by the settings' tides
+  pub charges : (start : State) (calls : List Call) (S : Study) (list₀ list : List ℕ) (records₀ records : List BlockRecord) (F : Figures)
+      → studyAfter start calls ≡ some S
+      → response (run start calls) (call-ask (make-blocks list₀ records₀)) ≡ blocked F list records
+      → (response (run start calls) (call-ask (price-blocks list₀ records₀)) ≡ charged F (total S) (shares S) list records)
+      × ForShares (total S) (size S) (tidesUnder (size S) (λ t. tide S t .setting))
