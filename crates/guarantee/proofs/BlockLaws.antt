@@ -11,9 +11,8 @@ use lib.Dec.{T, leb, eqb, eqb→eq, not-T, T-not}
 use lib.ListN.{length, drop, getD, length-append, List·getD-append}
 use borrow.Author.Tests.{ne-eqb}
 use Rattle.lists.specs.Lists.{overwrite, over}
-use Rattle.lists.proofs.Tests.{not-not, split, between-T, eq→eqb}
+use Rattle.lists.proofs.Tests.{not-not, split, eq→eqb}
 use Rattle.lists.proofs.Counting.{nth, nth-is}
-use Rattle.study.specs.Limits.{maxSettings}
 use Rattle.study.specs.declared.BlockRecord.{BlockRecord}
 use Rattle.study.specs.Problem.{Problem, centres, block, labels, radius, blocking, Feasible}
 use Rattle.study.specs.Study.{Study, Contents, size, tide, sufficient, problem, Valid}
@@ -25,9 +24,9 @@ use Rattle.study.proofs.Approximation.{assignment-feasible}
 use Rattle.study.proofs.StudyLaws.{meets-T, validMinima-T}
 use Rattle.study.proofs.CallLaws.{none-holds}
 use Rattle.study.proofs.Proofs.{for-problem, for-study}
-use Rattle.pricing.specs.Tariff.{total, tidesUnder, shares}
-use Rattle.pricing.specs.Theorems.{ForShares}
-use Rattle.pricing.proofs.Proofs.{every-blocking}
+use Rattle.pricing.specs.Tariff.{total, shares}
+use Rattle.pricing.specs.Theorems.{ForStudy}
+use Rattle.pricing.proofs.Proofs.{every-study}
 use Rattle.guarantee.specs.Runs.{make-blocks, price-blocks, Output, Inquiry, inquiring, call-ask, Response, lent}
 use Rattle.guarantee.specs.History.{reasonsAfter, toldAfter, verdict, outputs, learnt}
 use Rattle.guarantee.specs.Theorems.{Guaranteed, CanonicalBlock, blocked, charged}
@@ -172,14 +171,12 @@ module _ (H : Contents) (ok : ValidContents H) where
         let respond : Verdict → Response = λ v. record { verdict = v; output = settled v (T .tells H) (T .lent) } in
         ap respond accepts ∙ (λ i. charged (figures-are i) (total S) (shares S) (list-is i) (records-are i))
 
-    pub shares-fair : ForShares (total S) (size S) (tidesUnder (size S) (λ t. tide S t .setting))
-    unfolding total inquiring blockReasons
-    shares-fair =
+    pub block-shared : ForStudy S
+    unfolding inquiring blockReasons
+    block-shared =
         let none = none-holds (blockReasons S (length list₀) (length records₀)) accepts .0 in
-        every-blocking (figures S .blocks) (λ i. blockRecord S i .tides) (λ i. blockRecord S i .diameter) (size S) (λ t. tide S t .setting)
+        every-study S (ok .study)
         (⊎-elim (λ l. l) (λ l. absurd (T-not (eqb (size S) 0) none (eq→eqb (size S) 0 (omega arith)))) (split 0 (size S)))
-        (λ t l. between-T 1 maxSettings (tide S t .setting) .1
-        (ok .study .setting-low t l, omega (arith, ok .study .setting-high t l, ok .study .k-high)))
 
     pub block-canonical : CanonicalBlock S F list₀ list records₀ records
     unfolding figures

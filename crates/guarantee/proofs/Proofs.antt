@@ -8,19 +8,19 @@ use mathlib.Core.List.{List}
 use mathlib.Core.Option.{Option, none, some}
 use Rattle.study.specs.declared.BlockRecord.{BlockRecord}
 use Rattle.study.specs.Problem.{Feasible}
-use Rattle.study.specs.Study.{Study, Contents, size, tide, problem}
+use Rattle.study.specs.Study.{Study, Contents, size, problem}
 use Rattle.study.specs.Refusals.{Numbered, number, accepted, refused, firstOf, freshReasons, heldReasons}
 use Rattle.study.specs.Calls.{Figures}
 use Rattle.study.specs.Theorems.{ValidContents}
 use Rattle.validity.specs.Memory.{State, short}
-use Rattle.pricing.specs.Tariff.{total, tidesUnder, shares}
-use Rattle.pricing.specs.Theorems.{ForShares}
+use Rattle.pricing.specs.Tariff.{total, shares}
+use Rattle.pricing.specs.Theorems.{ForStudy}
 use Rattle.guarantee.specs.Runs.{make-blocks, price-blocks, inquiring, Call, call-ask, reasons, answer, Response, response, run}
 use Rattle.guarantee.specs.History.{reasonsAfter, verdict, contentsAfter, studyIn, studyAfter, learnt}
 use Rattle.guarantee.specs.Theorems.{Guaranteed, CanonicalBlock, blocked, Demand1, Demand2, Demand3, charged, ForTariff}
 use Rattle.guarantee.proofs.Follows.{held-some, holds-valid, holds, as-short, settles}
 use Rattle.guarantee.proofs.LedgerLaws.{exactly, anew}
-use Rattle.guarantee.proofs.BlockLaws.{block-25, block-guaranteed, block-canonical, block-charged, shares-fair}
+use Rattle.guarantee.proofs.BlockLaws.{block-25, block-guaranteed, block-canonical, block-charged, block-shared}
 use Rattle.guarantee.proofs.DemandLaws.{unchanged, unwritten, only-reads, as-contracts, files-and-datasets}
 
 -- the study is that of the contents
@@ -113,7 +113,7 @@ module _ (start : State) (calls : List Call) where
 
     charges : (S : Study) → studyAfter start calls ≡ some S
         → (response (run start calls) (call-ask (price-blocks list₀ records₀)) ≡ charged F (total S) (shares S) list records)
-        × ForShares (total S) (size S) (tidesUnder (size S) (λ t. tide S t .setting))
+        × ForStudy S
     unfolding studyAfter
     charges S e =
         let K = studied (contentsAfter start calls) S e in
@@ -122,13 +122,12 @@ module _ (start : State) (calls : List Call) where
         let block = sym (learns-some list₀ records₀ H (K .is)) ∙ q in
         let price = call-ask (price-blocks list₀ records₀) in
         subst
-        (λ R. (response (run start calls) price ≡ charged F (total R) (shares R) list records)
-        × ForShares (total R) (size R) (tidesUnder (size R) (λ t. tide R t .setting)))
+        (λ R. (response (run start calls) price ≡ charged F (total R) (shares R) list records) × ForStudy R)
         (K .study) (
           settles start calls price ∙ ap (λ h. learnt (short start) h price) (K .is)
               ∙ ap (λ tooShort. learnt tooShort (some H) price) (long list₀ records₀ H (K .is))
               ∙ block-charged H ok list₀ list records₀ records F block,
-          shares-fair H ok list₀ list records₀ records F block,
+          block-shared H ok list₀ list records₀ records F block,
         )
 
 pub demand1 : Demand1

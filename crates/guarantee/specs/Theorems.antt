@@ -12,7 +12,7 @@ use Rattle.lists.specs.Lists.{greatest, overwrite, over}
 use Rattle.study.specs.declared.Minima.{Minima}
 use Rattle.study.specs.declared.BlockRecord.{BlockRecord}
 use Rattle.study.specs.Problem.{centres, labels, radius, blocking, diameter, greatestDiameter, Feasible}
-use Rattle.study.specs.Study.{Study, Contents, size, tide, problem, Renumbered}
+use Rattle.study.specs.Study.{Study, Contents, size, problem, Renumbered}
 use Rattle.study.specs.Theorems.{Canonical}
 use Rattle.study.specs.Refusals.{number, Numbered, accepted, refused, settled, Reply, value, refusal, firstOf}
 use Rattle.study.specs.Calls.{opening, Figures, blockRecord}
@@ -22,8 +22,8 @@ use Rattle.validity.specs.Memory.{State, short, isDataset, contentsOf}
 use Rattle.dataset.specs.Answers.{openAnswer, openLeaves, minimaAnswer, minimaLeaves, enterAnswer, enterLeaves, withdrawAnswer, withdrawLeaves}
 use Rattle.study_file.specs.Answers.{readAnswer, readLeaves, writeAnswer, writeReply, writeLeaves}
 use Rattle.blocking.specs.Answers.{centresAnswer, centresFront, centresLeaves, blockAnswer, blockReply, blockList, blockRecords, judgeAnswer, judgeReply}
-use Rattle.pricing.specs.Tariff.{total, tidesUnder, shares}
-use Rattle.pricing.specs.Theorems.{ForShares}
+use Rattle.pricing.specs.Tariff.{total, shares}
+use Rattle.pricing.specs.Theorems.{ForStudy}
 use Rattle.priced_blocks.specs.Answers.{Bill, tariffReply}
 use Rattle.guarantee.specs.Runs.{set-minima, enter, withdraw, find-centres, make-blocks, price-blocks, judge-list, write-file, Query}
 use Rattle.guarantee.specs.Runs.{figureNumbers, judgementNumbers}
@@ -174,10 +174,10 @@ pub record ForTariff : Type 0 where
   -- it is accepted, or refused by a number, exactly as Block is
   pub as-block : (start : State) (calls : List Call) (list : List ℕ) (records : List BlockRecord)
       → let s = run start calls in answer s (call-ask (price-blocks list records)) ≡ answer s (call-ask (make-blocks list records))
-  -- where Block is accepted, its figures, list and records are the same, the price is that of the study's blocking, and the shares add
-  -- up to it by the settings' tides
+  -- where Block is accepted, figures, list and records are Block's, the price is that of the study's blocking, and the shares of the
+  -- settings add up to it (pricing/Theorems)
   pub charges : (start : State) (calls : List Call) (S : Study) (list₀ list : List ℕ) (records₀ records : List BlockRecord) (F : Figures)
       → studyAfter start calls ≡ some S
       → response (run start calls) (call-ask (make-blocks list₀ records₀)) ≡ blocked F list records
       → (response (run start calls) (call-ask (price-blocks list₀ records₀)) ≡ charged F (total S) (shares S) list records)
-      × ForShares (total S) (size S) (tidesUnder (size S) (λ t. tide S t .setting))
+      × ForStudy S
