@@ -25,7 +25,7 @@ use Rattle.study.proofs.StudyLaws.{meets-T, validMinima-T}
 use Rattle.study.proofs.CallLaws.{none-holds}
 use Rattle.study.proofs.Proofs.{for-problem, for-study}
 use Rattle.pricing.specs.Tariff.{total, shares}
-use Rattle.pricing.specs.Theorems.{ForStudy}
+use Rattle.pricing.specs.Theorems.{StudyShares}
 use Rattle.pricing.proofs.Proofs.{every-study}
 use Rattle.guarantee.specs.Runs.{make-blocks, price-blocks, Output, Inquiry, inquiring, call-ask, Response, lent}
 use Rattle.guarantee.specs.History.{reasonsAfter, toldAfter, verdict, outputs, learnt}
@@ -171,7 +171,7 @@ module _ (H : Contents) (ok : ValidContents H) where
         let respond : Verdict → Response = λ v. record { verdict = v; output = settled v (T .tells H) (T .lent) } in
         ap respond accepts ∙ (λ i. charged (figures-are i) (total S) (shares S) (list-is i) (records-are i))
 
-    pub block-shared : ForStudy S
+    pub block-shared : StudyShares S
     unfolding inquiring blockReasons
     block-shared =
         let none = none-holds (blockReasons S (length list₀) (length records₀)) accepts .0 in

@@ -14,7 +14,7 @@ use Rattle.study.specs.Calls.{Figures}
 use Rattle.study.specs.Theorems.{ValidContents}
 use Rattle.validity.specs.Memory.{State, short}
 use Rattle.pricing.specs.Tariff.{total, shares}
-use Rattle.pricing.specs.Theorems.{ForStudy}
+use Rattle.pricing.specs.Theorems.{StudyShares}
 use Rattle.guarantee.specs.Runs.{make-blocks, price-blocks, inquiring, Call, call-ask, reasons, answer, Response, response, run}
 use Rattle.guarantee.specs.History.{reasonsAfter, verdict, contentsAfter, studyIn, studyAfter, learnt}
 use Rattle.guarantee.specs.Theorems.{Guaranteed, CanonicalBlock, blocked, Demand1, Demand2, Demand3, charged, ForTariff}
@@ -113,7 +113,7 @@ module _ (start : State) (calls : List Call) where
 
     charges : (S : Study) → studyAfter start calls ≡ some S
         → (response (run start calls) (call-ask (price-blocks list₀ records₀)) ≡ charged F (total S) (shares S) list records)
-        × ForStudy S
+        × StudyShares S
     unfolding studyAfter
     charges S e =
         let K = studied (contentsAfter start calls) S e in
@@ -122,7 +122,7 @@ module _ (start : State) (calls : List Call) where
         let block = sym (learns-some list₀ records₀ H (K .is)) ∙ q in
         let price = call-ask (price-blocks list₀ records₀) in
         subst
-        (λ R. (response (run start calls) price ≡ charged F (total R) (shares R) list records) × ForStudy R)
+        (λ R. (response (run start calls) price ≡ charged F (total R) (shares R) list records) × StudyShares R)
         (K .study) (
           settles start calls price ∙ ap (λ h. learnt (short start) h price) (K .is)
               ∙ ap (λ tooShort. learnt tooShort (some H) price) (long list₀ records₀ H (K .is))

@@ -23,7 +23,7 @@ use Rattle.dataset.specs.Answers.{openAnswer, openLeaves, minimaAnswer, minimaL
 use Rattle.study_file.specs.Answers.{readAnswer, readLeaves, writeAnswer, writeReply, writeLeaves}
 use Rattle.blocking.specs.Answers.{centresAnswer, centresFront, centresLeaves, blockAnswer, blockReply, blockList, blockRecords, judgeAnswer, judgeReply}
 use Rattle.pricing.specs.Tariff.{total, shares}
-use Rattle.pricing.specs.Theorems.{ForStudy}
+use Rattle.pricing.specs.Theorems.{StudyShares}
 use Rattle.priced_blocks.specs.Answers.{Bill, tariffReply}
 use Rattle.guarantee.specs.Runs.{set-minima, enter, withdraw, find-centres, make-blocks, price-blocks, judge-list, write-file, Query}
 use Rattle.guarantee.specs.Runs.{figureNumbers, judgementNumbers}
@@ -180,4 +180,4 @@ pub record ForTariff : Type 0 where
       → studyAfter start calls ≡ some S
       → response (run start calls) (call-ask (make-blocks list₀ records₀)) ≡ blocked F list records
       → (response (run start calls) (call-ask (price-blocks list₀ records₀)) ≡ charged F (total S) (shares S) list records)
-      × ForStudy S
+      × StudyShares S
