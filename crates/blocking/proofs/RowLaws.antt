@@ -41,7 +41,8 @@ module _ {s : State} {list room : ℕ} {rows : BlockRows} (R : RowsOf s list roo
       let e : length (marks c) ≡ room = length-replicate room (mark c) in
       R .records (marks c) e ∙ ap (λ v. settled v (overwrite (figures S .blocks) (blockRecord S) (marks c)) (marks c)) (ap (blockAnswer s list) e ∙ ok)
 
-  put-at : (c i : ℕ) → getD (overwrite (rows .count) (rowAt rows) (marks c)) i (mark c) ≡ getD (overwrite (figures S .blocks) (blockRecord S) (marks c)) i (mark c)
+  put-at : (c i : ℕ)
+      → getD (overwrite (rows .count) (rowAt rows) (marks c)) i (mark c) ≡ getD (overwrite (figures S .blocks) (blockRecord S) (marks c)) i (mark c)
   put-at c i = ap (λ l. getD l i (mark c)) (put c)
 
   -- past a count the marks stay
