@@ -1,4 +1,5 @@
--- The sheet at each way out of the code: of a refused Read, and of Block on what an accepted one leaves. Assumes nothing.
+-- Any text of a file, and the sheet, at each way out of the code: of a refused Read, and of Block on what an accepted one leaves. Assumes
+-- nothing.
 use Prim.Native.Nat.{ℕ}
 use native.Mathlib.Omega.{arith}
 use mathlib.Core.Path.{_≡_, refl, sym, ap, ap₂, _∙_}
@@ -50,7 +51,7 @@ over-blank-is accepted H = sheet-written (figures (H .study)) (blockRecord (H .s
 over-blank-is (refused r) H = refl
 
 -- what the code prints of a record and memory, by Block's verdict and the contents
-pub blocked-printed : (s : State) → blockedText s ≡ printed (blockAnswer s 120 120) (contentsOf s)
+blocked-printed : (s : State) → blockedText s ≡ printed (blockAnswer s 120 120) (contentsOf s)
 unfolding blockedText blockReply blockRecords noRecords contentsOf
 blocked-printed s =
     ap

@@ -10,6 +10,6 @@ use Rattle.sheet_of_file.specs.Sheet.{sheetOf}
 abbrev pub FirstBytesDecide : (List ℕ → List ℕ) → Type 0
 FirstBytesDecide text = (input : List ℕ) → text (take 17909 input) ≡ text input
 
--- its sheet
+-- they have its sheet
 abbrev pub Decided : Type 0
 Decided = FirstBytesDecide sheetOf
