@@ -9,14 +9,14 @@ use Rattle.study.specs.Refusals.{firstOf}
 use Rattle.study.specs.Calls.{triangle, violations, blockReasons, figures, blockRecord}
 use Rattle.file_format.specs.Bits.{binary}
 use Rattle.file_format.specs.File.{bitLength, byteLength, tideAt, minimaAt, decoded, headReasons, tideReasons, readReasons}
-use Rattle.sheet_text.specs.Text.{digits, decimal, heading, line, lines, closing, refusedText}
-use Rattle.sheet_of_file.specs.Sheet.{sheetOf}
+use Rattle.sheet_text.specs.Text.{digits, decimal, heading, line, eachLine, closing, refusedText}
+use Rattle.sheet_of_file.specs.Sheet.{fileText, sheetOf}
 use Rattle.sheet_of_file.specs.Cases.{Sheets}
 
 pub sheets : Sheets
-unfolding sheetOf readReasons headReasons tideReasons decoded minimaAt tideAt byteLength bitLength binary
+unfolding sheetOf fileText readReasons headReasons tideReasons decoded minimaAt tideAt byteLength bitLength binary
     triangle violations distance tide noTide validMinima every sumBelow tabulate flatMap firstOf blockReasons figures blockRecord
     centresAmong centres centreOf choices block labels allSufficient assignments assignable candidates radius blocking
     diameter greatestDiameter meets sufficient problem countBelow greatest headD
-    heading lines line closing refusedText decimal digits
+    heading eachLine line closing refusedText decimal digits
 sheets = refl

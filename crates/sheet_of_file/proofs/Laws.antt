@@ -1,4 +1,5 @@
--- The sheet at each way out of the code: of a refused Read, and of Block on what an accepted one leaves. Assumes nothing.
+-- Any text of a file, and the sheet, at each way out of the code: of a refused Read, and of Block on what an accepted one leaves. Assumes
+-- nothing.
 use Prim.Native.Nat.{ℕ}
 use native.Mathlib.Omega.{arith}
 use mathlib.Core.Path.{_≡_, refl, sym, ap, ap₂, _∙_}
@@ -29,7 +30,7 @@ use Rattle.blocking.specs.Answers.{blockAnswer, blockReply, blockRecords}
 use Rattle.blocking.specs.Rows.{noRecord, noRecords}
 use Rattle.sheet_text.specs.Text.{refusedText, sheetText}
 use Rattle.sheet_text.proofs.LineLaws.{sheet-written}
-use Rattle.sheet_of_file.specs.Sheet.{printed, sheetOf, blockedText}
+use Rattle.sheet_of_file.specs.Sheet.{printed, fileText, sheetOf, blockedText}
 
 -- as the code prints what Block answers and leaves
 pub blocked-text : (s : State) (list : ℕ) {a : Reply Figures} {rs : List BlockRecord} → list ≡ 120 → a ≡ blockReply s list 120
@@ -49,21 +50,15 @@ over-blank-is : (v : Verdict) (H : Contents) → over-blank v H ≡ printed v H
 over-blank-is accepted H = sheet-written (figures (H .study)) (blockRecord (H .study)) noRecords (H .withdrawals)
 over-blank-is (refused r) H = refl
 
-blocked-over-blank : (s : State) → blockedText s ≡ over-blank (blockAnswer s 120 120) (contentsOf s)
+-- what the code prints of a record and memory, by Block's verdict and the contents
+blocked-printed : (s : State) → blockedText s ≡ printed (blockAnswer s 120 120) (contentsOf s)
 unfolding blockedText blockReply blockRecords noRecords contentsOf
-blocked-over-blank s =
+blocked-printed s =
     ap
     (λ n. sheetText (blockReply s 120 120)
     (settled (blockAnswer s 120 n) (overwrite (figures (studyOf s) .blocks) (blockRecord (studyOf s)) noRecords) noRecords) (s .dataset .withdrawn))
     (length-replicate 120 noRecord)
-
--- ---- what Read refuses
-
-pub refusing : (file : List ℕ) {r : Numbered} → firstOf (readReasons file) ≡ refused r → sheetOf file ≡ refusedText r
-unfolding sheetOf
-refusing file e =
-    let H = decoded file in
-    ap (λ v. printed v H) (firstOf-sooner (readReasons file) (blockReasons (H .study) 120 120) e)
+    ∙ over-blank-is (blockAnswer s 120 120) (contentsOf s)
 
 -- ---- a file, read over memory that is long enough
 
@@ -98,18 +93,37 @@ module _ (file : List ℕ) (over : State) (long : short over ≡ false) where
         ∙ ap (λ (C : Contents). firstOf (blockReasons (C .study) 120 120)) contents
         ∙ sym (firstOf-later (readReasons file) (blockReasons (H .study) 120 120) ok)
 
-    blocked : blockedText (stored H over) ≡ sheetOf file
-    unfolding sheetOf
-    blocked =
-        blocked-over-blank (stored H over) ∙ ap₂ over-blank verdict contents
-        ∙ over-blank-is (firstOf (readReasons file ++ blockReasons (H .study) 120 120)) H
+-- ---- any text of a file: where Read refuses it, and where Read takes it
 
-  module _ {a : Answer} (told : verdictOf a ≡ readAnswer over file) where
-    pub sheet-refused : {why : Refusal} → a ≡ Refused why → refusedText (numbered why) ≡ sheetOf file
-    sheet-refused e = sym (refusing file (sym own ∙ sym told ∙ ap verdictOf e))
+module _ (print : Verdict → Contents → List ℕ) where
+  -- where a refusal prints alone
+  module _ (alone : (r : Numbered) (H : Contents) → print (refused r) H ≡ refusedText r) where
+    pub refused-alone : (file : List ℕ) {r : Numbered} → firstOf (readReasons file) ≡ refused r → fileText print file ≡ refusedText r
+    unfolding fileText
+    refused-alone file {r} e =
+        let H = decoded file in
+        ap (λ v. print v H) (firstOf-sooner (readReasons file) (blockReasons (H .study) 120 120) e) ∙ alone r H
 
-    pub sheet-blocked : {s : State} → a ≡ Done → s ≡ readLeaves over file → blockedText s ≡ sheetOf file
-    unfolding readLeaves freshLeaves readAnswer
-    sheet-blocked {s} e f =
-        let q : readAnswer over file ≡ accepted = sym told ∙ ap verdictOf e in
-        ap blockedText (f ∙ ap (λ v. settled v (stored H over) over) q) ∙ blocked (sym own ∙ q)
+    pub text-refused : (file : List ℕ) (over : State) → short over ≡ false → {a : Answer} → verdictOf a ≡ readAnswer over file
+        → {why : Refusal} → a ≡ Refused why → refusedText (numbered why) ≡ fileText print file
+    text-refused file over long told e = sym (refused-alone file (sym (own file over long) ∙ sym told ∙ ap verdictOf e))
+
+  pub text-taken : (file : List ℕ) (over : State) → short over ≡ false → {a : Answer} → verdictOf a ≡ readAnswer over file
+      → {s : State} → a ≡ Done → s ≡ readLeaves over file → print (blockAnswer s 120 120) (contentsOf s) ≡ fileText print file
+  unfolding readLeaves freshLeaves readAnswer fileText
+  text-taken file over long told {s} e f =
+      let q : readAnswer over file ≡ accepted = sym told ∙ ap verdictOf e in
+      let ok = sym (own file over long) ∙ q in
+      ap (λ t. print (blockAnswer t 120 120) (contentsOf t)) (f ∙ ap (λ v. settled v (stored (decoded file) over) over) q)
+      ∙ ap₂ print (verdict file over long ok) (contents file over long ok)
+
+-- ---- the sheet
+
+module _ (file : List ℕ) (over : State) (long : short over ≡ false) {a : Answer} (told : verdictOf a ≡ readAnswer over file) where
+  pub sheet-refused : {why : Refusal} → a ≡ Refused why → refusedText (numbered why) ≡ sheetOf file
+  unfolding sheetOf
+  sheet-refused e = text-refused printed (λ r H. refl) file over long told e
+
+  pub sheet-blocked : {s : State} → a ≡ Done → s ≡ readLeaves over file → blockedText s ≡ sheetOf file
+  unfolding sheetOf
+  sheet-blocked {s} e f = blocked-printed s ∙ text-taken printed file over long told e f

@@ -11,6 +11,7 @@ use lib.ListN.{length, take}
 use lib.Seq.{length-take-le, take-all, getD-take}
 use Rattle.lists.specs.Lists.{between}
 use Rattle.lists.proofs.Tests.{split, T-false, not-not, between-T, cond-yes}
+use Rattle.study.specs.Study.{Contents}
 use Rattle.study.specs.Refusals.{Numbered, number, Verdict, refused, firstOf}
 use Rattle.file_format.specs.Bits.{bitAt, bitsAt}
 use Rattle.file_format.specs.File.{byteLength, headReasons}
@@ -18,9 +19,9 @@ use Rattle.file_format.proofs.BitLaws.{binary-ext}
 use Rattle.file_format.proofs.ReadLaws.{refused-head}
 use Rattle.study_file.proofs.Lengths.{length-sum}
 use Rattle.sheet_text.specs.Text.{refusedText}
-use Rattle.sheet_of_file.specs.Sheet.{sheetOf}
-use Rattle.sheet_of_file.specs.Limit.{Decided}
-use Rattle.sheet_of_file.proofs.Laws.{refusing}
+use Rattle.sheet_of_file.specs.Sheet.{printed, fileText, sheetOf}
+use Rattle.sheet_of_file.specs.Limit.{FirstBytesDecide, Decided}
+use Rattle.sheet_of_file.proofs.Laws.{refused-alone}
 
 -- why it is refused, of its mark, number of tides and k
 unfoldable tooLong : ℕ → ℕ → ℕ → Numbered
@@ -48,23 +49,32 @@ module _ (s : List ℕ) (long : 17908 < length s) where
       (first-four (not (eqb (bitsAt s 0 8) 0x54)) (ltb 120 n) (not (between 1 8 k)) (not (eqb (length s) (byteLength k n))) _
       (λ b c. no-length k n (between-T 1 8 k .0 (not-not (between 1 8 k) c) .1) (nltb→le 120 n b)))
 
-  sheet-long : sheetOf s ≡ refusedText (tooLong (bitsAt s 0 8) (bitsAt s 8 7) (bitsAt s 15 4))
-  sheet-long = refusing s (refused-head s refused-long)
-
   same-bits : (at w : ℕ) → at + w ≤ 19 → bitsAt (take 17909 s) at w ≡ bitsAt s at w
   same-bits at w few =
       binary-ext (bitAt (take 17909 s)) (bitAt s) at at w
       (λ j l. ap (λ x. x / 2 ^ (7 - (at + j) % 8) % 2) (getD-take 17909 s ((at + j) / 8) 0 (omega arith)))
 
-cut : (s : List ℕ) → 17909 ≤ length s → sheetOf (take 17909 s) ≡ sheetOf s
-cut s l =
-    let long : 17908 < length (take 17909 s) = omega (arith, length-take-le 17909 s l) in
-    let m : 17908 < length s = omega arith in
-    sheet-long (take 17909 s) long
-    ∙ ap refusedText
-    (ap (λ x. tooLong x (bitsAt (take 17909 s) 8 7) (bitsAt (take 17909 s) 15 4)) (same-bits s m 0 8 (omega arith))
-    ∙ ap₂ (tooLong (bitsAt s 0 8)) (same-bits s m 8 7 (omega arith)) (same-bits s m 15 4 (omega arith)))
-    ∙ sym (sheet-long s m)
+-- any text of a file where a refusal prints alone
+module _ (print : Verdict → Contents → List ℕ) (alone : (r : Numbered) (H : Contents) → print (refused r) H ≡ refusedText r) where
+  abbrev text : List ℕ → List ℕ
+  text s = fileText print s
+
+  long-text : (s : List ℕ) → 17908 < length s → text s ≡ refusedText (tooLong (bitsAt s 0 8) (bitsAt s 8 7) (bitsAt s 15 4))
+  long-text s long = refused-alone print alone s (refused-head s (refused-long s long))
+
+  cut : (s : List ℕ) → 17909 ≤ length s → text (take 17909 s) ≡ text s
+  cut s l =
+      let long : 17908 < length (take 17909 s) = omega (arith, length-take-le 17909 s l) in
+      let m : 17908 < length s = omega arith in
+      long-text (take 17909 s) long
+      ∙ ap refusedText
+      (ap (λ x. tooLong x (bitsAt (take 17909 s) 8 7) (bitsAt (take 17909 s) 15 4)) (same-bits s m 0 8 (omega arith))
+      ∙ ap₂ (tooLong (bitsAt s 0 8)) (same-bits s m 8 7 (omega arith)) (same-bits s m 15 4 (omega arith)))
+      ∙ sym (long-text s m)
+
+  pub first-bytes-decide : FirstBytesDecide text
+  first-bytes-decide input = ⊎-elim (λ l. ap text (take-all 17909 input (omega arith))) (cut input) (split (length input) 17909)
 
 pub decided : Decided
-decided input = ⊎-elim (λ l. ap sheetOf (take-all 17909 input (omega arith))) (cut input) (split (length input) 17909)
+unfolding sheetOf
+decided = first-bytes-decide printed (λ r H. refl)

@@ -6,6 +6,10 @@ use mathlib.Core.List.{List}
 use lib.ListN.{take}
 use Rattle.sheet_of_file.specs.Sheet.{sheetOf}
 
--- the first 17,909 bytes of an input have the sheet of the whole input
+-- the first 17,909 bytes of an input have the text of the whole input
+abbrev pub FirstBytesDecide : (List ℕ → List ℕ) → Type 0
+FirstBytesDecide text = (input : List ℕ) → text (take 17909 input) ≡ text input
+
+-- they have its sheet
 abbrev pub Decided : Type 0
-Decided = (input : List ℕ) → sheetOf (take 17909 input) ≡ sheetOf input
+Decided = FirstBytesDecide sheetOf

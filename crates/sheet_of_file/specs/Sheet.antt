@@ -18,11 +18,16 @@ printed v H =
     let F = figures (H .study) in
     sheetText (replied v F) (tabulate (F .blocks) (blockRecord (H .study))) (H .withdrawals)
 
--- Read's reasons come first, then Block's with room for 120 tides; the contents are what the fields hold
-unfoldable pub sheetOf : List ℕ → List ℕ
-sheetOf file =
+-- what is printed of any bytes, of a way to print whether they are accepted and what they hold: Read's reasons come first, then Block's
+-- with room for 120 tides; the contents are what the fields hold
+unfoldable pub fileText : (Verdict → Contents → List ℕ) → List ℕ → List ℕ
+fileText print file =
     let H = decoded file in
-    printed (firstOf (readReasons file ++ blockReasons (H .study) maxTides maxTides)) H
+    print (firstOf (readReasons file ++ blockReasons (H .study) maxTides maxTides)) H
+
+-- the sheet of any bytes
+unfoldable pub sheetOf : List ℕ → List ℕ
+sheetOf file = fileText printed file
 
 -- what is printed of Block on a record and memory, with room for 120 tides
 unfoldable pub blockedText : State → List ℕ

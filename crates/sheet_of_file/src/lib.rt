@@ -19,7 +19,7 @@ ghost use Rattle.sheet_text.specs.Text.{refusedText, laidOut};
 ghost use Rattle.sheet_of_file.specs.Sheet.{sheetOf, blockedText};
 
 // A record to read over: Read takes any.
-fn blank() -> Dataset {
+pub fn blank() -> Dataset {
     let minima = Minima {
         b0: 0,
         b: [0; MAX_SETTINGS],

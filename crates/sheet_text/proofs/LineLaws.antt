@@ -15,7 +15,7 @@ use Rattle.study.specs.declared.Refusal.{Refusal}
 use Rattle.study.specs.Refusals.{Numbered, numbered, value}
 use Rattle.study.specs.Calls.{Figures, blockedOf}
 use Rattle.study.specs.Numbers.{numberOf}
-use Rattle.sheet_text.specs.Text.{ascii, decimal, heading, line, lines, closing, refusedText, sheetText}
+use Rattle.sheet_text.specs.Text.{ascii, decimal, eachLine, heading, line, lines, closing, refusedText, sheetText}
 use Rattle.sheet_text.proofs.NumberLaws.{decimal-short}
 use Rattle.sheet_text.specs.Putting.{PutText}
 use Rattle.sheet_text.proofs.PuttingLaws.{puts-none, puts-then, puts-as}
@@ -99,42 +99,45 @@ refused-field r = simp append-assoc
 pub refused-short : (x : ℕ) → x < 4294967296 → length (named (ascii "refused ") x 10) ≤ 19
 refused-short x h = omega (arith, named-length (ascii "refused ") x 10, field-short 9 x 10 (omega arith))
 
--- ---- a line for each record
+pub refused-put : {l m : List ℕ} {at end x : ℕ} (r : Numbered) → x ≡ numberOf r → PutText l at (named (ascii "refused ") x 10) end m
+    → PutText l at (refusedText r) end m
+refused-put r e p = puts-as p (ap (λ n. named (ascii "refused ") n 10) e ∙ refused-field r) refl
 
-lines-end : (n : ℕ) (rs : List BlockRecord) (r : BlockRecord) → lines n (rs ++ (r ∷ [])) ≡ lines n rs ++ line (n + length rs) r
-unfolding lines
-lines-end n [] r = append-nil (line n r) ∙ ap (λ k. line k r) (omega arith)
-lines-end n (x ∷ rs) r =
-    ap (λ l. line n x ++ l) (lines-end (suc n) rs r ∙ ap (λ k. lines (suc n) rs ++ line k r) (omega arith))
-    ∙ sym (append-assoc (line n x) (lines (suc n) rs) (line (n + suc (length rs)) r))
+-- ---- a line for each of a list
 
-module _ (rs : List BlockRecord) where
-  pub lines-none : {l : List ℕ} {at : ℕ} → at ≤ length l → PutText l at (lines 1 (take 0 rs)) at l
-  unfolding lines
-  lines-none {l} {at} h = puts-none l at h
+module _ {A : Type 0} (f : ℕ → A → List ℕ) where
+  lines-end : (n : ℕ) (xs : List A) (x : A) → eachLine f n (xs ++ (x ∷ [])) ≡ eachLine f n xs ++ f (n + length xs) x
+  unfolding eachLine
+  lines-end n [] x = append-nil (f n x) ∙ ap (λ k. f k x) (omega arith)
+  lines-end n (y ∷ xs) x =
+      ap (λ l. f n y ++ l) (lines-end (suc n) xs x ∙ ap (λ k. eachLine f (suc n) xs ++ f k x) (omega arith))
+      ∙ sym (append-assoc (f n y) (eachLine f (suc n) xs) (f (n + suc (length xs)) x))
 
-  pub lines-more : (d : BlockRecord) (i : ℕ) → i < length rs → {l m n : List ℕ} {at mid end : ℕ} → PutText l at (lines 1 (take i rs)) mid m
-      → PutText m mid (line (i + 1) (getD rs i d)) end n → PutText l at (lines 1 (take (i + 1) rs)) end n
-  lines-more d i h p q = puts-as (puts-then p q) (sym more) refl
-    where
-      more : lines 1 (take (i + 1) rs) ≡ lines 1 (take i rs) ++ line (i + 1) (getD rs i d)
-      more =
-          ap (λ k. lines 1 (take k rs)) (add-one i) ∙ ap (lines 1) (take-suc rs i d h) ∙ lines-end 1 (take i rs) (getD rs i d)
-          ∙ ap (λ k. lines 1 (take i rs) ++ line k (getD rs i d)) (omega (arith, length-take-le i rs (omega arith)))
+  module _ (xs : List A) where
+    pub lines-none : {l : List ℕ} {at : ℕ} → at ≤ length l → PutText l at (eachLine f 1 (take 0 xs)) at l
+    unfolding eachLine
+    lines-none {l} {at} h = puts-none l at h
 
-  -- where there are no more records than i
-  pub lines-all : (i n : ℕ) → length rs ≤ i → i ≤ n → {l m : List ℕ} {at end : ℕ} → PutText l at (lines 1 (take i rs)) end m
-      → PutText l at (lines 1 (take n rs)) end m
-  lines-all i n h k p = puts-as p (ap (lines 1) (take-all i rs h ∙ sym (take-all n rs (omega arith)))) refl
+    pub lines-more : (d : A) (i : ℕ) → i < length xs → {l m n : List ℕ} {at mid end : ℕ} → PutText l at (eachLine f 1 (take i xs)) mid m
+        → PutText m mid (f (i + 1) (getD xs i d)) end n → PutText l at (eachLine f 1 (take (i + 1) xs)) end n
+    lines-more d i h p q = puts-as (puts-then p q) (sym more) refl
+      where
+        more : eachLine f 1 (take (i + 1) xs) ≡ eachLine f 1 (take i xs) ++ f (i + 1) (getD xs i d)
+        more =
+            ap (λ k. eachLine f 1 (take k xs)) (add-one i) ∙ ap (eachLine f 1) (take-suc xs i d h) ∙ lines-end 1 (take i xs) (getD xs i d)
+            ∙ ap (λ k. eachLine f 1 (take i xs) ++ f k (getD xs i d)) (omega (arith, length-take-le i xs (omega arith)))
+
+    -- where there are no more elements than i
+    pub lines-all : (i n : ℕ) → length xs ≤ i → i ≤ n → {l m : List ℕ} {at end : ℕ} → PutText l at (eachLine f 1 (take i xs)) end m
+        → PutText l at (eachLine f 1 (take n xs)) end m
+    lines-all i n h k p = puts-as p (ap (eachLine f 1) (take-all i xs h ∙ sym (take-all n xs (omega arith)))) refl
 
 -- ---- the sheet
 
 module _ {answer : Blocked} (records : List BlockRecord) (withdrawn : ℕ) {l : List ℕ} {end : ℕ} where
-  pub sheet-refused : {m : List ℕ} {why : Refusal} {x : ℕ} → answer ≡ Refused why → x ≡ numberOf (numbered why)
-      → PutText l 0 (named (ascii "refused ") x 10) end m → PutText l 0 (sheetText (blockedOf answer) records withdrawn) end m
-  sheet-refused {m} {why} e q p =
-      subst (λ a. PutText l 0 (sheetText (blockedOf a) records withdrawn) end m) (sym e)
-      (puts-as p (ap (λ n. named (ascii "refused ") n 10) q ∙ refused-field (numbered why)) refl)
+  pub sheet-refused : {m : List ℕ} {why : Refusal} → answer ≡ Refused why → PutText l 0 (refusedText (numbered why)) end m
+      → PutText l 0 (sheetText (blockedOf answer) records withdrawn) end m
+  sheet-refused {m} e p = subst (λ a. PutText l 0 (sheetText (blockedOf a) records withdrawn) end m) (sym e) p
 
   pub sheet-done : {a b m : List ℕ} {c r w first last : ℕ} → answer ≡ Done c r w → PutText l 0 heading first a
       → PutText a first (lines 1 (take c records)) last b → PutText b last (closing r w withdrawn) end m

@@ -7,7 +7,7 @@ use mathlib.Core.List.{List, [], _∷_, _++_, append-nil, append-assoc}
 use lib.ListN.{length, take, drop, replicate, getD, set, length-append, length-set, take-append-drop}
 use lib.Seq.{length-take-le, take-at, drop-at, drop-drop, set-split, take-suc, take-all, append-snoc}
 use Rattle.sheet_text.specs.declared.Text.{Text}
-use Rattle.sheet_text.specs.Text.{laidOut}
+use Rattle.sheet_text.specs.Text.{overZeros, laidOut}
 use Rattle.sheet_text.specs.Putting.{PutText}
 
 pub puts-none : (l : List ℕ) (at : ℕ) → at ≤ length l → PutText l at [] at l
@@ -47,15 +47,21 @@ puts-then {l} {m} {n} {at} {mid} {end} {a} {b} p q =
 pub puts-as : {l m : List ℕ} {at end end′ : ℕ} {a b : List ℕ} → PutText l at a end m → a ≡ b → end ≡ end′ → PutText l at b end′ m
 puts-as {l} {m} {at} {end} {end′} {a} {b} p e f = subst (λ x. PutText l at b x m) f (subst (λ x. PutText l at x end m) e p)
 
--- zeros filled from the first place on, and where the text ends
+-- zeros filled from the first place on
+pub puts-over-zeros : (room : ℕ) {bytes : List ℕ} {end : ℕ} {text : List ℕ} → PutText (replicate room 0) 0 text end bytes
+    → (bytes ≡ overZeros room text) × (end ≡ length text)
+unfolding overZeros
+puts-over-zeros room {bytes} {end} {text} p =
+    let e : end ≡ length text = omega (arith, p .ends) in
+    (p .is ∙ ap (λ n. text ++ drop n (replicate room 0)) e, e)
+
+-- such bytes, and where the text ends
 abbrev with-end : List ℕ → ℕ → Text
 with-end bytes end = record { bytes = bytes; length = end }
 
 pub puts-text : {bytes : List ℕ} {end : ℕ} {text : List ℕ} → PutText (replicate 2837 0) 0 text end bytes → with-end bytes end ≡ laidOut text
 unfolding laidOut
-puts-text {bytes} {end} {text} p =
-    let e : end ≡ length text = omega (arith, p .ends) in
-    ap₂ with-end (p .is ∙ ap (λ n. text ++ drop n (replicate 2837 0)) e) e
+puts-text p = let q = puts-over-zeros 2837 p in ap₂ with-end (q .0) (q .1)
 
 -- ---- a loop that copies a text byte by byte
 

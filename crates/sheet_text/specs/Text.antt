@@ -34,6 +34,11 @@ decimal x = digits 10 x
 
 -- ---- lines
 
+-- one for each of what is numbered n, n + 1, ..
+unfoldable pub eachLine : {A : Type 0} → (ℕ → A → List ℕ) → ℕ → List A → List ℕ
+eachLine line n [] = []
+eachLine line n (x ∷ xs) = line n x ++ eachLine line (suc n) xs
+
 -- the first line
 unfoldable pub heading : List ℕ
 heading = ascii "block centre tides widest\n"
@@ -44,9 +49,8 @@ line n r =
     decimal n ++ ascii " " ++ decimal (r .centre) ++ ascii " " ++ decimal (r .tides) ++ ascii " " ++ decimal (r .diameter) ++ ascii "\n"
 
 -- of the blocks n, n + 1, ..
-unfoldable pub lines : ℕ → List BlockRecord → List ℕ
-lines n [] = []
-lines n (r ∷ rs) = line n r ++ lines (suc n) rs
+abbrev pub lines : ℕ → List BlockRecord → List ℕ
+lines n rs = eachLine line n rs
 
 -- the last line: radius (document 01: reach), widest and withdrawals
 unfoldable pub closing : ℕ → ℕ → ℕ → List ℕ
@@ -64,6 +68,10 @@ abbrev pub sheetText : Reply Figures → List BlockRecord → ℕ → List ℕ
 sheetText (value F) records withdrawn = heading ++ lines 1 (take (F .blocks) records) ++ closing (F .radius) (F .widest) withdrawn
 sheetText (refusal r) records withdrawn = refusedText r
 
+-- a text over the front of so many zeros
+unfoldable pub overZeros : ℕ → List ℕ → List ℕ
+overZeros room text = text ++ drop (length text) (replicate room 0)
+
 -- a text by value: its bytes over the front of 2,837 zeros, and its length
 unfoldable pub laidOut : List ℕ → Text
-laidOut text = record { bytes = text ++ drop (length text) (replicate 2837 0); length = length text }
+laidOut text = record { bytes = overZeros 2837 text; length = length text }

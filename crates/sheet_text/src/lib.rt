@@ -2,11 +2,10 @@
 use crate::lines::put_closing;
 use crate::lines::put_lines;
 use crate::putting::put_bytes;
-use crate::putting::put_named;
+use crate::putting::put_refusal;
 use study::BlockRecord;
 use study::Blocked;
 use study::MAX_TIDES;
-use study::refusals::number_of;
 
 mod lines;
 pub mod putting;
@@ -35,7 +34,7 @@ fn put_sheet(
     ensures { λ r. ⌜ (r ≤ 2837) × PutText (now (out .entry)) 0 (sheetText (blockedOf answer) records withdrawn) r (now (out .exit)) ⌝ }
 {
     match answer {
-        Blocked::Refused(why) => put_named(out, 0, b"refused ", number_of(why), b'\n'),
+        Blocked::Refused(why) => put_refusal(out, 0, why),
         Blocked::Done(blocks, radius, widest) => {
             let after_heading = put_bytes(out, 0, b"block centre tides widest\n");
             let after_lines = put_lines(out, after_heading, blocks, records);

@@ -1,8 +1,11 @@
 // Text is put into lent memory from a place on; the answer is the place after it.
+use study::Refusal;
+use study::refusals::number_of;
 ghost use mathlib.Core.List.{[], _∷_};
 ghost use Prim.Native.Nat.{_+_, _≤_, _<_};
 ghost use lib.ListN.{length};
-ghost use Rattle.sheet_text.specs.Text.{decimal};
+ghost use Rattle.study.specs.Refusals.{numbered};
+ghost use Rattle.sheet_text.specs.Text.{decimal, refusedText};
 ghost use Rattle.sheet_text.specs.Lines.{field, named};
 ghost use Rattle.sheet_text.specs.Putting.{PutText};
 
@@ -56,4 +59,12 @@ pub fn put_named(out: &mut [u8], at: usize, name: &[u8], x: u32, mark: u8) -> us
 {
     let end = put_bytes(out, at, name);
     put_field(out, end, x, mark)
+}
+
+// The line of a refusal.
+pub fn put_refusal(out: &mut [u8], at: usize, why: Refusal) -> usize
+    requires { ⌜ at + 19 ≤ length (now out) ⌝ }
+    ensures { λ r. ⌜ (r ≤ at + 19) × PutText (now (out .entry)) at (refusedText (numbered why)) r (now (out .exit)) ⌝ }
+{
+    put_named(out, at, b"refused ", number_of(why), b'\n')
 }

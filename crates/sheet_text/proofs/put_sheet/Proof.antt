@@ -1,23 +1,18 @@
 -- `put_sheet` meets its contract: the refusal, or heading, lines and closing line. Assumes nothing.
 use native.Mathlib.Omega.{arith}
 use Rattle.sheet_text.specs.Text.{heading}
-use Rattle.sheet_text.proofs.LineLaws.{refused-short, sheet-refused, sheet-done}
+use Rattle.sheet_text.proofs.LineLaws.{sheet-refused, sheet-done}
 use borrow.Author.Needs.{needs}
 use Rattle.sheet_text.proofs.put_sheet.Statement.{statement}
 use Rattle.sheet_text.proofs.put_sheet.Tie as tie
 
-put-named-requires : tie.Need-put-named-requires
-put-named-requires c κs = omega (arith, refused-short (c .number-of .result) (omega (arith, c .number-of .ok)))
-
 returns : tie.Need-returns
 returns c =
     let put = c .before .before in
-    let told = put .before in
-    let start = told .before .before .before .before in
+    let start = put .before .before .before in
     let a = start .before .before .before .args in
-    let n = told .number-of in
-    let p = sheet-refused (a .records) (a .withdrawn) (start .answer .given .1) (n .ensures) (put .put-named .ensures) in
-    (omega (arith, refused-short (n .result) (omega (arith, n .ok))), p)
+    let p = put .put-refusal .ensures in
+    (omega (arith, p .0), sheet-refused (a .records) (a .withdrawn) (start .answer .given .1) (p .1))
 
 returns-2 : tie.Need-returns-2
 unfolding heading
@@ -35,9 +30,7 @@ put-sheet-spec =
     tie.close
     (tie.spec
     (λ c. search needs)
-    (λ c. search needs)
     (λ c κs. search needs)
-    put-named-requires
     (λ c. search needs)
     (λ c. search needs)
     (λ c κs. search needs)

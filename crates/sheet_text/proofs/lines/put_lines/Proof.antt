@@ -5,7 +5,7 @@ use native.Mathlib.Omega.{arith}
 use mathlib.Core.Path.{_≡_, refl, ap}
 use borrow.Author.Needs.{needs}
 use lib.ListN.{length, take}
-use Rattle.sheet_text.specs.Text.{lines}
+use Rattle.sheet_text.specs.Text.{line, lines}
 use Rattle.sheet_text.proofs.LineLaws.{lines-none, lines-more, lines-all}
 use Rattle.sheet_text.specs.Putting.{PutText}
 use Rattle.sheet_text.proofs.PuttingLaws.{puts-as}
@@ -31,7 +31,7 @@ loop-again c =
     let turn = at-turn .loop in
     let records = at-turn .before .before .args .t4 in
     let long : length records ≡ 120 = search needs in
-    let more = lines-more records _ (turn .i) (omega arith) (turn .inv .1) (c .before .before .put-line .ensures .1) in
+    let more = lines-more line records _ (turn .i) (omega arith) (turn .inv .1) (c .before .before .put-line .ensures .1) in
     ((omega arith, omega arith, omega arith), more)
 
 -- after 120 lines
@@ -39,7 +39,7 @@ returns-2 : tie.Need-returns-2 Inv-loop μ-loop
 returns-2 c =
     let a = c .before .before .before .args in
     let long : length (a .t4) ≡ 120 = search needs in
-    (omega arith, lines-all (a .t4) (c .before .loop .i) (a .blocks) (omega arith) (omega arith) (c .before .loop .inv .1))
+    (omega arith, lines-all line (a .t4) (c .before .loop .i) (a .blocks) (omega arith) (omega arith) (c .before .loop .inv .1))
 
 pub put-lines-spec : {M : Type 1} → statement M
 put-lines-spec =
@@ -47,7 +47,7 @@ put-lines-spec =
     (tie.spec
     Inv-loop
     μ-loop
-    (λ c. ((omega arith, omega arith, omega arith), lines-none (c .before .args .t4) (omega arith)))
+    (λ c. ((omega arith, omega arith, omega arith), lines-none line (c .before .args .t4) (omega arith)))
     (λ c. c .before .before .loop .inv .1 .same)
     returns
     (λ c. omega arith)
