@@ -69,6 +69,16 @@ uint32_t tides_block(const uint16_t *record, size_t record_length, const uint32_
                      uint32_t *result, size_t result_length);
 
 /*
+ * Divides the tides into blocks as tides_block does, and tells what they cost. list, centres, sizes and diameters are as there. result gets
+ * 12 numbers: how many blocks, the radius, the greatest diameter, the total in pence, and each setting's share of it, 0 for a setting
+ * above k. The shares add up to the total. Reasons: 1 (with result), 21, 24, 25, 1 (list, centres, sizes, diameters).
+ */
+uint32_t tides_tariff(const uint16_t *record, size_t record_length, const uint32_t *distances, size_t distances_length,
+                      const uint8_t *settings, size_t settings_length, uint8_t *list, size_t list_length, uint8_t *centres,
+                      size_t centres_length, uint8_t *sizes, size_t sizes_length, uint32_t *diameters, size_t diameters_length,
+                      uint32_t *result, size_t result_length);
+
+/*
  * Judges a list of block numbers. result gets 2 numbers: 1 and the greatest diameter where each number is 1 to 255 and the tides
  * under each number used meet the minima, else 0 and 0. Reasons: 1 (with result), 21, 24, 12.
  */

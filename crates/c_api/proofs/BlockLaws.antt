@@ -1,13 +1,12 @@
--- From the reply and the rows of Block to what the call for C answers and writes. Assumes nothing.
-use Prim.Native.Nat.{ℕ, zero, suc, _≤_, _<_, min}
+-- From the reply and the rows of Block's core to what a call for C that divides into blocks answers and writes. Assumes nothing.
+use Prim.Native.Nat.{ℕ, _≤_, _<_, min}
 use native.Mathlib.Omega.{arith}
 use mathlib.Core.Path.{_≡_, refl, sym, ap, _∙_, subst}
-use mathlib.Core.Logic.{_⊎_, ⊎-elim}
-use mathlib.Core.List.{List, [], _∷_, _++_}
-use lib.ListN.{length, drop, getD, replicate, length-replicate}
+use mathlib.Core.Logic.{_⊎_}
+use mathlib.Core.List.{List, _++_}
+use lib.ListN.{length, drop, getD}
 use Rattle.lists.specs.Lists.{tabulate, overwrite, over}
-use Rattle.lists.proofs.Tests.{split}
-use Rattle.lists.proofs.Tables.{length-tabulate, getD-overwrite, getD-past, overwrite-ext}
+use Rattle.lists.proofs.Tables.{length-tabulate, overwrite-ext}
 use Rattle.study.specs.declared.Refusal.{Refusal}
 use Rattle.study.specs.declared.Dataset.{Dataset}
 use Rattle.study.specs.declared.BlockRecord.{BlockRecord}
@@ -15,15 +14,16 @@ use Rattle.study.specs.declared.Blocked.{Blocked}
 use Rattle.study.specs.declared.Blocked.the-variants as BlockedCase
 use Rattle.study.specs.Problem.{blocking}
 use Rattle.study.specs.Study.{Study, Contents, problem}
-use Rattle.study.specs.Refusals.{numbered, accepted, refused, settled, Reason}
+use Rattle.study.specs.Refusals.{numbered, Verdict, accepted, refused, Reason}
 use Rattle.study.specs.Calls.{blockReasons, Figures, figures, blockRecord, blockedOf}
 use Rattle.study.proofs.CallLaws.{reply-refused, reply-value}
 use Rattle.validity.specs.Memory.{State, studyOf, contentsOf}
 use Rattle.blocking.specs.declared.block.BlockRows.{BlockRows}
-use Rattle.blocking.specs.Answers.{blockAnswer, blockReply, blockList, blockRecords}
-use Rattle.blocking.specs.Rows.{rowAt, noRecord, RowsOf}
+use Rattle.blocking.specs.Answers.{blockAnswer, blockReply, blockList}
+use Rattle.blocking.specs.Rows.{rowAt, RowsOf}
+use Rattle.blocking.proofs.RowLaws.{rows-count, row-is}
 use Rattle.guarantee.specs.Runs.{figureNumbers}
-use Rattle.c_api.specs.Api.{Lent, code, output, Places, places, recordRoom, blockVerdict, column, blockLeft}
+use Rattle.c_api.specs.Api.{Lent, stateIn, code, output, Places, places, recordRoom, column, blocksVerdict, blocksLeft, blockNumbers}
 use Rattle.c_api.proofs.RecordLaws.{withRecord, front-written}
 use Rattle.c_api.specs.Records.{Narrow, ColumnRoom}
 use Rattle.c_api.proofs.CodeLaws.{small, held-narrow}
@@ -41,49 +41,18 @@ module _ (s : State) (list : List ℕ) (room : ℕ) where
   unfolding blockList output
   list-output = refl
 
--- ---- the rows of an accepted call hold the blocks' records
-
-blank-at : (n i : ℕ) → getD (replicate n noRecord) i noRecord ≡ noRecord
-blank-at zero i = refl
-blank-at (suc n) zero = refl
-blank-at (suc n) (suc i) = blank-at n i
+-- ---- the columns of an accepted call
 
 module _ {s : State} {list room : ℕ} {rows : BlockRows} (R : RowsOf s list room rows) (ok : blockAnswer s list room ≡ accepted) where
   abbrev T : Study
   T = studyOf s
-
-  abbrev blank : List BlockRecord
-  blank = replicate room noRecord
-
-  put : overwrite (rows .count) (rowAt rows) blank ≡ overwrite (figures T .blocks) (blockRecord T) blank
-  unfolding blockRecords
-  put =
-      let e : length blank ≡ room = length-replicate room noRecord in
-      R .records blank e ∙ ap (λ v. settled v (overwrite (figures T .blocks) (blockRecord T) blank) blank) (ap (blockAnswer s list) e ∙ ok)
-
-  -- no block's record is blank, since a centre's number is at least 1
-  in-row : (i : ℕ) → i < figures T .blocks → (i < rows .count) × (rowAt rows i ≡ blockRecord T i)
-  unfolding blockRecord
-  in-row i h = ⊎-elim (λ k. (k, sym (getD-overwrite (rowAt rows) blank (rows .count) i noRecord k) ∙ there)) (λ k. absurd (none k)) (split i (rows .count))
-    where
-      there : getD (overwrite (rows .count) (rowAt rows) blank) i noRecord ≡ blockRecord T i
-      there = ap (λ l. getD l i noRecord) put ∙ getD-overwrite (blockRecord T) blank (figures T .blocks) i noRecord h
-
-      none : rows .count ≤ i → ⊥
-      none k =
-          let e = sym (blank-at room i) ∙ sym (getD-past (rowAt rows) blank (rows .count) i noRecord k) ∙ there in
-          let z = ap (λ (x : BlockRecord). x .centre) e in
-          omega arith
-
-  blocks-few : figures T .blocks ≤ rows .count
-  blocks-few = ⊎-elim (λ h. absurd (let k = in-row (rows .count) h .0 in omega arith)) (λ h. h) (split (rows .count) (figures T .blocks))
 
   column-is : (f : BlockRecord → ℕ) (old : List ℕ) → overwrite (figures T .blocks) (λ i. f (rowAt rows i)) old ≡ over (column f T) old
   unfolding column overwrite
   column-is f old =
       let n = figures T .blocks in
       let g : ℕ → ℕ = λ i. f (blockRecord T i) in
-      overwrite-ext (λ i. f (rowAt rows i)) old n g (λ i h. ap f (in-row i h .1))
+      overwrite-ext (λ i. f (rowAt rows i)) old n g (λ i h. ap f (row-is R ok i (omega (arith, rows-count R ok))))
       ∙ ap (λ m. tabulate n g ++ drop m old) (sym (length-tabulate n g))
 
 -- ---- the reply
@@ -101,7 +70,7 @@ module _ (s : State) (list room : ℕ) (a : Blocked) (p : blockedOf a ≡ blockR
     abbrev given : Figures
     given = record { blocks = b; radius = r; widest = w }
 
-    block-value : (blockAnswer s list room ≡ accepted) × (given ≡ figures (studyOf s))
+    pub block-value : (blockAnswer s list room ≡ accepted) × (given ≡ figures (studyOf s))
     unfolding blockReply
     block-value = reply-value (blockAnswer s list room) (figures (studyOf s)) (sym (ap blockedOf e) ∙ p)
 
@@ -110,30 +79,36 @@ module _ (s : State) (list room : ℕ) (a : Blocked) (p : blockedOf a ≡ blockR
 
     module _ {rows : BlockRows} (R : RowsOf s list room rows) where
       pub blocks-small : b ≤ 120
-      blocks-small = omega (arith, blocks-few R (block-value .0), blocks-are, R .few)
+      blocks-small = omega (arith, rows-count R (block-value .0), blocks-are, R .few)
 
       pub columns-fit : (x y z : List ℕ) → room ≡ min (length x) (min (length y) (length z)) → ColumnRoom b x y z
       columns-fit x y z m =
-          let fits : b ≤ min (length x) (min (length y) (length z)) = omega (arith, blocks-few R (block-value .0), blocks-are, R .fits) in
+          let fits : b ≤ min (length x) (min (length y) (length z)) = omega (arith, rows-count R (block-value .0), blocks-are, R .fits) in
           record { few = blocks-small; in-centres = omega arith; in-sizes = omega arith; in-diameters = omega arith }
 
       written-column : (f : BlockRecord → ℕ) {new : List ℕ} (old : List ℕ) → new ≡ overwrite b (λ i. f (rowAt rows i)) old
           → new ≡ over (column f (studyOf s)) old
       written-column f old q = q ∙ ap (λ n. overwrite n (λ i. f (rowAt rows i)) old) blocks-are ∙ column-is R (block-value .0) f old
 
-    written-figures : {new : List ℕ} (old : List ℕ) → new ≡ overwrite 3 (λ i. getD (figureNumbers given) i 0) old
-        → new ≡ over (figureNumbers (figures (studyOf s))) old
+    pub written-figures : {new : List ℕ} (old : List ℕ) → new ≡ overwrite 3 (λ i. getD (figureNumbers given) i 0) old
+        → new ≡ over (blockNumbers (studyOf s)) old
     written-figures old q = q ∙ front-written (figureNumbers given) old ∙ ap (λ F. over (figureNumbers F) old) (block-value .1)
 
 -- ---- the call
 
-places-are : {p q : Places} → p .list ≡ q .list → p .centres ≡ q .centres → p .sizes ≡ q .sizes → p .diameters ≡ q .diameters → p .result ≡ q .result → p ≡ q
+places-are : {p q : Places} → p .list ≡ q .list → p .centres ≡ q .centres → p .sizes ≡ q .sizes → p .diameters ≡ q .diameters
+    → p .result ≡ q .result → p ≡ q
 places-are a b c d e = λ i. record { list = a i; centres = b i; sizes = c i; diameters = d i; result = e i }
 
-module _ (l : Lent) (p : Places) where
-  pub block-too-short : (length (l .numbers) < 12) ⊎ (length (p .result) < 3) → (1 ≡ code (blockVerdict l p)) × (p ≡ blockLeft l p)
-  unfolding blockVerdict blockLeft
-  block-too-short h =
+-- a call that answers these numbers, with a result that needs so many places
+module _ (need : ℕ) (numbers : Study → List ℕ) (l : Lent) (p : Places) where
+  -- it answers the code c, and leaves q
+  abbrev Settled : ℕ → Places → Type 0
+  Settled c q = (c ≡ code (blocksVerdict need l p)) × (q ≡ blocksLeft need numbers l p)
+
+  pub blocks-too-short : (length (l .numbers) < 12) ⊎ (length (p .result) < need) → Settled 1 p
+  unfolding blocksVerdict blocksLeft
+  blocks-too-short h =
       let e = lacks-one (l .numbers) (p .result) h in (
         code-too-short _ e,
         places-are (output-too-short _ e _ (p .list)) (output-too-short _ e _ (p .centres)) (output-too-short _ e _ (p .sizes))
@@ -143,14 +118,8 @@ module _ (l : Lent) (p : Places) where
   abbrev own : Contents → List Reason
   own H = blockReasons (H .study) (length (p .list)) (recordRoom p)
 
-  abbrev columns : (BlockRecord → ℕ) → Contents → List ℕ
-  columns f H = column f (H .study)
-
-  abbrev numbers : Contents → List ℕ
-  numbers H = figureNumbers (figures (H .study))
-
-  -- what `block_core` answers of the record as the code holds it, with this room for records
-  module _ {r : Dataset} (R : Reads l r 3 (p .result)) {room : ℕ} (m : room ≡ recordRoom p) (a : Blocked) {new : List ℕ}
+  -- what the core answers of the record as the code holds it, with this room for records
+  module _ {r : Dataset} (R : Reads l r need (p .result)) {room : ℕ} (m : room ≡ recordRoom p) (a : Blocked) {new : List ℕ}
       (q : blockedOf a ≡ blockReply (withRecord l r) (length (p .list)) room) (t : new ≡ blockList (withRecord l r) (p .list) room) where
     abbrev s : State
     s = withRecord l r
@@ -158,38 +127,39 @@ module _ (l : Lent) (p : Places) where
     reply : blockedOf a ≡ blockReply s (length (p .list)) (recordRoom p)
     reply = q ∙ ap (blockReply s (length (p .list))) m
 
-    listed : new ≡ blockLeft l p .list
-    unfolding blockLeft blockVerdict blockAnswer contentsOf
-    listed = output-own R own (λ H. blocking (problem (H .study))) (p .list) (t ∙ ap (blockList s (p .list)) m ∙ list-output s (p .list) (recordRoom p))
+    -- what was done by the record as the code holds it is what the record itself asks for
+    settled-own : {y : Verdict} {c z d f : List ℕ} → blockAnswer s (length (p .list)) (recordRoom p) ≡ y
+        → c ≡ output y (column (λ x. x .centre) (studyOf s)) (p .centres) → z ≡ output y (column (λ x. x .tides) (studyOf s)) (p .sizes)
+        → d ≡ output y (column (λ x. x .diameter) (studyOf s)) (p .diameters) → f ≡ output y (numbers (studyOf s)) (p .result)
+        → Settled (code y) (places new c z d f)
+    unfolding blocksVerdict blocksLeft blockAnswer contentsOf
+    settled-own {y} e ec ez ed ef = (
+      code-own R own e,
+      places-are (output-own R own (λ H. blocking (problem (H .study))) (p .list) listed) (known (column (λ x. x .centre)) (p .centres) ec)
+          (known (column (λ x. x .tides)) (p .sizes) ez) (known (column (λ x. x .diameter)) (p .diameters) ed) (known numbers (p .result) ef),
+    )
+      where
+        listed : new ≡ output (blockAnswer s (length (p .list)) (recordRoom p)) (blocking (problem (studyOf s))) (p .list)
+        listed = t ∙ ap (blockList s (p .list)) m ∙ list-output s (p .list) (recordRoom p)
 
-    pub block-refused : {why : Refusal} {c : ℕ} → a ≡ BlockedCase.Refused why → c ≡ code (refused (numbered why))
-        → (c ≡ code (blockVerdict l p)) × (places new (p .centres) (p .sizes) (p .diameters) (p .result) ≡ blockLeft l p)
-    unfolding blockVerdict blockLeft blockAnswer contentsOf
-    block-refused e f =
-        let y = block-why s (length (p .list)) (recordRoom p) a reply e in (
-          f ∙ code-own R own y,
-          places-are listed (output-own R own (columns (λ x. x .centre)) (p .centres) (output-refused _ (p .centres) y))
-              (output-own R own (columns (λ x. x .tides)) (p .sizes) (output-refused _ (p .sizes) y))
-              (output-own R own (columns (λ x. x .diameter)) (p .diameters) (output-refused _ (p .diameters) y))
-              (output-own R own numbers (p .result) (output-refused _ (p .result) y)),
-        )
+        known : (f : Study → List ℕ) (old : List ℕ) {x : List ℕ} → x ≡ output y (f (studyOf s)) old
+            → x ≡ output (blocksVerdict need l p) (f (studyOf (stateIn l))) old
+        known f old q = output-own R own (λ H. f (H .study)) old (q ∙ ap (λ w. output w (f (studyOf s)) old) (sym e))
 
-    pub block-done : {b g w : ℕ} {rows : BlockRows} {c z d f : List ℕ} → a ≡ BlockedCase.Done b g w → RowsOf s (length (p .list)) room rows
+    pub blocks-refused : {why : Refusal} {c : ℕ} → a ≡ BlockedCase.Refused why → c ≡ code (refused (numbered why))
+        → Settled c (places new (p .centres) (p .sizes) (p .diameters) (p .result))
+    blocks-refused e f =
+        let y = block-why s (length (p .list)) (recordRoom p) a reply e in
+        let S = settled-own y (output-refused _ _ refl) (output-refused _ _ refl) (output-refused _ _ refl) (output-refused _ _ refl) in
+        (f ∙ S .0, S .1)
+
+    pub blocks-done : {b g w : ℕ} {rows : BlockRows} {c z d f : List ℕ} → a ≡ BlockedCase.Done b g w → RowsOf s (length (p .list)) room rows
         → c ≡ overwrite b (λ i. getD (rows .centres) i 0) (p .centres) → z ≡ overwrite b (λ i. getD (rows .tides) i 0) (p .sizes)
-        → d ≡ overwrite b (λ i. getD (rows .diameters) i 0) (p .diameters) → f ≡ overwrite 3 (λ i. getD (b ∷ g ∷ w ∷ []) i 0) (p .result)
-        → (0 ≡ code (blockVerdict l p)) × (places new c z d f ≡ blockLeft l p)
-    unfolding blockVerdict blockLeft blockAnswer contentsOf
-    block-done {b} {g} {w} {rows} e W ec ez ed ef =
+        → d ≡ overwrite b (λ i. getD (rows .diameters) i 0) (p .diameters) → f ≡ over (numbers (studyOf s)) (p .result)
+        → Settled 0 (places new c z d f)
+    blocks-done e W ec ez ed ef =
         let n = length (p .list) in
         let y = block-value s n (recordRoom p) a reply e .0 in
-        let Rows : RowsOf s n (recordRoom p) rows = subst (λ k. RowsOf s n k rows) m W in
-        let wc = written-column s n (recordRoom p) a reply e Rows (λ x. x .centre) (p .centres) ec in
-        let wz = written-column s n (recordRoom p) a reply e Rows (λ x. x .tides) (p .sizes) ez in
-        let wd = written-column s n (recordRoom p) a reply e Rows (λ x. x .diameter) (p .diameters) ed in
-        let wf = written-figures s n (recordRoom p) a reply e (p .result) ef in (
-          code-own R own y,
-          places-are listed (output-own R own (columns (λ x. x .centre)) (p .centres) (output-done _ (p .centres) y wc))
-              (output-own R own (columns (λ x. x .tides)) (p .sizes) (output-done _ (p .sizes) y wz))
-              (output-own R own (columns (λ x. x .diameter)) (p .diameters) (output-done _ (p .diameters) y wd))
-              (output-own R own numbers (p .result) (output-done _ (p .result) y wf)),
-        )
+        settled-own y (output-done _ _ refl (written-column s n room a q e W (λ x. x .centre) (p .centres) ec))
+        (output-done _ _ refl (written-column s n room a q e W (λ x. x .tides) (p .sizes) ez))
+        (output-done _ _ refl (written-column s n room a q e W (λ x. x .diameter) (p .diameters) ed)) (output-done _ _ refl ef)

@@ -4,6 +4,7 @@ pub mod CodeLaws
 pub mod CallLaws
 pub mod OutputLaws
 pub mod BlockLaws
+pub mod TariffLaws
 pub mod JudgeLaws
 pub mod MendLaws
 pub mod RunLaws

@@ -20,8 +20,8 @@ use Rattle.guarantee.specs.Runs.{output as outputs}
 use Rattle.guarantee.specs.Theorems.{AsContracts, Guaranteed, blocked}
 use Rattle.guarantee.proofs.Proofs.{demand1, demand3}
 use Rattle.c_api.specs.Api.{Lent, minimaAt, stateIn, roomFirst, lacks, output, left, openLeft, minimaVerdict, minimaLeft}
-use Rattle.c_api.specs.Api.{enterLeft, withdrawLeft, readLeft, Places, recordRoom, blockVerdict, blockLeft}
-use Rattle.c_api.specs.Runs.{CCall, c-open, c-read, c-minima, c-enter, c-withdraw, c-centres, c-block, c-judge, c-write}
+use Rattle.c_api.specs.Api.{enterLeft, withdrawLeft, readLeft, Places, recordRoom, blocksVerdict, blocksLeft}
+use Rattle.c_api.specs.Runs.{CCall, c-open, c-read, c-minima, c-enter, c-withdraw, c-centres, c-block, c-tariff, c-judge, c-write}
 use Rattle.c_api.specs.Runs.{cAfter, cRun, recordsIn, unless, callsOf}
 use Rattle.c_api.specs.Theorems.{AsRun, CDemand3}
 use Rattle.c_api.proofs.CallLaws.{lacks-yes, lacks-no, lacks-one, left-too-short}
@@ -44,6 +44,7 @@ after-long l (c-enter setting row) = left-long l _ _
 after-long l (c-withdraw t) = left-long l _ _
 after-long l (c-centres g list count) = omega arith
 after-long l (c-block p) = omega arith
+after-long l (c-tariff p) = omega arith
 after-long l (c-judge list result) = omega arith
 after-long l (c-write file result) = omega arith
 
@@ -80,6 +81,7 @@ module _ (l : Lent) (room : 12 ≤ length (l .numbers)) where
   step (c-withdraw t) = withdraw-carried l room t ∙ sym (as-contract .on-withdraw t .1)
   step (c-centres g list count) = asked (lacks 1 count) _
   step (c-block p) = asked (lacks 3 (p .result)) _
+  step (c-tariff p) = asked (lacks 12 (p .result)) _
   step (c-judge list result) = asked (lacks 2 result) _
   step (c-write file result) = asked (lacks 1 result) _
 
@@ -128,7 +130,7 @@ module _ (s : State) (p : Places) (e : blockAnswer s (length (p .list)) (recordR
       ∙ ap (λ v. output v (blocking (problem S)) (p .list)) (e ∙ sym ok)
 
 pub c-demand3 : CDemand3
-unfolding blockVerdict blockLeft output
+unfolding blocksVerdict blocksLeft output
 c-demand3 l cs p room ok =
     let s = stateIn (cRun l cs) in
     let F = figures (studyOf s) in

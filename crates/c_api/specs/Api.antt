@@ -20,7 +20,7 @@ use Rattle.study_file.specs.Answers.{readAnswer, readLeaves, writeAnswer}
 use Rattle.blocking.specs.Answers.{centresAnswer, blockAnswer, judgeAnswer}
 use Rattle.metric_closure.specs.Closure.{loweredPairs}
 use Rattle.metric_closure.specs.Call.{entry, closeVerdict, closedTable}
-use Rattle.guarantee.specs.Runs.{figureNumbers}
+use Rattle.guarantee.specs.Runs.{figureNumbers, priceNumbers}
 
 -- ---- the record and the memory that the caller lends
 
@@ -140,9 +140,9 @@ centresList l g list count = output (centresVerdict l list count) (centreNumbers
 unfoldable pub centresCount : Lent → ℕ → List ℕ → List ℕ → List ℕ
 centresCount l g list count = output (centresVerdict l list count) (length (centreNumbers (studyOf (stateIn l)) g) ∷ []) count
 
--- ---- Block, lent a list, three columns with a place for each block, and 3 numbers for its figures
+-- ---- a call that divides the tides into blocks, lent a list, three columns with a place for each block, and a result
 
--- what Block is lent besides: the list, a column for each field of a block's record, and the figures
+-- what it is lent besides: the list, a column for each field of a block's record, and the numbers that it answers
 pub record Places : Type 0 where
   pub list : List ℕ
   pub centres : List ℕ
@@ -158,26 +158,50 @@ places l c s d r = record { list = l; centres = c; sizes = s; diameters = d; res
 abbrev pub recordRoom : Places → ℕ
 recordRoom p = min (length (p .centres)) (min (length (p .sizes)) (length (p .diameters)))
 
--- what Block answers
-unfoldable pub blockVerdict : Lent → Places → Verdict
-blockVerdict l p = roomFirst (lacks 12 (l .numbers) || lacks 3 (p .result)) (blockAnswer (stateIn l) (length (p .list)) (recordRoom p))
-
 -- one field of each block's record
 unfoldable pub column : (BlockRecord → ℕ) → Study → List ℕ
 column f S = tabulate (figures S .blocks) (λ i. f (blockRecord S i))
 
--- the five lists after it: list, columns and figures
-unfoldable pub blockLeft : Lent → Places → Places
-blockLeft l p =
+-- what it answers, where the result needs this room
+unfoldable pub blocksVerdict : ℕ → Lent → Places → Verdict
+blocksVerdict room l p = roomFirst (lacks 12 (l .numbers) || lacks room (p .result)) (blockAnswer (stateIn l) (length (p .list)) (recordRoom p))
+
+-- the five lists after it: list, columns, and these numbers of the study in the result
+unfoldable pub blocksLeft : ℕ → (Study → List ℕ) → Lent → Places → Places
+blocksLeft room numbers l p =
     let S = studyOf (stateIn l) in
-    let v = blockVerdict l p in
+    let v = blocksVerdict room l p in
     record {
       list = output v (blocking (problem S)) (p .list);
       centres = output v (column (λ r. r .centre) S) (p .centres);
       sizes = output v (column (λ r. r .tides) S) (p .sizes);
       diameters = output v (column (λ r. r .diameter) S) (p .diameters);
-      result = output v (figureNumbers (figures S)) (p .result);
+      result = output v (numbers S) (p .result);
     }
+
+-- ---- Block, with 3 numbers for its result
+
+-- block count, radius and greatest diameter
+abbrev pub blockNumbers : Study → List ℕ
+blockNumbers S = figureNumbers (figures S)
+
+-- what Block answers
+abbrev pub blockVerdict : Lent → Places → Verdict
+blockVerdict = blocksVerdict 3
+
+-- the five lists after it
+abbrev pub blockLeft : Lent → Places → Places
+blockLeft = blocksLeft 3 blockNumbers
+
+-- ---- the tariff (document 02: tariff for a trial), with 12 numbers for its result
+
+-- what the tariff answers
+abbrev pub tariffVerdict : Lent → Places → Verdict
+tariffVerdict = blocksVerdict 12
+
+-- the five lists after it
+abbrev pub tariffLeft : Lent → Places → Places
+tariffLeft = blocksLeft 12 priceNumbers
 
 -- ---- Judge, given a list and lent 2 numbers
 

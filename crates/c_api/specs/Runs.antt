@@ -6,7 +6,7 @@ use mathlib.Core.List.{List, [], _∷_}
 use lib.ListN.{getD}
 use Rattle.lists.specs.Lists.{tabulate}
 use Rattle.study.specs.declared.BlockRecord.{BlockRecord}
-use Rattle.guarantee.specs.Runs.{set-minima, enter, withdraw, find-centres, make-blocks, judge-list, write-file}
+use Rattle.guarantee.specs.Runs.{set-minima, enter, withdraw, find-centres, make-blocks, price-blocks, judge-list, write-file}
 use Rattle.guarantee.specs.Runs.{Call, call-open, call-read, call-change, call-ask}
 use Rattle.c_api.specs.Api.{Lent, minimaAt, lacks, openLeft, minimaLeft, enterLeft, withdrawLeft, readLeft, Places, recordRoom}
 
@@ -22,12 +22,13 @@ pub data CCall : Type 0 where
   -- a radius, a list, and a place for the count
   c-centres : ℕ → List ℕ → List ℕ → CCall
   c-block : Places → CCall
+  c-tariff : Places → CCall
   -- a list, and two places for the judgement
   c-judge : List ℕ → List ℕ → CCall
   -- bytes, and a place for the file's length
   c-write : List ℕ → List ℕ → CCall
 
--- record and memory afterwards, as the contracts say; four calls only read them
+-- record and memory afterwards, as the contracts say; five calls only read them
 unfoldable pub cAfter : Lent → CCall → Lent
 cAfter l (c-open k) = openLeft l k
 cAfter l (c-read file) = readLeft l file
@@ -36,6 +37,7 @@ cAfter l (c-enter setting row) = enterLeft l setting row
 cAfter l (c-withdraw t) = withdrawLeft l t
 cAfter l (c-centres g list count) = l
 cAfter l (c-block p) = l
+cAfter l (c-tariff p) = l
 cAfter l (c-judge list result) = l
 cAfter l (c-write file result) = l
 
@@ -61,5 +63,6 @@ callsOf (c-enter setting row) = call-change (enter setting row) ∷ []
 callsOf (c-withdraw t) = call-change (withdraw t) ∷ []
 callsOf (c-centres g list count) = unless (lacks 1 count) (call-ask (find-centres g list))
 callsOf (c-block p) = unless (lacks 3 (p .result)) (call-ask (make-blocks (p .list) (recordsIn p)))
+callsOf (c-tariff p) = unless (lacks 12 (p .result)) (call-ask (price-blocks (p .list) (recordsIn p)))
 callsOf (c-judge list result) = unless (lacks 2 result) (call-ask (judge-list list))
 callsOf (c-write file result) = unless (lacks 1 result) (call-ask (write-file file))

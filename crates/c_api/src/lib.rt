@@ -23,6 +23,7 @@ mod code;
 pub mod mend;
 mod numbers;
 mod rows;
+pub mod tariff;
 
 ghost use mathlib.Core.Path.{_≡_};
 ghost use Rattle.c_api.specs.Api.{lent, code, openVerdict, openLeft, minimaVerdict, minimaLeft, enterVerdict, enterLeft};

@@ -2,15 +2,17 @@
 use borrow.Author.Needs.{needs}
 use native.Mathlib.Omega.{arith}
 use mathlib.Core.Logic.{inl, inr}
-use Rattle.c_api.proofs.BlockLaws.{block-narrow, blocks-small, columns-fit, block-too-short, block-refused, block-done}
+use Rattle.c_api.specs.Api.{blockNumbers}
+use Rattle.c_api.proofs.BlockLaws.{block-narrow, blocks-small, columns-fit, written-figures}
+use Rattle.c_api.proofs.BlockLaws.{blocks-too-short, blocks-refused, blocks-done}
 use Rattle.c_api.proofs.tides_block.Statement.{statement}
 use Rattle.c_api.proofs.tides_block.Tie as tie
 
 returns : tie.Need-returns
-returns c = block-too-short _ _ (inl (c .if1 .taken))
+returns c = blocks-too-short 3 blockNumbers _ _ (inl (c .if1 .taken))
 
 returns-2 : tie.Need-returns-2
-returns-2 c = block-too-short _ _ (inr (c .if2 .taken))
+returns-2 c = blocks-too-short 3 blockNumbers _ _ (inr (c .if2 .taken))
 
 refusal-code-requires : tie.Need-refusal-code-requires
 refusal-code-requires c κs = block-narrow _ _ _ _ (c .before .before .before .before .before .before .block-core .ensures .0) (c .before .answer .given .1)
@@ -34,7 +36,8 @@ returns-3 c =
     let called = c .before .before .before .before .before .before .before in
     let e = called .block-core .ensures in
     let got = called .before .before in
-    block-refused _ _ (record { room = got .before .before .before .if1 .left; enough = got .before .before .if2 .left; held = got .dataset-of .ensures })
+    blocks-refused 3 blockNumbers _ _
+    (record { room = got .before .before .before .if1 .left; enough = got .before .before .if2 .left; held = got .dataset-of .ensures })
     (got .before .least .ensures) _ (e .0) (e .1 .1) (c .before .before .answer .given .1) (c .refusal-code .ensures)
 
 returns-4 : tie.Need-returns-4
@@ -46,8 +49,10 @@ returns-4 c =
     let w = put .put-columns .ensures in
     let e = called .block-core .ensures in
     let got = called .before .before in
-    block-done _ _ (record { room = got .before .before .before .if1 .left; enough = got .before .before .if2 .left; held = got .dataset-of .ensures })
-    (got .before .least .ensures) _ (e .0) (e .1 .1) (told .answer2 .given .1) (e .1 .0) (w .0) (w .1 .0) (w .1 .1) (figures .put-numbers .ensures)
+    blocks-done 3 blockNumbers _ _
+    (record { room = got .before .before .before .if1 .left; enough = got .before .before .if2 .left; held = got .dataset-of .ensures })
+    (got .before .least .ensures) _ (e .0) (e .1 .1) (told .answer2 .given .1) (e .1 .0) (w .0) (w .1 .0) (w .1 .1)
+    (written-figures _ _ _ _ (e .0) (told .answer2 .given .1) _ (figures .put-numbers .ensures))
 
 pub tides-block-spec : {M : Type 1} → statement M
 tides-block-spec =
