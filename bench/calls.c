@@ -1,6 +1,6 @@
 /* Times the calls through the C interface: Block alone on each study file (tides_block less the validity test, which every call makes: a
- * Judge with a list of the wrong length is refused right after it), and at the end the other calls on the last file. Milliseconds of
- * processor time, the best of 25. Words: study files. */
+ * Judge with a list of the wrong length is refused right after it), and at the end the other calls on the last file, of the tariff what
+ * it takes longer than Block. Milliseconds of processor time, the best of 25. Words: study files. */
 #include <stdio.h>
 #include <string.h>
 #include <time.h>
@@ -26,6 +26,12 @@ static uint32_t block(uint32_t *result) {
     uint8_t list[120], centres[120], sizes[120];
     uint32_t diameters[120];
     return tides_block(DATASET, list, 120, centres, 120, sizes, 120, diameters, 120, result, 3);
+}
+
+static uint32_t tariff(uint32_t *result) {
+    uint8_t list[120], centres[120], sizes[120];
+    uint32_t diameters[120];
+    return tides_tariff(DATASET, list, 120, centres, 120, sizes, 120, diameters, 120, result, 12);
 }
 
 static uint32_t validity(uint32_t *result) {
@@ -72,7 +78,7 @@ static double best(uint32_t (*call)(uint32_t *), uint32_t *result) {
 }
 
 int main(int count, char **names) {
-    uint32_t result[3] = {0, 0, 0}, other[3];
+    uint32_t result[3] = {0, 0, 0}, other[12];
     double sum = 0, most = 0;
     printf("%-24s %4s %8s %8s %10s %10s\n", "file", "n", "blocks", "radius", "Block ms", "validity ms");
     for (int i = 1; i < count; i++) {
@@ -87,7 +93,7 @@ int main(int count, char **names) {
         if (alone > most) most = alone;
     }
     printf("mean %.3f, most %.3f\n", sum / (count - 1), most);
-    printf("on the last file: Read %.3f, Write %.3f, Withdraw and Enter %.3f, Judge %.3f\n", best(reading, other), best(writing, other),
-           best(withdraw_enter, other), best(judging, other));
+    printf("on the last file: Read %.3f, Write %.3f, Withdraw and Enter %.3f, Judge %.3f, tariff less Block %.3f\n", best(reading, other),
+           best(writing, other), best(withdraw_enter, other), best(judging, other), best(tariff, other) - best(block, other));
     return 0;
 }
