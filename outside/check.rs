@@ -1,4 +1,4 @@
-//! Compares the library's ten calls with the plain implementation in
+//! Compares the library's eleven calls with the plain implementation in
 //! plain.rs, call by call over random runs: the answer and all memory, bit for
 //! bit, also the places past each lent length. Stops with status 1 at the
 //! first difference. Every run follows from fixed seeds.
@@ -46,6 +46,16 @@ extern "C" {
         count: *mut u16, count_len: usize,
     ) -> u32;
     fn tides_block(
+        record: *const u16, record_len: usize,
+        distances: *const u32, distances_len: usize,
+        settings: *const u8, settings_len: usize,
+        list: *mut u8, list_len: usize,
+        centres: *mut u8, centres_len: usize,
+        sizes: *mut u8, sizes_len: usize,
+        diameters: *mut u32, diameters_len: usize,
+        result: *mut u32, result_len: usize,
+    ) -> u32;
+    fn tides_tariff(
         record: *const u16, record_len: usize,
         distances: *const u32, distances_len: usize,
         settings: *const u8, settings_len: usize,
@@ -169,6 +179,29 @@ impl World {
     }
 }
 
+/// What Block and the tariff are lent.
+#[derive(Clone, PartialEq)]
+struct Columns {
+    list: Lent<u8>,
+    centres: Lent<u8>,
+    sizes: Lent<u8>,
+    diameters: Lent<u32>,
+    result: Lent<u32>,
+}
+
+impl Columns {
+    /// For n tides and a result of some numbers, or a little more.
+    fn room(rng: &mut Rng, n: usize, result: usize) -> Columns {
+        Columns {
+            list: room(rng, n, 3),
+            centres: room(rng, n, 3),
+            sizes: room(rng, n, 3),
+            diameters: room(rng, n, 3),
+            result: room(rng, result, 1),
+        }
+    }
+}
+
 #[derive(Clone, PartialEq)]
 enum Call {
     Open {
@@ -189,13 +222,8 @@ enum Call {
         list: Lent<u8>,
         count: Lent<u16>,
     },
-    Block {
-        list: Lent<u8>,
-        centres: Lent<u8>,
-        sizes: Lent<u8>,
-        diameters: Lent<u32>,
-        result: Lent<u32>,
-    },
+    Block(Columns),
+    Tariff(Columns),
     Judge {
         list: Lent<u8>,
         result: Lent<u32>,
@@ -215,11 +243,16 @@ enum Call {
     },
 }
 
-const BOOK_CALLS: usize = 9; // the calls on a book come first
+const BOOK_CALLS: usize = 10; // the calls on a book come first
 const CALLS: usize = BOOK_CALLS + 1;
 
-const NAMES: [&str; CALLS] =
-    ["Open", "Minima", "Enter", "Withdraw", "Centres", "Block", "Judge", "Read", "Write", "Mend"];
+const NAMES: [&str; CALLS] = [
+    "Open", "Minima", "Enter", "Withdraw", "Centres", "Block", "Judge", "Read", "Write", "Tariff",
+    "Mend",
+];
+
+/// The calls that look at the book that they are given.
+const LOOKS: [usize; 8] = [1, 2, 3, 4, 5, 6, 8, 9];
 
 /// The refusals that each call can give.
 const REASONS: [&[usize]; CALLS] = [
@@ -232,6 +265,7 @@ const REASONS: [&[usize]; CALLS] = [
     &[1, 12, 21, 24],
     &[1, 2, 3, 5, 7, 8, 9, 10, 11],
     &[1, 21],
+    &[1, 21, 24, 25],
     &[1, 6, 10, 13],
 ];
 
@@ -243,11 +277,12 @@ impl Call {
             Call::Enter { .. } => 2,
             Call::Withdraw { .. } => 3,
             Call::Centres { .. } => 4,
-            Call::Block { .. } => 5,
+            Call::Block(_) => 5,
             Call::Judge { .. } => 6,
             Call::Read { .. } => 7,
             Call::Write { .. } => 8,
-            Call::Mend { .. } => 9,
+            Call::Tariff(_) => 9,
+            Call::Mend { .. } => 10,
         }
     }
 
@@ -258,12 +293,12 @@ impl Call {
             Call::Minima { minima } => vec![&mut minima.len],
             Call::Enter { row, .. } => vec![&mut row.len],
             Call::Centres { list, count, .. } => vec![&mut list.len, &mut count.len],
-            Call::Block { list, centres, sizes, diameters, result } => vec![
-                &mut list.len,
-                &mut centres.len,
-                &mut sizes.len,
-                &mut diameters.len,
-                &mut result.len,
+            Call::Block(c) | Call::Tariff(c) => vec![
+                &mut c.list.len,
+                &mut c.centres.len,
+                &mut c.sizes.len,
+                &mut c.diameters.len,
+                &mut c.result.len,
             ],
             Call::Judge { list, result } => vec![&mut list.len, &mut result.len],
             Call::Read { file } => vec![&mut file.len],
@@ -278,6 +313,7 @@ fn ask_library(w: &mut World, call: &mut Call) -> u32 {
     let (rp, rn) = (w.record.ptr(), w.record.len);
     let (dp, dn) = (w.distances.ptr(), w.distances.len);
     let (sp, sn) = (w.settings.ptr(), w.settings.len);
+    let divide = if matches!(call, Call::Tariff(_)) { tides_tariff } else { tides_block };
     unsafe {
         match call {
             Call::Open { k } => tides_open(rp, rn, dp, dn, sp, sn, *k),
@@ -291,13 +327,13 @@ fn ask_library(w: &mut World, call: &mut Call) -> u32 {
             Call::Centres { g, list, count } => tides_centres(
                 rp, rn, dp, dn, sp, sn, *g, list.ptr(), list.len, count.ptr(), count.len,
             ),
-            Call::Block { list, centres, sizes, diameters, result } => tides_block(
+            Call::Block(c) | Call::Tariff(c) => divide(
                 rp, rn, dp, dn, sp, sn,
-                list.ptr(), list.len,
-                centres.ptr(), centres.len,
-                sizes.ptr(), sizes.len,
-                diameters.ptr(), diameters.len,
-                result.ptr(), result.len,
+                c.list.ptr(), c.list.len,
+                c.centres.ptr(), c.centres.len,
+                c.sizes.ptr(), c.sizes.len,
+                c.diameters.ptr(), c.diameters.len,
+                c.result.ptr(), c.result.len,
             ),
             Call::Judge { list, result } => tides_judge(
                 rp, rn, dp, dn, sp, sn, list.ptr(), list.len, result.ptr(), result.len,
@@ -315,21 +351,22 @@ fn ask_library(w: &mut World, call: &mut Call) -> u32 {
 
 fn ask_plain(w: &mut World, call: &mut Call) -> u32 {
     let (r, d, s) = (w.record.part(), w.distances.part(), w.settings.part());
+    let divide = if matches!(call, Call::Tariff(_)) { plain::tariff } else { plain::block };
     match call {
         Call::Open { k } => plain::open(r, d, s, *k),
         Call::Minima { minima } => plain::minima(r, d, s, minima.part()),
         Call::Enter { setting, row } => plain::enter(r, d, s, *setting, row.part()),
         Call::Withdraw { tide } => plain::withdraw(r, d, s, *tide),
         Call::Centres { g, list, count } => plain::centres(r, d, s, *g, list.part(), count.part()),
-        Call::Block { list, centres, sizes, diameters, result } => plain::block(
+        Call::Block(c) | Call::Tariff(c) => divide(
             r,
             d,
             s,
-            list.part(),
-            centres.part(),
-            sizes.part(),
-            diameters.part(),
-            result.part(),
+            c.list.part(),
+            c.centres.part(),
+            c.sizes.part(),
+            c.diameters.part(),
+            c.result.part(),
         ),
         Call::Judge { list, result } => plain::judge(r, d, s, list.part(), result.part()),
         Call::Read { file } => plain::read(r, d, s, file.part()),
@@ -352,6 +389,41 @@ struct Seen {
     lowered: u64,   // tables that were lowered
     untouched: u64, // tables that came back untouched
     raised: u64,    // minima that were taken with another b0
+    bills: Bills,
+}
+
+/// Accepted tariffs, and what was met in them.
+#[derive(Default)]
+struct Bills {
+    all: u64,
+    reduced: u64, // with a block of more than 20 tides
+    halves: u64,  // with half a penny to round
+    ties: u64,    // with equal remainders of which one got a penny and one none
+}
+
+impl Bills {
+    /// Tests that the shares add up with none above k, and counts.
+    fn note(&mut self, s: &Study, c: &Columns) -> Result<(), String> {
+        let (blocks, total) = (c.result.places[0] as usize, c.result.places[3]);
+        let shares = &c.result.places[4..12];
+        if shares.iter().sum::<u32>() != total || shares[s.k..].iter().any(|x| *x != 0) {
+            return Err(format!("shares {shares:?} of {total}"));
+        }
+        let reduced: Vec<usize> = (0..blocks).filter(|m| c.sizes.places[*m] > 20).collect();
+        let sum = |m: &usize| c.sizes.places[*m] as u32 * plain::rate(c.diameters.places[*m]);
+        let n = s.n() as u64;
+        let part = |j: usize| total as u64 * s.under(j + 1) as u64;
+        let tie = |i: usize, j: usize| {
+            part(i) % n == part(j) % n
+                && shares[i] as u64 * n > part(i)
+                && shares[j] as u64 * n < part(j)
+        };
+        self.all += 1;
+        self.reduced += !reduced.is_empty() as u64;
+        self.halves += reduced.iter().any(|m| sum(m) % 100 == 50) as u64;
+        self.ties += (0..s.k).any(|i| (0..s.k).any(|j| tie(i, j))) as u64;
+        Ok(())
+    }
 }
 
 impl Seen {
@@ -367,6 +439,7 @@ impl Seen {
             lowered: 0,
             untouched: 0,
             raised: 0,
+            bills: Bills::default(),
         }
     }
 
@@ -427,12 +500,18 @@ impl Seen {
                 self.no += 1;
             }
         }
-        if let (Call::Block { list, result, .. }, 0) = (&*call, answer) {
+        if let (Call::Block(c) | Call::Tariff(c), 0) = (&*call, answer) {
             if w.n() <= 7 {
                 self.enumerated += 1;
-                if let Err(what) = enumerate(&w.study().unwrap(), &list.places, &result.places) {
+                let s = w.study().unwrap();
+                if let Err(what) = enumerate(&s, &c.list.places, &c.result.places) {
                     fail(&what, &before_w, &before_call);
                 }
+            }
+        }
+        if let (Call::Tariff(c), 0) = (&*call, answer) {
+            if let Err(what) = self.bills.note(&w.study().unwrap(), c) {
+                fail(&what, &before_w, &before_call);
             }
         }
         if let (Call::Minima { minima }, 0) = (&*call, answer) {
@@ -487,15 +566,12 @@ fn say_calls(a: &Call, b: &Call) {
             say("list", x, y);
             say("count", s, t);
         }
-        (
-            Call::Block { list, centres, sizes, diameters, result },
-            Call::Block { list: l, centres: c, sizes: s, diameters: d, result: r },
-        ) => {
-            say("list", list, l);
-            say("centres", centres, c);
-            say("sizes", sizes, s);
-            say("diameters", diameters, d);
-            say("result", result, r);
+        (Call::Block(x), Call::Block(y)) | (Call::Tariff(x), Call::Tariff(y)) => {
+            say("list", &x.list, &y.list);
+            say("centres", &x.centres, &y.centres);
+            say("sizes", &x.sizes, &y.sizes);
+            say("diameters", &x.diameters, &y.diameters);
+            say("result", &x.result, &y.result);
         }
         (Call::Judge { list: x, result: s }, Call::Judge { list: y, result: t }) => {
             say("list", x, y);
@@ -529,9 +605,9 @@ fn fail(what: &str, w: &World, call: &Call) -> ! {
         Call::Centres { g, list, count } => {
             println!("g {g}, list of {}, count of {}", list.len, count.len)
         }
-        Call::Block { list, centres, sizes, diameters, result } => println!(
+        Call::Block(c) | Call::Tariff(c) => println!(
             "list of {}, centres of {}, sizes of {}, diameters of {}, result of {}",
-            list.len, centres.len, sizes.len, diameters.len, result.len
+            c.list.len, c.centres.len, c.sizes.len, c.diameters.len, c.result.len
         ),
         Call::Judge { list, result } => println!("list {}, result of {}", lent(list), result.len),
         Call::Read { file } => {
@@ -962,7 +1038,9 @@ impl Run {
                         self.held.remove(*tide as usize - 1);
                     }
                 }
-                Call::Block { list, .. } => self.list = list.places[..self.w.n()].to_vec(),
+                Call::Block(c) | Call::Tariff(c) => {
+                    self.list = c.list.places[..self.w.n()].to_vec()
+                }
                 Call::Write { file, result } => {
                     let bytes = file.places[..result.places[0] as usize].to_vec();
                     self.files.push((bytes, self.held.clone()));
@@ -988,7 +1066,7 @@ impl Run {
         } else {
             10
         };
-        let what = match rng.below(24 + entering) {
+        let what = match rng.below(28 + entering) {
             0..=6 => 5,
             7..=9 => 1,
             10..=12 => 4,
@@ -996,6 +1074,7 @@ impl Run {
             17..=18 => 8,
             19 => 7,
             20..=23 => 3,
+            24..=27 => 9,
             _ => 2,
         };
         let what = if rng.one_in(150) { 0 } else { what };
@@ -1034,13 +1113,8 @@ impl Run {
                 };
                 Call::Centres { g, list: room(rng, n, 3), count: room(rng, 1, 1) }
             }
-            5 => Call::Block {
-                list: room(rng, n, 3),
-                centres: room(rng, n, 3),
-                sizes: room(rng, n, 3),
-                diameters: room(rng, n, 3),
-                result: room(rng, 3, 1),
-            },
+            5 => Call::Block(Columns::room(rng, n, 3)),
+            9 => Call::Tariff(Columns::room(rng, n, 12)),
             6 => {
                 let list = self.some_list(rng, n);
                 Call::Judge { list: exact(rng, &list), result: room(rng, 2, 1) }
@@ -1191,7 +1265,6 @@ fn spoil_call(rng: &mut Rng, call: &mut Call, w: &World) {
         },
         Call::Withdraw { tide } => *tide = wrong_number(rng, *tide, w.n()),
         Call::Centres { g, .. } => *g = rng.next() as u32,
-        Call::Block { .. } => {}
         Call::Judge { list, .. } => match rng.below(4) {
             0 => list.len += rng.within(1, 2).min(list.places.len() - list.len),
             1 => list.len -= rng.within(0, 2.min(list.len)),
@@ -1212,7 +1285,7 @@ fn spoil_call(rng: &mut Rng, call: &mut Call, w: &World) {
             }
             *file = exact(rng, &bytes);
         }
-        Call::Write { .. } | Call::Mend { .. } => {}
+        Call::Block(_) | Call::Tariff(_) | Call::Write { .. } | Call::Mend { .. } => {}
     }
 }
 
@@ -1330,7 +1403,7 @@ fn files(seen: &mut Seen, rng: &mut Rng, count: usize) {
         let mut call = Call::Read { file: exact(rng, &file) };
         let answer = run.make(seen, &mut call, 0);
         if answer == 0 {
-            for what in [8, 5, 3] {
+            for what in [8, 5, 9, 3] {
                 let (mut call, point) = run.propose_call(rng, what, run.w.n(), run.w.k());
                 run.make(seen, &mut call, point);
             }
@@ -1366,8 +1439,9 @@ fn short(seen: &mut Seen, rng: &mut Rng) {
             let need = match (&trial.1, i) {
                 (Call::Centres { .. }, 0) => 5,
                 (Call::Centres { .. }, 1) => 1,
-                (Call::Block { .. }, 0..=3) => 5,
-                (Call::Block { .. }, 4) => 3,
+                (Call::Block(_) | Call::Tariff(_), 0..=3) => 5,
+                (Call::Block(_), 4) => 3,
+                (Call::Tariff(_), 4) => 12,
                 (Call::Judge { .. }, 1) => 2,
                 (Call::Write { .. }, 0) => file.len(),
                 (Call::Write { .. }, 1) => 1,
@@ -1419,7 +1493,6 @@ fn every_place(seen: &mut Seen, rng: &mut Rng) {
     let mut run = Run::new(rng, 4);
     let mut read = Call::Read { file: exact(rng, &file) };
     expect(run.make(seen, &mut read, 0), 0, "the known file is read");
-    let looks = [1, 2, 3, 4, 5, 6, 8];
     let mut turn = 0;
     for i in 0..PLACES + TIDES {
         let mut w = run.w.clone();
@@ -1431,7 +1504,7 @@ fn every_place(seen: &mut Seen, rng: &mut Rng) {
             *s = if *s == 0 { rng.pick(&[1, 2, 255]) } else { rng.pick(&[0, 3, 8, 255]) };
         }
         turn += 1;
-        let (mut call, _) = run.propose_call(rng, looks[turn % 7], 5, 2);
+        let (mut call, _) = run.propose_call(rng, LOOKS[turn % LOOKS.len()], 5, 2);
         expect(seen.call(&mut w, &mut call), 21, "one place of the memory changed");
     }
     for i in 0..RECORD {
@@ -1439,7 +1512,7 @@ fn every_place(seen: &mut Seen, rng: &mut Rng) {
             let mut w = run.w.clone();
             w.record.places[i] = value;
             turn += 1;
-            let (mut call, _) = run.propose_call(rng, looks[turn % 7], 5, 2);
+            let (mut call, _) = run.propose_call(rng, LOOKS[turn % LOOKS.len()], 5, 2);
             seen.call(&mut w, &mut call);
         }
     }
@@ -1451,7 +1524,7 @@ fn every_place(seen: &mut Seen, rng: &mut Rng) {
                 w.distances.places[ROW * i + j] = d;
                 w.distances.places[ROW * j + i] = d;
                 turn += 1;
-                let (mut call, _) = run.propose_call(rng, looks[turn % 7], 5, 2);
+                let (mut call, _) = run.propose_call(rng, LOOKS[turn % LOOKS.len()], 5, 2);
                 seen.call(&mut w, &mut call);
             }
         }
@@ -1505,7 +1578,7 @@ fn large(seen: &mut Seen, rng: &mut Rng, runs: usize) {
             let (mut call, _) = run.propose_call(rng, 7, 0, 1);
             expect(run.make(seen, &mut call, 0), 0, "a large file is read");
         }
-        for what in [5, 6, 6, 4, 4, 8, 2, 3, 2, 1, 5, 6, 3, 7, 2] {
+        for what in [5, 9, 6, 6, 4, 4, 8, 2, 3, 2, 1, 5, 9, 6, 3, 7, 2] {
             let (n, k) = (run.w.n(), run.w.k());
             let (mut call, point) = run.propose_call(rng, what, n, k);
             run.make(seen, &mut call, point);
@@ -1533,7 +1606,7 @@ fn large(seen: &mut Seen, rng: &mut Rng, runs: usize) {
                 6 => w.settings.places[last] = w.record.places[0] as u8 + 1,
                 _ => w.record.places[1] = last as u16,
             }
-            let what = rng.pick(&[1, 2, 3, 4, 5, 6, 8]);
+            let what = rng.pick(&LOOKS);
             let (mut call, _) = run.propose_call(rng, what, last + 1, run.w.k());
             seen.call(&mut w, &mut call);
         }
@@ -1741,23 +1814,27 @@ fn worked(seen: &mut Seen, rng: &mut Rng) {
     for (at, settings, k, m, reach, list, diameters) in cases {
         let mut run = line(seen, rng, at, settings, k);
         put_minima(seen, rng, &mut run, m);
-        let (mut call, _) = run.propose_call(rng, 5, at.len(), k as usize);
-        expect(run.make(seen, &mut call, 0), 0, "Block");
-        let Call::Block { list: l, diameters: d, result: r, .. } = &call else { unreachable!() };
-        let blocks = diameters.len();
-        let widest = *diameters.iter().max().unwrap();
-        if &l.places[..at.len()] != list
-            || &d.places[..blocks] != diameters
-            || r.places[..3] != [blocks as u32, reach, widest]
-        {
-            fail("a worked case of document 01", &run.w, &call);
+        for what in [5, 9] {
+            let (mut call, _) = run.propose_call(rng, what, at.len(), k as usize);
+            expect(run.make(seen, &mut call, 0), 0, NAMES[what]);
+            let (Call::Block(c) | Call::Tariff(c)) = &call else { unreachable!() };
+            let blocks = diameters.len();
+            let widest = *diameters.iter().max().unwrap();
+            if &c.list.places[..at.len()] != list
+                || &c.diameters.places[..blocks] != diameters
+                || c.result.places[..3] != [blocks as u32, reach, widest]
+            {
+                fail("a worked case of document 01", &run.w, &call);
+            }
         }
     }
     // case 6, b0 = 3
     let mut run = line(seen, rng, &[0, 5], &[1, 1], 1);
     put_minima(seen, rng, &mut run, &[3]);
-    let (mut call, _) = run.propose_call(rng, 5, 2, 1);
-    expect(run.make(seen, &mut call, 0), 25, "case 6");
+    for what in [5, 9] {
+        let (mut call, _) = run.propose_call(rng, what, 2, 1);
+        expect(run.make(seen, &mut call, 0), 25, "case 6");
+    }
     // case 7
     let seven = 7 + 256 + 2 * 65_536;
     for (row, answer) in [([1, 2], 0), ([1, 4], 0), ([1, 1], seven), ([1, 5], seven)] {
@@ -1850,7 +1927,7 @@ fn below_the_sum(seen: &mut Seen, rng: &mut Rng) {
             fail("the b0 that Minima leaves", &run.w, &call);
         }
     }
-    // Block, Judge and Write after a raised record, beside the same record written out
+    // Block, Judge, Write and the tariff after a raised record, beside the same record written out
     let file = plain::file_of(&known_study());
     let mut run = Run::new(rng, 4);
     let mut read = Call::Read { file: exact(rng, &file) };
@@ -1861,7 +1938,7 @@ fn below_the_sum(seen: &mut Seen, rng: &mut Rng) {
             let mut call = Call::Minima { minima: exact(rng, &nine(&given)) };
             expect(one.make(seen, &mut call, 0), 0, &format!("Minima {given:?}"));
         }
-        for what in [5, 6, 8] {
+        for what in [5, 6, 8, 9] {
             let (mut call, _) = runs[0].propose_call(rng, what, 5, 2);
             let mut other = call.clone();
             let answer = runs[0].make(seen, &mut call, 0);
@@ -1872,7 +1949,7 @@ fn below_the_sum(seen: &mut Seen, rng: &mut Rng) {
         }
     }
     // a record and a file whose b0 is below the sum are still refused
-    for what in [1, 2, 3, 4, 5, 6, 8] {
+    for what in LOOKS {
         let mut w = run.w.clone();
         w.record.places[2] = 1;
         let (mut call, _) = run.propose_call(rng, what, 5, 2);
@@ -1883,6 +1960,113 @@ fn below_the_sum(seen: &mut Seen, rng: &mut Rng) {
     expect(run.make(seen, &mut read, 0), 3, "a file with b0 = 1");
 }
 
+// ---- the tariff ----
+
+/// The total and the shares of a book of heaps, each of so many tides at some
+/// distance from one another, and with so many tides under each setting.
+fn bill_of(seen: &mut Seen, rng: &mut Rng, heaps: &[(usize, u32)], under: &[usize]) -> Vec<u32> {
+    let of: Vec<usize> = (0..heaps.len()).flat_map(|h| vec![h; heaps[h].0]).collect();
+    let apart = |i: usize, j: usize| match of[i] == of[j] {
+        _ if i == j => 0,
+        true => heaps[of[i]].1,
+        false => FAR,
+    };
+    let (n, k) = (of.len(), under.len());
+    let study = Study {
+        k,
+        b0: heaps.iter().map(|h| h.0).min().unwrap(),
+        b: [0; 8],
+        withdrawals: 0,
+        settings: (0..k).flat_map(|j| vec![j + 1; under[j]]).collect(),
+        distances: (0..n).map(|i| (0..n).map(|j| apart(i, j)).collect()).collect(),
+    };
+    let mut run = Run::new(rng, 1);
+    let mut read = Call::Read { file: exact(rng, &plain::file_of(&study)) };
+    expect(run.make(seen, &mut read, 0), 0, "heaps are read");
+    let (mut call, _) = run.propose_call(rng, 9, n, k);
+    expect(run.make(seen, &mut call, 0), 0, "Tariff");
+    let Call::Tariff(c) = &call else { unreachable!() };
+    if c.result.places[0] as usize != heaps.len() {
+        fail("a block for each heap", &run.w, &call);
+    }
+    c.result.places[3..12].to_vec()
+}
+
+/// The last distance of each band, and its rate.
+const BANDS: [(u32, u32); 12] = [
+    (15, 940),
+    (31, 905),
+    (63, 870),
+    (127, 830),
+    (255, 785),
+    (511, 735),
+    (1_023, 680),
+    (2_047, 620),
+    (4_095, 555),
+    (8_191, 485),
+    (16_383, 410),
+    (FAR, 330),
+];
+
+/// Document 02, 2.3: the first and the last distance of each band, and cases
+/// with their numbers.
+fn tariffs(seen: &mut Seen, rng: &mut Rng) {
+    let mut says = |heaps: &[(usize, u32)], under: &[usize], total: u32, shares: &[u32]| {
+        let bill = bill_of(seen, rng, heaps, under);
+        let mut expected = vec![total];
+        expected.extend(shares);
+        expected.resize(9, 0);
+        if bill != expected {
+            println!("FAILED: heaps {heaps:?} under {under:?}: {bill:?}, not {expected:?}");
+            exit(1);
+        }
+    };
+    let mut first = 0;
+    for (last, rate) in BANDS {
+        for d in [first, last] {
+            says(&[(2, d)], &[2], 2 * rate, &[2 * rate]);
+            says(&[(2, d)], &[1, 1], 2 * rate, &[rate, rate]);
+        }
+        first = last + 1;
+    }
+    says(&[(20, 7)], &[20], 18_800, &[18_800]);
+    says(&[(21, 7)], &[21], 18_358, &[18_358]);
+    // half a penny; it is rounded block by block
+    says(&[(25, 40)], &[25], 20_228, &[20_228]);
+    says(&[(30, 20)], &[15, 15], 25_250, &[12_625, 12_625]);
+    says(&[(25, 20_000)], &[25], 7_673, &[7_673]);
+    says(&[(25, 40), (25, 40)], &[50], 40_456, &[40_456]);
+    says(&[(21, 7), (20, 100)], &[41], 34_958, &[34_958]);
+    // equal remainders
+    says(&[(21, 7)], &[7, 7, 7], 18_358, &[6_120, 6_119, 6_119]);
+    says(&[(24, 7)], &[7, 7, 10], 20_981, &[6_120, 6_119, 8_742]);
+    says(&[(24, 7)], &[10, 7, 7], 20_981, &[8_742, 6_120, 6_119]);
+    says(&[(24, 7)], &[3; 8], 20_981, &[2623, 2623, 2623, 2623, 2623, 2622, 2622, 2622]);
+    says(&[(21, 7)], &[1, 1, 1, 1, 1, 1, 15], 18_358, &[875, 874, 874, 874, 874, 874, 13_113]);
+    // different ones, and settings without a tide
+    says(&[(25, 40)], &[12, 13], 20_228, &[9_709, 10_519]);
+    let eight = [684, 1_367, 2_051, 2_734, 3_418, 4_101, 4_785, 5_468];
+    says(&[(36, 300)], &[1, 2, 3, 4, 5, 6, 7, 8], 24_608, &eight);
+    says(&[(24, 7)], &[0, 11, 0, 0, 13, 0, 0, 0], 20_981, &[0, 9_616, 0, 0, 11_365]);
+    says(&[(120, 300)], &[0, 0, 0, 0, 0, 0, 0, 120], 82_026, &[0, 0, 0, 0, 0, 0, 0, 82_026]);
+}
+
+/// One to four heaps of any size, each as wide as a band ends or begins.
+fn heaps(seen: &mut Seen, rng: &mut Rng, runs: usize) {
+    for turn in 0..runs {
+        let count = 1 + turn % 4;
+        let heaps: Vec<(usize, u32)> = (0..count)
+            .map(|_| (rng.within(2, TIDES / count), rng.pick(&BANDS[..11]).0 + rng.below(2) as u32))
+            .collect();
+        let k = rng.within(1, 8);
+        let mut under = vec![0; k];
+        for _ in 0..heaps.iter().map(|h| h.0).sum() {
+            under[rng.below(k)] += 1;
+        }
+        bill_of(seen, rng, &heaps, &under);
+    }
+}
+
 fn main() {
     let mut seen = Seen::new();
     let mut rng = Rng(0x1D5_7EA5_0F_71DE);
@@ -1890,6 +2074,8 @@ fn main() {
     let groups: Vec<Group> = vec![
         ("worked cases", Box::new(worked)),
         ("b0 below the sum", Box::new(below_the_sum)),
+        ("tariffs", Box::new(tariffs)),
+        ("tariffs of heaps", Box::new(|s, r| heaps(s, r, 600))),
         ("each slice short", Box::new(short)),
         ("every place", Box::new(every_place)),
         ("every number", Box::new(numbers)),
@@ -1927,6 +2113,7 @@ fn main() {
     whole &= seen.yes > 0 && seen.no > 0;
     whole &= seen.raised > 0;
     whole &= seen.lowered > 0 && seen.untouched > 0;
+    whole &= seen.bills.reduced > 0 && seen.bills.halves > 0 && seen.bills.ties > 0;
     println!("Judge said yes {} times and no {} times", seen.yes, seen.no);
     println!(
         "{} blockings of up to 7 tides also by full enumeration, none wider than twice the least",
@@ -1934,6 +2121,15 @@ fn main() {
     );
     println!("{} minima taken with b0 raised to the sum of the b's", seen.raised);
     println!("{} tables lowered, {} untouched", seen.lowered, seen.untouched);
+    println!(
+        "{} tariffs compared, {} accepted: {} with a block of more than 20 tides, \
+         {} with half a penny, {} with a penny by equal remainders",
+        seen.by_call[9].iter().sum::<u64>(),
+        seen.bills.all,
+        seen.bills.reduced,
+        seen.bills.halves,
+        seen.bills.ties
+    );
     if !whole {
         println!("FAILED: a refusal or an acceptance of the table above was never seen");
         exit(1);
