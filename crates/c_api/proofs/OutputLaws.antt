@@ -13,7 +13,7 @@ use Rattle.study.specs.declared.Refusal.{Refusal}
 use Rattle.study.specs.declared.Dataset.{Dataset}
 use Rattle.study.specs.Problem.{centres}
 use Rattle.study.specs.Study.{Contents, size, distance, problem}
-use Rattle.study.specs.Refusals.{Numbered, numbered, Verdict, accepted, refused, verdictOf, settled, value, refusal, replied, Reason}
+use Rattle.study.specs.Refusals.{Numbered, numbered, Verdict, accepted, refused, verdictOf, settled, Reason}
 use Rattle.study.specs.Calls.{centresReasons, centreNumbers}
 use Rattle.study.specs.Theorems.{ValidContents}
 use Rattle.study.proofs.CallLaws.{reply-refused, reply-value}
