@@ -1,0 +1,14 @@
+// Trials of the tariff (document 02, 2.3) beside a plain one that works it out in another way: the rates at the ends of the bands, the prices
+// of 0 to 255 tides, one block of up to 120 tides, and random studies beside Block. Each group prints how many of its answers came out as
+// expected, and how often half a penny, pennies left over and equal remainders were met.
+mod one_block;
+mod plain;
+mod prices;
+mod random;
+
+fn main() {
+    prices::bands().print(b"bands");
+    prices::trials().print();
+    one_block::trials().print();
+    random::trials().print();
+}
