@@ -5,10 +5,28 @@ mod one_block;
 mod plain;
 mod prices;
 mod random;
+mod seen;
+
+fn print_prices() {
+    prices::bands().print(b"bands");
+    prices::prices(false).print(b"prices");
+    prices::prices(true).print(b"with half a penny");
+}
+
+fn print_one_block() {
+    one_block::trials().print(
+        b"one block",
+        b"with more than 20 tides",
+        b"with half a penny",
+    );
+}
+
+fn print_random() {
+    random::trials().print(b"random studies", b"refused", b"with several blocks");
+}
 
 fn main() {
-    prices::bands().print(b"bands");
-    prices::trials().print();
-    one_block::trials().print();
-    random::trials().print();
+    print_prices();
+    print_one_block();
+    print_random();
 }

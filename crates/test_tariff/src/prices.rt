@@ -45,36 +45,20 @@ pub fn bands() -> Tally {
     all
 }
 
-// Prices that are as the plain ones, and those of them in which half a penny was rounded up.
-pub struct Prices {
-    right: Tally,
-    halves: Tally,
-}
-
-impl Prices {
-    fn and(self, tides: u8, diameter: u32) -> Prices {
-        Prices {
-            right: self.right.see(price(tides, diameter) as u64 == plain::price(tides, diameter)),
-            halves: self.halves
-                .see(plain::hundredths(tides, diameter) % 100 == 50),
-        }
+// Whether a price is as the plain one; or, where that is asked, whether it has half a penny, which is rounded up.
+fn trial(halves: bool, tides: u8, diameter: u32) -> bool {
+    if halves {
+        return plain::hundredths(tides, diameter) % 100 == 50;
     }
-
-    pub fn print(self) {
-        self.right.print(b"prices");
-        self.halves.print(b"with half a penny");
-    }
+    price(tides, diameter) as u64 == plain::price(tides, diameter)
 }
 
 // 0 to 255 tides at each diameter.
-pub fn trials() -> Prices {
-    let mut all = Prices {
-        right: tally::new(),
-        halves: tally::new(),
-    };
+pub fn prices(halves: bool) -> Tally {
+    let mut all = tally::new();
     let mut p: usize = 0;
     while p < 6400 {
-        all = all.and((p % 256) as u8, DIAMETERS[p / 256]);
+        all = all.see(trial(halves, (p % 256) as u8, DIAMETERS[p / 256]));
         p += 1;
     }
     all

@@ -1,15 +1,16 @@
 // Random studies of up to seven tides, priced and blocked.
 use crate::plain;
 use crate::plain::Shares;
+use crate::seen;
+use crate::seen::Seen;
 use blocking::block::BlockRows;
-use blocking::records::Blocking;
-use blocking::records::block_by_value;
 use priced_blocks::core::PricedRows;
 use priced_blocks::core::price_core;
 use study::BlockRecord;
 use study::Blocked;
 use study::MAX_TIDES;
-use study::refusals::number_of;
+use test_comparisons::given::Given;
+use test_comparisons::given::blocked;
 use test_exhaustive::small::Small;
 use test_exhaustive::studies;
 use test_random::draw;
@@ -17,11 +18,9 @@ use test_random::next;
 use test_tools::answers::blocked_number;
 use test_tools::answers::is_blank;
 use test_tools::answers::is_done;
-use test_tools::tally;
-use test_tools::tally::Tally;
 ghost use Prim.Native.Nat.{_<_};
 
-// What the list holds before a call.
+// What the lists hold before a call.
 const UNWRITTEN: [u8; 9] = [170; 9];
 
 // A distance, of which none is above 39, as it is or so much longer that it comes into other bands.
@@ -46,48 +45,35 @@ fn stretched(small: Small, kind: u8) -> Small {
     longer
 }
 
-// What Block gives of a study, the tariff, and the tariff with room for a record less than there are tides; each with its list.
-struct Given {
-    blocked: Blocking,
-    list: [u8; 9],
+// What the tariff gives of a study, and its list.
+struct Charged {
     priced: PricedRows,
-    priced_list: [u8; 9],
-    short: PricedRows,
-    short_list: [u8; 9],
+    list: [u8; 9],
 }
 
-fn one_less(n: usize) -> usize {
-    if n == 0 {
-        return 0;
-    }
-    n - 1
-}
-
-fn calls(small: Small) -> Given {
+// The tariff with room for so many records.
+fn charge(small: Small, room: usize) -> Charged {
     let mut distances = [7u32; 14403];
     let mut settings = [9u8; 123];
-    let dataset = small.held(&mut distances, &mut settings);
     let mut list = UNWRITTEN;
-    let blocked = block_by_value(dataset, &distances, &settings, &mut list);
-    let mut priced_list = UNWRITTEN;
-    let priced = price_core(dataset, &distances, &settings, &mut priced_list, MAX_TIDES);
-    let mut short_list = UNWRITTEN;
-    let room = one_less(small.n);
-    let short = price_core(dataset, &distances, &settings, &mut short_list, room);
-    Given {
-        blocked,
-        list,
-        priced,
-        priced_list,
-        short,
-        short_list,
+    let dataset = small.held(&mut distances, &mut settings);
+    let priced = price_core(dataset, &distances, &settings, &mut list, room);
+    Charged { priced, list }
+}
+
+// The refusal that Block's is with room for so many records, by its number; 0 where it is done.
+fn refusal(blocked: Blocked, n: usize, room: usize) -> u32 {
+    let number = blocked_number(blocked);
+    if number == 0 && room < n {
+        return 1;
     }
+    number
 }
 
 fn same_answer(a: Blocked, b: Blocked) -> bool {
     match a {
         Blocked::Done(count, radius, widest) => is_done(b, count, radius, widest),
-        Blocked::Refused(why) => number_of(why) == blocked_number(b),
+        Blocked::Refused(_) => false,
     }
 }
 
@@ -126,23 +112,26 @@ fn same_records(rows: BlockRows, records: [BlockRecord; MAX_TIDES]) -> bool {
     true
 }
 
-// Whether this is the refusal of that number: nothing to pay, no rows, and the list as before.
-fn is_refused(priced: PricedRows, list: [u8; 9], number: u32) -> bool {
+// Whether answer, list and rows are Block's; where the call is refused, with this number, the list is as before and there are no rows.
+fn is_block(given: Given, priced: PricedRows, list: [u8; 9], refusal: u32) -> bool {
     let bill = priced.priced;
-    let rows = priced.rows;
     let answer = bill.answer;
-    blocked_number(answer) == number
-        && rows.count == 0
-        && same_list(list, UNWRITTEN)
-        && plain::is_priced(bill, 0, plain::shared(0, &[], 0))
+    let rows = priced.rows;
+    if refusal != 0 {
+        return blocked_number(answer) == refusal && same_list(list, UNWRITTEN) && rows.count == 0;
+    }
+    let expected = given.answer;
+    let places = given.list;
+    let records = given.records;
+    same_answer(expected, answer) && same_list(list, places) && same_records(rows, records)
 }
 
-// 1 where a call with enough room is done, else the number that it is refused with.
-fn short_number(number: u32) -> u32 {
-    if number == 0 {
-        return 1;
+// The price of the blocks; nothing where the call is refused.
+fn total(refusal: u32, records: [BlockRecord; MAX_TIDES]) -> u64 {
+    if refusal != 0 {
+        return 0;
     }
-    number
+    plain::total(records)
 }
 
 // A total shared by the settings of a study.
@@ -150,69 +139,36 @@ fn shared(total: u64, kinds: [u8; 7], n: usize) -> Shares {
     plain::shared(total, &kinds, n)
 }
 
-// Studies of which the tariff gives what Block gives, and what the plain tariff makes of it; those of them that are refused, that have
-// several blocks, pennies left over, and equal remainders of which only the lower numbers got one.
-pub struct Studies {
-    right: Tally,
-    short: Tally,
-    refused: Tally,
-    several: Tally,
-    left: Tally,
-    tied: Tally,
+fn trial(so_far: Seen, small: Small, room: usize) -> Seen {
+    let given = blocked(small);
+    let answer = given.answer;
+    let records = given.records;
+    let refusal = refusal(answer, small.n, room);
+    let total = total(refusal, records);
+    let kinds = small.settings;
+    let shares = shared(total, kinds, small.n);
+    let charged = charge(small, room);
+    let priced = charged.priced;
+    let list = charged.list;
+    let bill = priced.priced;
+    let rows = priced.rows;
+    so_far.and(
+        is_block(given, priced, list, refusal) && plain::is_priced(bill, total, shares),
+        refusal != 0,
+        1 < rows.count,
+        shares,
+    )
 }
 
-impl Studies {
-    fn and(self, small: Small) -> Studies {
-        let given = calls(small);
-        let blocked = given.blocked;
-        let records = blocked.records;
-        let number = blocked_number(blocked.answer);
-        let priced = given.priced;
-        let bill = priced.priced;
-        let rows = priced.rows;
-        let kinds = small.settings;
-        let total = plain::total(records);
-        let shared = shared(total, kinds, small.n);
-        Studies {
-            right: self.right
-                .see(same_answer(bill.answer, blocked.answer))
-                .see(same_list(given.priced_list, given.list))
-                .see(same_records(rows, records))
-                .see(plain::is_priced(bill, total, shared))
-                .see(number == 0 || is_refused(priced, given.priced_list, number)),
-            short: self.short.see(is_refused(given.short, given.short_list, short_number(number))),
-            refused: self.refused.see(number != 0),
-            several: self.several.see(1 < rows.count),
-            left: self.left.see(0 < shared.left),
-            tied: self.tied.see(shared.tied),
-        }
-    }
-
-    pub fn print(self) {
-        self.right.print(b"random studies");
-        self.short.print(b"with a record too few");
-        self.refused.print(b"refused");
-        self.several.print(b"with several blocks");
-        self.left.print(b"with pennies left over");
-        self.tied.print(b"with equal remainders");
-    }
-}
-
-// The same studies each time, from a fixed generator.
-pub fn trials() -> Studies {
-    let mut all = Studies {
-        right: tally::new(),
-        short: tally::new(),
-        refused: tally::new(),
-        several: tally::new(),
-        left: tally::new(),
-        tied: tally::new(),
-    };
+// The same studies each time, from a fixed generator, with room for 6 to 9 records.
+pub fn trials() -> Seen {
+    let mut all = seen::none();
     let mut seed: u64 = 20240302;
     let mut i: u32 = 0;
     while i < 3000 {
         seed = next(seed);
-        all = all.and(stretched(studies::study(seed), draw(next(seed), 4)));
+        let small = stretched(studies::study(seed), draw(seed / 7, 4));
+        all = trial(all, small, draw(seed / 11, 4) as usize + 6);
         i += 1;
     }
     all

@@ -1,27 +1,27 @@
 -- 6,400 - p falls. Assumes nothing.
 use Prim.Native.Nat.{_≤_, _-_}
 use borrow.Author.Needs.{needs}
-use Rattle.test_tariff.proofs.prices.trials.Statement.{statement}
-use Rattle.test_tariff.proofs.prices.trials.Tie as tie
+use Rattle.test_tariff.proofs.prices.prices.Statement.{statement}
+use Rattle.test_tariff.proofs.prices.prices.Tie as tie
 
 abbrev Inv-loop : tie.InvT-loop
-Inv-loop all₀ p₀ all p = p ≤ 6400
+Inv-loop halves all₀ p₀ all p = p ≤ 6400
 
 abbrev μ-loop : tie.MeasureT-loop
-μ-loop all₀ p₀ all p = 6400 - p
+μ-loop halves all₀ p₀ all p = 6400 - p
 
-pub trials-spec : {M : Type 1} → statement M
-trials-spec =
+pub prices-spec : {M : Type 1} → statement M
+prices-spec =
     tie.close
     (tie.spec
     Inv-loop
     μ-loop
     (λ c κs. search needs)
+    (λ c. search needs)
+    (λ c. search needs)
+    (λ c. search needs)
+    (λ c. search needs)
     (λ c κs. search needs)
-    (λ c. search needs)
-    (λ c. search needs)
-    (λ c. search needs)
-    (λ c. search needs)
     (λ c κs. search needs)
     (λ c. search needs)
     (λ c. search needs)
