@@ -1,17 +1,14 @@
 // Up to 120 tides in one block: the first at one distance from all others, which are at 0 from each other.
+use crate::checked::check;
 use crate::plain;
-use crate::plain::Shares;
 use crate::prices::DIAMETERS;
 use crate::seen;
 use crate::seen::Seen;
-use priced_blocks::core::Priced;
-use priced_blocks::core::price_core;
 use study::Dataset;
 use study::MAX_TIDES;
 use study::Minima;
 use study::TABLE_SIZE;
 use study::wide;
-use test_tools::answers::is_done;
 
 // Numbers of tides: around 20, and 30 and 35, which make half a penny in some bands.
 const SIZES: [u8; 11] = [1, 2, 19, 20, 21, 22, 30, 35, 60, 119, 120];
@@ -53,15 +50,9 @@ fn width(n: u8, d: u32) -> u32 {
     d
 }
 
-// What the tariff gives, and the plain shares of this total.
-struct Tried {
-    priced: Priced,
-    shares: Shares,
-}
-
-fn call(n: u8, d: u32, k: u8, uneven: bool, total: u64) -> Tried {
-    let mut distances = [0u32; TABLE_SIZE];
-    let mut settings = [0u8; MAX_TIDES];
+fn trial(so_far: Seen, n: u8, d: u32, k: u8, uneven: bool) -> Seen {
+    let mut distances = [0u32; 14400];
+    let mut settings = [0u8; 120];
     fill(&mut distances, &mut settings, wide(n), d, k, uneven);
     let minima = Minima { b0: n, b: [0; 8] };
     let dataset = Dataset {
@@ -70,26 +61,8 @@ fn call(n: u8, d: u32, k: u8, uneven: bool, total: u64) -> Tried {
         minima,
         withdrawn: 0,
     };
-    let mut list = [0u8; MAX_TIDES];
-    let computed = price_core(dataset, &distances, &settings, &mut list, MAX_TIDES);
-    let priced = computed.priced;
-    let shares = plain::shared(total, &settings, wide(n));
-    Tried { priced, shares }
-}
-
-fn trial(so_far: Seen, n: u8, d: u32, k: u8, uneven: bool) -> Seen {
-    let widest = width(n, d);
-    let total = plain::price(n, widest);
-    let tried = call(n, d, k, uneven, total);
-    let priced = tried.priced;
-    let answer = priced.answer;
-    let shares = tried.shares;
-    so_far.and(
-        is_done(answer, 1, widest, widest) && plain::is_priced(priced, total, shares),
-        20 < n,
-        plain::hundredths(n, widest) % 100 == 50,
-        shares,
-    )
+    let checked = check(dataset, &distances, &settings, MAX_TIDES);
+    so_far.and(checked, checked.total == plain::price(n, width(n, d)))
 }
 
 // Each size with each distance and each k, the settings in turn and uneven.

@@ -1,14 +1,14 @@
 // What is counted of blockings that were priced.
-use crate::plain::Shares;
+use crate::checked::Checked;
 use test_tools::tally;
 use test_tools::tally::Tally;
 
-// Those that came out right; those of two kinds; those with pennies left over, and with equal remainders of which only the lower
+// Those that came out right, that were refused, that have several blocks, pennies left over, and equal remainders of which only the lower
 // numbers got one.
 pub struct Seen {
     right: Tally,
-    first: Tally,
-    second: Tally,
+    refused: Tally,
+    several: Tally,
     left: Tally,
     tied: Tally,
 }
@@ -16,29 +16,30 @@ pub struct Seen {
 pub fn none() -> Seen {
     Seen {
         right: tally::new(),
-        first: tally::new(),
-        second: tally::new(),
+        refused: tally::new(),
+        several: tally::new(),
         left: tally::new(),
         tied: tally::new(),
     }
 }
 
 impl Seen {
-    // One more, with the plain shares.
-    pub fn and(self, right: bool, first: bool, second: bool, shares: Shares) -> Seen {
+    // One more, of which this is also wanted.
+    pub fn and(self, checked: Checked, wanted: bool) -> Seen {
+        let shares = checked.shares;
         Seen {
-            right: self.right.see(right),
-            first: self.first.see(first),
-            second: self.second.see(second),
+            right: self.right.see(checked.right && wanted),
+            refused: self.refused.see(checked.refused),
+            several: self.several.see(checked.several),
             left: self.left.see(shares.left),
             tied: self.tied.see(shares.tied),
         }
     }
 
-    pub fn print(self, name: &[u8], first: &[u8], second: &[u8]) {
+    pub fn print(self, name: &[u8]) {
         self.right.print(name);
-        self.first.print(first);
-        self.second.print(second);
+        self.refused.print(b"refused");
+        self.several.print(b"with several blocks");
         self.left.print(b"with pennies left over");
         self.tied.print(b"with equal remainders");
     }

@@ -1,8 +1,8 @@
 -- 120 - m falls. Assumes nothing.
 use Prim.Native.Nat.{_≤_, _-_}
 use borrow.Author.Needs.{needs}
-use Rattle.test_tariff.proofs.random.same_records.Statement.{statement}
-use Rattle.test_tariff.proofs.random.same_records.Tie as tie
+use Rattle.test_tariff.proofs.checked.same_records.Statement.{statement}
+use Rattle.test_tariff.proofs.checked.same_records.Tie as tie
 
 abbrev Inv-loop : tie.InvT-loop
 Inv-loop rows records m₀ m = m ≤ 120
