@@ -15,10 +15,7 @@ use test_tools::answers::is_blank;
 use test_tools::answers::is_done;
 ghost use Prim.Native.Nat.{_<_};
 
-// What the lists hold before a call.
-const UNWRITTEN: [u8; 123] = [170; 123];
-
-// What Block gives, and the tariff; each with its list.
+// What Block gives, and the tariff; each with its list, of which every place held 170.
 struct Given {
     blocked: Blocking,
     list: [u8; 123],
@@ -28,9 +25,9 @@ struct Given {
 
 // Both calls, the tariff with room for so many records.
 fn calls(dataset: Dataset, distances: &[u32], settings: &[u8], room: usize) -> Given {
-    let mut list = UNWRITTEN;
+    let mut list = [170u8; 123];
     let blocked = block_by_value(dataset, distances, settings, &mut list);
-    let mut priced_list = UNWRITTEN;
+    let mut priced_list = [170u8; 123];
     let priced = price_core(dataset, distances, settings, &mut priced_list, room);
     Given {
         blocked,
@@ -40,7 +37,7 @@ fn calls(dataset: Dataset, distances: &[u32], settings: &[u8], room: usize) -> G
     }
 }
 
-// The refusal that Block's is with room for so many records, by its number; 0 where it is done.
+// The number of Block's refusal with room for so many records; 0 where it is done.
 fn refusal(blocked: Blocked, n: usize, room: usize) -> u32 {
     let number = blocked_number(blocked);
     if number == 0 && room < n {
@@ -99,7 +96,7 @@ fn is_block(given: Given, refusal: u32) -> bool {
     let rows = priced.rows;
     let list = given.priced_list;
     if refusal != 0 {
-        return blocked_number(answer) == refusal && same_list(list, UNWRITTEN) && rows.count == 0;
+        return blocked_number(answer) == refusal && same_list(list, [170; 123]) && rows.count == 0;
     }
     let blocked = given.blocked;
     let expected = blocked.answer;

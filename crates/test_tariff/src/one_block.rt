@@ -27,7 +27,7 @@ fn setting(k: u8, uneven: bool, t: usize) -> u8 {
     }
 }
 
-// The distances and settings of n tides, where all are 0.
+// Writes the distances and settings of n tides over zeros.
 fn fill(distances: &mut [u32], settings: &mut [u8], n: usize, d: u32, k: u8, uneven: bool) {
     if distances.len() < TABLE_SIZE || settings.len() < n || MAX_TIDES < n {
         return;

@@ -24,7 +24,7 @@ pub fn none() -> Seen {
 }
 
 impl Seen {
-    // One more, of which this is also wanted.
+    // One more; to be right it also has what is wanted.
     pub fn and(self, checked: Checked, wanted: bool) -> Seen {
         let shares = checked.shares;
         Seen {
