@@ -14,6 +14,7 @@ use test_tools::answers::blocked_number;
 use test_tools::answers::is_blank;
 use test_tools::answers::is_done;
 ghost use Prim.Native.Nat.{_<_};
+ghost use Rattle.study.specs.Limits.{maxTides};
 
 // What Block gives, and the tariff; each with its list, of which every place held 170.
 struct Given {
@@ -66,7 +67,7 @@ fn same_list(a: [u8; 123], b: [u8; 123]) -> bool {
 
 // Whether row m is the record; past the last block nothing was recorded.
 fn same_record(rows: BlockRows, m: usize, record: BlockRecord) -> bool
-    requires { ⌜ m < 120 ⌝ }
+    requires { ⌜ m < maxTides ⌝ }
 {
     if rows.count <= m {
         return is_blank(record);

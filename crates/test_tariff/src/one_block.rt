@@ -51,8 +51,8 @@ fn width(n: u8, d: u32) -> u32 {
 }
 
 fn trial(so_far: Seen, n: u8, d: u32, k: u8, uneven: bool) -> Seen {
-    let mut distances = [0u32; 14400];
-    let mut settings = [0u8; 120];
+    let mut distances = [0u32; TABLE_SIZE];
+    let mut settings = [0u8; MAX_TIDES];
     fill(&mut distances, &mut settings, wide(n), d, k, uneven);
     let minima = Minima { b0: n, b: [0; 8] };
     let dataset = Dataset {
