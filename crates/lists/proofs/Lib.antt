@@ -6,3 +6,4 @@ pub mod Counting
 pub mod Tables
 pub mod Tuples
 pub mod Scans
+pub mod Fills

@@ -6,5 +6,6 @@ pub mod StudyLaws
 pub mod TriangleLaws
 pub mod CallLaws
 pub mod MinimaLaws
+pub mod NearestLaws
 pub mod Proofs
 pub mod RenumberingLaws

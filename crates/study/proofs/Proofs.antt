@@ -1,4 +1,6 @@
 -- The records `For..` of Theorems.antt. Assumes nothing.
+use Prim.Native.Nat.{ℕ, _<_}
+use native.Mathlib.Omega.{arith}
 use mathlib.Core.Path.{sym, subst}
 use mathlib.Core.Bool.{true}
 use lib.Dec.{T}
@@ -6,10 +8,11 @@ use lib.ListN.{length}
 use Rattle.study.specs.declared.Minima.{Minima}
 use Rattle.study.specs.Problem.{Problem, centres, labels, radius, blocking}
 use Rattle.study.specs.Study.{Study, problem, validMinima, Valid}
-use Rattle.study.specs.Theorems.{Lawful, Canonical, ForProblem, ForStudy, ForCalls, ForMinima}
+use Rattle.study.specs.Theorems.{Lawful, Canonical, ForProblem, ForNearest, ForStudy, ForCalls, ForMinima}
 use Rattle.study.proofs.ProblemLaws.{cover, apart, assignments-are, assignable-by, greatestDiameter-is, feasible-T}
 use Rattle.study.proofs.Approximation.{two-approximation, one-block, feasible-radius, blocking-assigns, feasible-exactly, assignable-exactly}
 use Rattle.study.proofs.Dictionary.{blocking-precedes, blocking-found}
+use Rattle.study.proofs.NearestLaws.{centre-le, nearest-block, nearest-only, some-centre}
 use Rattle.study.proofs.StudyLaws.{study-symmetric, study-lawful, study-reordered, ample-T}
 use Rattle.study.proofs.CallLaws.{opening-valid, minima-valid, entering-valid, withdrawing-valid}
 use Rattle.study.proofs.MinimaLaws.{acceptable-T, valid-understood, newly-below, below-invalid, minima-accepted}
@@ -39,6 +42,17 @@ for-problem P L =
       canonical = canonical P L;
       found = blocking-found P;
       feasible-test = feasible-T P;
+    }
+
+pub for-nearest : (P : Problem) → Lawful P → (g t : ℕ) → t < P .size → ForNearest P g t
+for-nearest P L g t l =
+    let first = nearest-block (P .dist) (centres P g) t (some-centre P L g t l) in
+    let c = cover P g L t l in
+    record {
+      nearest = first .1;
+      only = λ m N. nearest-only (P .dist) (centres P g) t m N .0;
+      distance = first .0;
+      in-radius = omega (arith, centre-le (P .dist) (centres P g) t (c .1), c .2);
     }
 
 pub for-study : (S : Study) → Valid S → ForStudy S

@@ -5,7 +5,7 @@ use mathlib.Core.Bool.{Bool, true, cond, not, _&&_}
 use mathlib.Core.List.{List, [], _∷_, _++_, map, flatMap}
 use lib.Dec.{leb, eqb, ltb}
 use lib.ListN.{length, getD, replicate}
-use Rattle.lists.specs.Lists.{between, each, iota, every, sumBelow, countBelow, filter, isEmpty}
+use Rattle.lists.specs.Lists.{between, each, iota, every, sumBelow, countBelow, tabulate, over, filter, isEmpty}
 use Rattle.study.specs.Limits.{maxTides, maxSettings, maxDistance, maxWithdrawals}
 use Rattle.study.specs.declared.Minima.{Minima}
 use Rattle.study.specs.declared.BlockRecord.{BlockRecord}
@@ -13,7 +13,7 @@ use Rattle.study.specs.declared.Blocked.{Blocked}
 use Rattle.study.specs.declared.Blocked.the-variants as BlockedCase
 use Rattle.study.specs.declared.Judged.{Judged}
 use Rattle.study.specs.declared.Judged.the-variants as JudgedCase
-use Rattle.study.specs.Problem.{centres, block, labels, radius, blocking, diameter, greatestDiameter, feasible}
+use Rattle.study.specs.Problem.{centres, nearestDistance, nearestBlock, block, labels, radius, blocking, diameter, greatestDiameter, feasible}
 use Rattle.study.specs.Study.{Tide, Study, Contents, withTides, withStudy, size, distance, sufficient, problem, validMinima}
 use Rattle.study.specs.Refusals.{Numbered, number, seven, numbered, Reply, value, refusal, Reason, _⇒_}
 
@@ -134,18 +134,45 @@ withdrawing t H = record { study = withdrawn (t - 1) (H .study); withdrawals = H
 abbrev pub skip : ℕ → ℕ → ℕ
 skip i t = cond (ltb t i) t (suc t)
 
--- ---- Centres, lent a list of this length
+-- ---- Centres, lent three lists
+
+-- for the centres, and for each tide the block number of the nearest centre and how far away it lies (document 02, 2.4)
+pub record CentreLists : Type 0 where
+  pub list : List ℕ
+  pub nearest : List ℕ
+  pub away : List ℕ
+
+-- each has a place for every tide
+abbrev pub allRoomy : Study → CentreLists → Bool
+allRoomy S l = each (leb (size S) (length (l .list)) ∷ leb (size S) (length (l .nearest)) ∷ leb (size S) (length (l .away)) ∷ [])
 
 -- 24 no tides, 1 a list of fewer than n places
-unfoldable pub centresReasons : Study → ℕ → List Reason
-centresReasons S list =
+unfoldable pub centresReasons : Study → CentreLists → List Reason
+centresReasons S l =
     (eqb (size S) 0 ⇒ number 24)
-    ∷ (not (leb (size S) list) ⇒ number 1)
+    ∷ (not (allRoomy S l) ⇒ number 1)
     ∷ []
 
 -- the centres' tide numbers
 unfoldable pub centreNumbers : Study → ℕ → List ℕ
 centreNumbers S g = map suc (centres (problem S) g)
+
+-- each tide's nearest block among the centres at g
+unfoldable pub nearestNumbers : Study → ℕ → List ℕ
+nearestNumbers S g = tabulate (size S) (nearestBlock (distance S) (centres (problem S) g))
+
+-- and its distance from that block's centre
+unfoldable pub nearestDistances : Study → ℕ → List ℕ
+nearestDistances S g = tabulate (size S) (nearestDistance (distance S) (centres (problem S) g))
+
+-- the lists after an accepted call: the places past what is written stay
+unfoldable pub centresWritten : Study → ℕ → CentreLists → CentreLists
+centresWritten S g l =
+    record {
+      list = over (centreNumbers S g) (l .list);
+      nearest = over (nearestNumbers S g) (l .nearest);
+      away = over (nearestDistances S g) (l .away);
+    }
 
 -- ---- Block, lent a list and records of these lengths
 

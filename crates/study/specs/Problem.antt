@@ -3,7 +3,7 @@
 -- number of its block. Assumes nothing.
 use Prim.Native.Nat.{ℕ, zero, suc, _-_, _<_}
 use mathlib.Core.Bool.{Bool, cond, not, _&&_}
-use mathlib.Core.List.{List, [], _∷_, _++_, flatMap, headD}
+use mathlib.Core.List.{List, [], _∷_, _++_, map, flatMap, headD}
 use lib.Dec.{T, leb, ltb, eqb}
 use lib.ListN.{length, getD}
 use Rattle.lists.specs.Lists.{iota, every, greatest, tabulate, allOf, filter, isEmpty, least, tuples}
@@ -28,6 +28,18 @@ centres P g = centresAmong (P .dist) g (P .size)
 -- block m belongs to the m-th centre
 unfoldable pub centreOf : List ℕ → ℕ → ℕ
 centreOf cs m = getD cs (m - 1) 0
+
+-- document 02, 2.4: how far tide t lies from the nearest of the centres cs
+unfoldable pub nearestDistance : (ℕ → ℕ → ℕ) → List ℕ → ℕ → ℕ
+nearestDistance dist cs t = least (map (λ c. dist c t) cs)
+
+-- the blocks whose centre is at distance x from tide t, in order of their numbers
+unfoldable pub blocksAt : (ℕ → ℕ → ℕ) → List ℕ → ℕ → ℕ → List ℕ
+blocksAt dist cs t x = filter (λ m. eqb (dist (centreOf cs m) t) x) (iota 1 (length cs))
+
+-- document 02, 2.4: the nearest centre's block number, of equal distances the lower number
+unfoldable pub nearestBlock : (ℕ → ℕ → ℕ) → List ℕ → ℕ → ℕ
+nearestBlock dist cs t = headD (blocksAt dist cs t (nearestDistance dist cs t)) 0
 
 -- the blocks that tide t may go to, whose centre is at most g away, in the order in which t prefers them
 unfoldable pub choices : Problem → ℕ → List ℕ → ℕ → List ℕ

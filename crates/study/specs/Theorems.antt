@@ -1,5 +1,5 @@
--- What is proved of the definitions; there are no proofs here. `for-problem`, `for-study`, `for-calls` and `for-minima` of Proofs.antt prove
--- the records `For..`. Assumes nothing.
+-- What is proved of the definitions; there are no proofs here. `for-problem`, `for-nearest`, `for-study`, `for-calls` and `for-minima` of
+-- Proofs.antt prove the records `For..`. Assumes nothing.
 use Prim.Native.Nat.{ℕ, suc, _+_, _*_, _≤_, _<_}
 use mathlib.Core.Path.{_≡_}
 use mathlib.Core.Logic.{_⊎_, _↔_}
@@ -10,8 +10,8 @@ use lib.ListN.{length, getD, take}
 use Rattle.lists.specs.Lists.{_among_, countBelow, greatest}
 use Rattle.study.specs.Limits.{maxWithdrawals, maxSettings}
 use Rattle.study.specs.declared.Minima.{Minima}
-use Rattle.study.specs.Problem.{Problem, centres, centreOf, block, labels, assignments, assignable, candidates, radius, blocking}
-use Rattle.study.specs.Problem.{diameter, greatestDiameter, Feasible, feasible}
+use Rattle.study.specs.Problem.{Problem, centres, centreOf, nearestDistance, nearestBlock, block, labels, assignments, assignable}
+use Rattle.study.specs.Problem.{candidates, radius, blocking, diameter, greatestDiameter, Feasible, feasible}
 use Rattle.study.specs.Study.{Study, Contents, size, tide, problem, validMinima, Valid, Renumbered}
 use Rattle.study.specs.Refusals.{accepted, firstOf}
 use Rattle.study.specs.Calls.{openReasons, opening, sumOfParts, understood, minimaReasons, settingMinima, enterReasons, entering}
@@ -91,6 +91,20 @@ pub record ForProblem (P : Problem) : Type 0 where
   -- how a search that only tells whether some assignment continues a given front finds the blocking
   pub found : (xs : List ℕ) → FirstAssignment P (radius P) xs → blocking P ≡ xs
   pub feasible-test : (D : ℕ → ℕ) → T (feasible P D) ↔ Feasible P D
+
+-- block m is nearest to tide t where the blocks belong to the centres cs: no centre is nearer, and an equally near one has no lower number
+pub record IsNearest (dist : ℕ → ℕ → ℕ) (cs : List ℕ) (t m : ℕ) : Type 0 where
+  pub low : 1 ≤ m
+  pub high : m ≤ length cs
+  pub no-nearer : (k : ℕ) → 1 ≤ k → k ≤ length cs → dist (centreOf cs m) t ≤ dist (centreOf cs k) t
+  pub no-lower : (k : ℕ) → 1 ≤ k → k ≤ length cs → dist (centreOf cs k) t ≡ dist (centreOf cs m) t → m ≤ k
+
+-- document 02, 2.4: the block and the distance that Centres at g tells of tide t, for every lawful problem
+pub record ForNearest (P : Problem) (g t : ℕ) : Type 0 where
+  pub nearest : IsNearest (P .dist) (centres P g) t (nearestBlock (P .dist) (centres P g) t)
+  pub only : (m : ℕ) → IsNearest (P .dist) (centres P g) t m → m ≡ nearestBlock (P .dist) (centres P g) t
+  pub distance : nearestDistance (P .dist) (centres P g) t ≡ P .dist (centreOf (centres P g) (nearestBlock (P .dist) (centres P g) t)) t
+  pub in-radius : nearestDistance (P .dist) (centres P g) t ≤ g
 
 -- at least b0 tides, and at least b of each setting
 pub record Ample (S : Study) : Type 0 where

@@ -23,7 +23,7 @@ use Rattle.validity.specs.Memory.{State, stateOf, setSize, tideOf, studyOf, con
 use Rattle.validity.specs.Validity.{Long}
 use Rattle.validity.proofs.ValidityLaws.{study-size}
 use Rattle.validity.proofs.LayoutLaws.{short-no}
-use Rattle.storage.proofs.FillLaws.{Filled, filled-done}
+use Rattle.lists.proofs.Fills.{Filled, filled-done}
 use Rattle.study_text.specs.declared.Rule.the-variants as RuleCase
 use Rattle.study_text.specs.Reached.{Measuring, Took}
 

@@ -4,7 +4,7 @@ use Prim.Native.Nat.{_-_}
 use native.Mathlib.Omega.{arith}
 use mathlib.Core.Path.{refl}
 use Rattle.study.specs.Limits.{tableSize}
-use Rattle.storage.proofs.FillLaws.{Filled, filled-none, filled-more, filled-done}
+use Rattle.lists.proofs.Fills.{Filled, filled-none, filled-more, filled-done}
 use Rattle.storage.proofs.clear_distances.Statement.{statement}
 use Rattle.storage.proofs.clear_distances.Tie as tie
 

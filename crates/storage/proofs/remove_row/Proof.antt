@@ -6,7 +6,7 @@ use mathlib.Core.Path.{_∙_}
 use Rattle.study.specs.Limits.{tableSize}
 use Rattle.storage.specs.Places.{movedDistance}
 use Rattle.storage.proofs.PlaceLaws.{moved-distance}
-use Rattle.storage.proofs.FillLaws.{Filled, filled-none, filled-more, filled-done}
+use Rattle.lists.proofs.Fills.{Filled, filled-none, filled-more, filled-done}
 use Rattle.storage.proofs.remove_row.Statement.{statement}
 use Rattle.storage.proofs.remove_row.Tie as tie
 

@@ -6,7 +6,7 @@ use mathlib.Core.Path.{_∙_}
 use Rattle.study.specs.Limits.{maxTides}
 use Rattle.storage.specs.Places.{movedSetting}
 use Rattle.storage.proofs.PlaceLaws.{moved-setting}
-use Rattle.storage.proofs.FillLaws.{Filled, filled-none, filled-more, filled-done}
+use Rattle.lists.proofs.Fills.{Filled, filled-none, filled-more, filled-done}
 use Rattle.storage.proofs.remove_setting.Statement.{statement}
 use Rattle.storage.proofs.remove_setting.Tie as tie
 

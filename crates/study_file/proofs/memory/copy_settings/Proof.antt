@@ -5,7 +5,7 @@ use native.Mathlib.Omega.{arith}
 use mathlib.Core.Path.{refl}
 use Rattle.lists.specs.Lists.{at}
 use Rattle.study.specs.Limits.{maxTides}
-use Rattle.storage.proofs.FillLaws.{Filled, filled-none, filled-more, filled-done}
+use Rattle.lists.proofs.Fills.{Filled, filled-none, filled-more, filled-done}
 use Rattle.study_file.proofs.memory.copy_settings.Statement.{statement}
 use Rattle.study_file.proofs.memory.copy_settings.Tie as tie
 

@@ -5,7 +5,7 @@ use native.Mathlib.Omega.{arith}
 use mathlib.Core.Path.{refl}
 use lib.ListN.{length}
 use Rattle.lists.specs.Lists.{at}
-use Rattle.storage.proofs.FillLaws.{Filled, filled-none, filled-more}
+use Rattle.lists.proofs.Fills.{Filled, filled-none, filled-more}
 use Rattle.study_text.proofs.MeasuredLaws.{row-copied}
 use Rattle.study_text.proofs.measured.copy_row.Statement.{statement}
 use Rattle.study_text.proofs.measured.copy_row.Tie as tie

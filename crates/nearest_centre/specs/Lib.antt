@@ -1,0 +1,2 @@
+-- An inner promise; what is nearest is defined in study/Problem.
+pub mod Inputs
