@@ -11,6 +11,7 @@ use Rattle.study.specs.declared.Answer.{Answer}
 use Rattle.study.specs.declared.Answer.the-variants.{Done, Refused}
 use Rattle.study.specs.Study.{Study, Contents, size, sufficient}
 use Rattle.study.specs.Refusals.{Reason, _⇒_, number, accepted, verdictOf}
+use Rattle.study.specs.Calls.{CentreLists}
 use Rattle.validity.specs.Memory.{State, studyOf}
 use Rattle.dataset.specs.Accepted.{Passed}
 use Rattle.dataset.specs.Answers.{heldAnswer}
@@ -37,10 +38,13 @@ pub record BlockAccepted (s : State) (list room : ℕ) : Type 0 where
   pub answer : accepted ≡ blockAnswer s list room
 
 -- what an accepted Centres tells
-pub record CentresAccepted (s : State) (list : List ℕ) : Type 0 where
+pub record CentresAccepted (s : State) (l : CentreLists) : Type 0 where
   pub passed : Passed s
-  pub room : s .dataset .n ≤ length list
-  pub answer : accepted ≡ centresAnswer s list
+  pub some-tide : 0 < s .dataset .n
+  pub list-room : s .dataset .n ≤ length (l .list)
+  pub nearest-room : s .dataset .n ≤ length (l .nearest)
+  pub away-room : s .dataset .n ≤ length (l .away)
+  pub answer : accepted ≡ centresAnswer s l
 
 -- settings and block numbers of n tides, long enough and each setting 1 to 8
 pub record JudgedArrays (s : List ℕ) (n : ℕ) (list : List ℕ) : Type 0 where

@@ -2,28 +2,42 @@
 use Prim.Native.Nat.{ℕ}
 use mathlib.Core.List.{List, []}
 use lib.ListN.{length}
+use denote.Ref.{now}
 use Rattle.lists.specs.Lists.{overwrite, over}
 use Rattle.study.specs.declared.BlockRecord.{BlockRecord}
 use Rattle.study.specs.Problem.{blocking}
 use Rattle.study.specs.Study.{problem}
 use Rattle.study.specs.Refusals.{Verdict, settled, Reply, replied}
-use Rattle.study.specs.Calls.{centresReasons, centreNumbers, blockReasons, Figures, figures, blockRecord, judgeReasons, Judgement, judgement}
-use Rattle.validity.specs.Memory.{State, studyOf}
+use Rattle.study.specs.Calls.{CentreLists, centresReasons, centreNumbers, centresWritten, blockReasons, Figures, figures, blockRecord, judgeReasons}
+use Rattle.study.specs.Calls.{Judgement, judgement}
+use Rattle.validity.specs.Memory.{State, studyOf, LentList}
 use Rattle.dataset.specs.Answers.{heldAnswer}
 
--- ---- Centres at g, lent a list
+-- ---- Centres at g, lent three lists
+
+-- these three
+abbrev pub centreLists : List ℕ → List ℕ → List ℕ → CentreLists
+centreLists l m d = record { list = l; nearest = m; away = d }
+
+-- the lent lists as they are where the function begins
+abbrev pub entryLists : LentList → LentList → LentList → CentreLists
+entryLists l m d = centreLists (now (l .entry)) (now (m .entry)) (now (d .entry))
+
+-- the lent lists as they are where the function returns
+abbrev pub exitLists : LentList → LentList → LentList → CentreLists
+exitLists l m d = centreLists (now (l .exit)) (now (m .exit)) (now (d .exit))
 
 -- accepted, or the refusal
-unfoldable pub centresAnswer : State → List ℕ → Verdict
-centresAnswer s list = heldAnswer s (λ H. centresReasons (H .study) (length list))
+unfoldable pub centresAnswer : State → CentreLists → Verdict
+centresAnswer s l = heldAnswer s (λ H. centresReasons (H .study) l)
 
--- the filled front of the list, empty on a refusal
-unfoldable pub centresFront : State → ℕ → List ℕ → List ℕ
-centresFront s g list = settled (centresAnswer s list) (centreNumbers (studyOf s) g) []
+-- the filled front of the list of centres, empty on a refusal
+unfoldable pub centresFront : State → ℕ → CentreLists → List ℕ
+centresFront s g l = settled (centresAnswer s l) (centreNumbers (studyOf s) g) []
 
--- the whole list: the rest of it stays
-unfoldable pub centresLeaves : State → ℕ → List ℕ → List ℕ
-centresLeaves s g list = over (centresFront s g list) list
+-- the three lists: a refused call leaves them
+unfoldable pub centresLeaves : State → ℕ → CentreLists → CentreLists
+centresLeaves s g l = settled (centresAnswer s l) (centresWritten (studyOf s) g l) l
 
 -- ---- Block, lent a list and records; of each only the length counts for the answer
 

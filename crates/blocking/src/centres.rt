@@ -1,5 +1,5 @@
-// Centres at a radius.
-use crate::front::fill_front;
+// Centres at a radius, and each tide's nearest of them.
+use crate::front::fill_lists;
 use crate::tides::check_tides;
 use study::Answer;
 use study::Dataset;
@@ -10,7 +10,7 @@ ghost use lib.ListN.{length};
 ghost use Rattle.study.specs.Refusals.{verdictOf};
 ghost use Rattle.study.specs.Numbers.{refusalNumber};
 ghost use Rattle.validity.specs.Memory.{entryState};
-ghost use Rattle.blocking.specs.Answers.{centresAnswer, centresFront, centresLeaves};
+ghost use Rattle.blocking.specs.Answers.{entryLists, exitLists, centresAnswer, centresFront, centresLeaves};
 
 // The answer, and how many centres stand in the front of the list.
 pub struct Counted {
@@ -19,8 +19,15 @@ pub struct Counted {
 }
 
 // The answer alone: nothing is written.
-pub fn centres_answer(dataset: Dataset, distances: &[u32], settings: &[u8], list: &[u8]) -> Answer
-    ensures { λ r. ⌜ verdictOf r ≡ centresAnswer (entryState dataset distances settings) (now (list .entry)) ⌝ }
+pub fn centres_answer(
+    dataset: Dataset,
+    distances: &[u32],
+    settings: &[u8],
+    list: &[u8],
+    nearest: &[u8],
+    away: &[u32],
+) -> Answer
+    ensures { λ r. ⌜ verdictOf r ≡ centresAnswer (entryState dataset distances settings) (entryLists list nearest away) ⌝ }
 {
     let first = check_tides(dataset, distances, settings);
     let Answer::Done = first else {
@@ -30,26 +37,36 @@ pub fn centres_answer(dataset: Dataset, distances: &[u32], settings: &[u8], list
     if list.len() < n {
         return Answer::Refused(Refusal::ShortMemory);
     }
+    if nearest.len() < n {
+        return Answer::Refused(Refusal::ShortMemory);
+    }
+    if away.len() < n {
+        return Answer::Refused(Refusal::ShortMemory);
+    }
     Answer::Done
 }
 
-// Centres, with the answer, the count and the whole list settled.
+// Centres, with the answer, the count and the three lists settled: the centres, and for each tide the nearest centre's block number and its
+// distance.
 pub fn centres_into(
     dataset: Dataset,
     distances: &[u32],
     settings: &[u8],
     g: u32,
     list: &mut [u8],
+    nearest: &mut [u8],
+    away: &mut [u32],
 ) -> Counted
-    ensures answer { λ r. ⌜ verdictOf (r .answer) ≡ centresAnswer (entryState dataset distances settings) (now (list .entry)) ⌝ }
-    ensures count { λ r. ⌜ r .count ≡ length (centresFront (entryState dataset distances settings) g (now (list .entry))) ⌝ }
-    ensures list { λ _. ⌜ now (list .exit) ≡ centresLeaves (entryState dataset distances settings) g (now (list .entry)) ⌝ }
+    ensures answer { λ r. ⌜ verdictOf (r .answer) ≡ centresAnswer (entryState dataset distances settings) (entryLists list nearest away) ⌝ }
+    ensures count { λ r. ⌜ r .count ≡ length (centresFront (entryState dataset distances settings) g (entryLists list nearest away)) ⌝ }
+    ensures lists { λ _. ⌜ exitLists list nearest away
+        ≡ centresLeaves (entryState dataset distances settings) g (entryLists list nearest away) ⌝ }
 {
-    let answer = centres_answer(dataset, distances, settings, list);
+    let answer = centres_answer(dataset, distances, settings, list, nearest, away);
     let Answer::Done = answer else {
         return Counted { answer, count: 0 };
     };
-    let count = fill_front(dataset, distances, settings, g, list);
+    let count = fill_lists(dataset, distances, settings, g, list, nearest, away);
     Counted { answer, count }
 }
 
@@ -61,14 +78,19 @@ pub fn centres<'a>(
     settings: &[u8],
     g: u32,
     list: &'a mut [u8],
+    nearest: &mut [u8],
+    away: &mut [u32],
     refusal: &mut u8,
 ) -> &'a mut [u8]
     ensures front { λ r. ⌜ r .ptr ≡ list .entry .ptr ⌝ }
-    ensures part { λ r. ⌜ now r ≡ centresFront (entryState dataset distances settings) g (now (list .entry)) ⌝ }
+    ensures part { λ r. ⌜ now r ≡ centresFront (entryState dataset distances settings) g (entryLists list nearest away) ⌝ }
+    ensures nearest { λ _. ⌜ now (nearest .exit)
+        ≡ centresLeaves (entryState dataset distances settings) g (entryLists list nearest away) .nearest ⌝ }
+    ensures away { λ _. ⌜ now (away .exit) ≡ centresLeaves (entryState dataset distances settings) g (entryLists list nearest away) .away ⌝ }
     ensures refusal { λ _. ⌜ now (refusal .exit)
-        ≡ refusalNumber (centresAnswer (entryState dataset distances settings) (now (list .entry))) ⌝ }
+        ≡ refusalNumber (centresAnswer (entryState dataset distances settings) (entryLists list nearest away)) ⌝ }
 {
-    let filled = centres_into(dataset, distances, settings, g, list);
+    let filled = centres_into(dataset, distances, settings, g, list, nearest, away);
     let answer = filled.answer;
     *refusal = refusal_number(answer);
     let count = filled.count;

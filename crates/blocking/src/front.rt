@@ -1,4 +1,5 @@
 // What an accepted Centres writes.
+use nearest_centre::put_nearest;
 use radius_search::centres::find_centres;
 use study::Dataset;
 use study::MAX_TIDES;
@@ -8,7 +9,7 @@ ghost use lib.ListN.{length, getD};
 ghost use Rattle.lists.specs.Lists.{overwrite};
 ghost use Rattle.study.specs.Limits.{maxTides};
 ghost use Rattle.validity.specs.Memory.{stateOf, entryState};
-ghost use Rattle.blocking.specs.Answers.{centresFront, centresLeaves};
+ghost use Rattle.blocking.specs.Answers.{centreLists, entryLists, exitLists, centresFront, centresLeaves};
 ghost use Rattle.blocking.specs.Accepted.{CentresAccepted};
 
 // Writes the first count centres to the front of the list, as tide numbers from 1.
@@ -25,20 +26,24 @@ pub fn put_centres(centres: &[usize; MAX_TIDES], count: usize, list: &mut [u8])
 }
 
 // What an accepted call writes, and the number of centres.
-pub fn fill_front(
+pub fn fill_lists(
     dataset: Dataset,
     distances: &[u32],
     settings: &[u8],
     g: u32,
     list: &mut [u8],
+    nearest: &mut [u8],
+    away: &mut [u32],
 ) -> usize
-    requires { ⌜ CentresAccepted (stateOf dataset (now distances) (now settings)) (now list) ⌝ }
-    ensures { λ r. ⌜ r ≡ length (centresFront (entryState dataset distances settings) g (now (list .entry))) ⌝ }
-    ensures { λ _. ⌜ now (list .exit) ≡ centresLeaves (entryState dataset distances settings) g (now (list .entry)) ⌝ }
+    requires { ⌜ CentresAccepted (stateOf dataset (now distances) (now settings)) (centreLists (now list) (now nearest) (now away)) ⌝ }
+    ensures { λ r. ⌜ r ≡ length (centresFront (entryState dataset distances settings) g (entryLists list nearest away)) ⌝ }
+    ensures { λ _. ⌜ exitLists list nearest away
+        ≡ centresLeaves (entryState dataset distances settings) g (entryLists list nearest away) ⌝ }
 {
     let n = dataset.n;
     let mut centres: [usize; MAX_TIDES] = [0; MAX_TIDES];
     let count = find_centres(distances, n, g, &mut centres);
     put_centres(&centres, count, list);
+    put_nearest(distances, n, &centres, count, nearest, away);
     count
 }
