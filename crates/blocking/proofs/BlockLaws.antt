@@ -3,14 +3,13 @@ use Prim.Native.Nat.{ℕ, suc, _+_, _≤_, _<_}
 use native.Mathlib.Omega.{arith}
 use native.Mathlib.Numerals.{add-one}
 use mathlib.Core.Path.{_≡_, refl, sym, ap, ap₂, _∙_, subst}
-use mathlib.Core.Logic.{⊎-elim}
-use mathlib.Core.Bool.{Bool, true, false, not, _&&_}
+use mathlib.Core.Bool.{Bool, true, false, _&&_}
 use mathlib.Core.List.{List, _++_}
 use lib.Dec.{T, leb, leb→le}
 use lib.ListN.{length, getD, drop}
-use borrow.Author.Tests.{le-leb, lt-leb, eq-eqb}
+use borrow.Author.Tests.{le-leb, lt-leb}
 use Rattle.lists.specs.Lists.{countBelow, overwrite, over}
-use Rattle.lists.proofs.Tests.{not-not, T-left, T-right, split}
+use Rattle.lists.proofs.Tests.{not-not, T-left, T-right}
 use Rattle.lists.proofs.Tables.{overwrite-none, overwrite-ext, getD-overwrite}
 use Rattle.study.specs.Limits.{cell, maxDistance}
 use Rattle.study.specs.declared.Minima.{Minima}
@@ -35,7 +34,7 @@ use Rattle.blocking.specs.declared.block.BlockRows.{BlockRows}
 use Rattle.blocking.specs.Answers.{blockAnswer, blockReply, blockList, blockRecords}
 use Rattle.blocking.proofs.ProblemOfArrays.{problem-of-arrays, sized-arrays, valid-arrays, meets-same}
 use Rattle.blocking.specs.Rows.{rowAt, RowsOf}
-use Rattle.blocking.proofs.TidesLaws.{past-24}
+use Rattle.blocking.proofs.TidesLaws.{past-24, tide-there}
 use Rattle.blocking.specs.Accepted.{TidesChecked, BlockAccepted}
 
 module _ (s : State) (list room : ℕ) where
@@ -106,8 +105,7 @@ module _ (s : State) (list room : ℕ) where
       let fits = not-not (leb (size S) list && leb (size S) room) (w .1 .1 .0) in
       record {
         passed = passed-by s (h .not-short) (h .tested);
-        some-tide = ⊎-elim (λ k. k) (λ k. absurd (subst (λ b. T (not b)) (eq-eqb (size S) 0 (omega (arith, study-size s))) (w .0)))
-            (split 0 n);
+        some-tide = tide-there s (w .0);
         enough = not-not (sufficient S (λ t. true)) (w .1 .0);
         list-room = omega (arith, study-size s, leb→le (size S) list (T-left (leb (size S) list) (leb (size S) room) fits));
         record-room = omega (arith, study-size s, leb→le (size S) room (T-right (leb (size S) list) (leb (size S) room) fits));

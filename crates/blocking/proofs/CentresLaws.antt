@@ -2,106 +2,177 @@
 use Prim.Native.Nat.{ℕ, suc, _+_, _≤_, _<_}
 use native.Mathlib.Omega.{arith}
 use native.Mathlib.Numerals.{add-one}
-use mathlib.Core.Path.{_≡_, sym, ap, ap₂, _∙_}
-use mathlib.Core.List.{List, [], _++_, map}
+use mathlib.Core.Path.{_≡_, refl, sym, ap, ap₂, _∙_, subst}
+use mathlib.Core.Logic.{_⊎_, inl, inr}
+use mathlib.Core.Bool.{Bool, false}
+use mathlib.Core.List.{List, [], _∷_, _++_, map}
 use lib.Dec.{leb→le, leb}
 use lib.ListN.{length, getD, take, drop, length-map, List·getD-map}
 use lib.Seq.{take-append-seam}
 use borrow.Author.Tests.{le-leb, lt-leb}
-use Rattle.lists.specs.Lists.{tabulate, overwrite}
-use Rattle.lists.proofs.Tests.{not-not}
-use Rattle.lists.proofs.Tables.{tabulate-is}
+use Rattle.lists.specs.Lists.{each, tabulate, overwrite, over}
+use Rattle.lists.proofs.Tests.{not-not, each-at}
+use Rattle.lists.proofs.Scans.{each-fails}
+use Rattle.lists.proofs.Tables.{length-tabulate, tabulate-is}
 use Rattle.study.specs.declared.Refusal.{Refusal}
 use Rattle.study.specs.declared.Answer.{Answer}
 use Rattle.study.specs.declared.Answer.the-variants.{Done, Refused}
-use Rattle.study.specs.Problem.{Problem, centresAmong, centres}
-use Rattle.study.specs.Study.{Study, size}
+use Rattle.study.specs.Problem.{Problem, centresAmong, centres, nearestDistance, nearestBlock}
+use Rattle.study.specs.Study.{Study, size, distance, problem}
 use Rattle.study.specs.Refusals.{number, numbered, Verdict, accepted, refused, verdictOf, settled, firstOf}
-use Rattle.study.specs.Calls.{centresReasons, centreNumbers}
+use Rattle.study.specs.Calls.{CentreLists, allRoomy, centresReasons, centreNumbers, nearestNumbers, nearestDistances, centresWritten}
 use Rattle.study.proofs.CallLaws.{none-holds}
+use Rattle.study.proofs.StudyLaws.{study-lawful}
+use Rattle.study.proofs.NearestLaws.{some-centre}
 use Rattle.radius_theory.specs.Arrays.{within, arrayProblem}
+use Rattle.radius_search.specs.Inputs.{DistanceRows}
 use Rattle.radius_search.specs.Front.{CentresAt}
 use Rattle.radius_search.proofs.FrontLaws.{front-at}
 use Rattle.validity.specs.Memory.{State, studyOf, contentsOf}
-use Rattle.validity.proofs.ValidityLaws.{study-size}
+use Rattle.validity.proofs.ValidityLaws.{study-size, valid-study}
 use Rattle.dataset.proofs.AnswerLaws.{held-own, accepted-held, passed-by}
-use Rattle.blocking.specs.Answers.{centresAnswer, centresFront, centresLeaves}
+use Rattle.blocking.specs.Answers.{centreLists, centresAnswer, centresFront, centresLeaves}
 use Rattle.blocking.proofs.ProblemOfArrays.{problem-of-arrays}
-use Rattle.blocking.proofs.TidesLaws.{past-24}
+use Rattle.blocking.proofs.TidesLaws.{past-24, tide-there}
 use Rattle.blocking.specs.Accepted.{TidesChecked, CentresAccepted}
 
-module _ (s : State) (list : List ℕ) where
+-- three lists that are the same
+pub lists-are : {l k : CentreLists} → l .list ≡ k .list → l .nearest ≡ k .nearest → l .away ≡ k .away → l ≡ k
+lists-are a b c = λ i. record { list = a i; nearest = b i; away = c i }
+
+module _ (s : State) (l : CentreLists) where
   abbrev n : ℕ
   n = s .dataset .n
 
   abbrev S : Study
   S = studyOf s
 
+  -- whether each of the lists has its places
+  abbrev roomy : List Bool
+  roomy = leb (size S) (length (l .list)) ∷ leb (size S) (length (l .nearest)) ∷ leb (size S) (length (l .away)) ∷ []
+
   module _ {first : Answer} (F : TidesChecked s first) (done : first ≡ Done) where
-    centres-own : (v : Verdict) → firstOf (centresReasons S (length list)) ≡ v → v ≡ centresAnswer s list
+    centres-own : (v : Verdict) → firstOf (centresReasons S l) ≡ v → v ≡ centresAnswer s l
     unfolding centresAnswer contentsOf
-    centres-own v q = sym q ∙ held-own s (λ H. centresReasons (H .study) (length list)) (F .passed done .not-short) (F .passed done .tested)
+    centres-own v q = sym q ∙ held-own s (λ H. centresReasons (H .study) l) (F .passed done .not-short) (F .passed done .tested)
 
-    pub centres-1 : length list < n → refused (number 1) ≡ centresAnswer s list
+    one-short : allRoomy S l ≡ false → refused (number 1) ≡ centresAnswer s l
     unfolding centresReasons firstOf
-    centres-1 h = centres-own (refused (number 1)) (rw (past-24 F done, lt-leb (size S) (length list) (omega (arith, study-size s))))
+    one-short e = centres-own (refused (number 1)) (rw (past-24 F done, e))
 
-    pub centres-done : n ≤ length list → accepted ≡ centresAnswer s list
+    -- a list is too short
+    pub centres-1 : (length (l .list) < n) ⊎ ((length (l .nearest) < n) ⊎ (length (l .away) < n)) → refused (number 1) ≡ centresAnswer s l
+    centres-1 (inl h) = one-short (each-fails roomy 0 (lt-leb (size S) (length (l .list)) (omega (arith, study-size s))))
+    centres-1 (inr (inl h)) = one-short (each-fails roomy 1 (lt-leb (size S) (length (l .nearest)) (omega (arith, study-size s))))
+    centres-1 (inr (inr h)) = one-short (each-fails roomy 2 (lt-leb (size S) (length (l .away)) (omega (arith, study-size s))))
+
+    pub centres-done : n ≤ length (l .list) → n ≤ length (l .nearest) → n ≤ length (l .away) → accepted ≡ centresAnswer s l
     unfolding centresReasons firstOf
-    centres-done h = centres-own accepted (rw (past-24 F done, le-leb (size S) (length list) (omega (arith, study-size s))))
+    centres-done a b c =
+        centres-own accepted
+        (rw (
+          past-24 F done,
+          le-leb (size S) (length (l .list)) (omega (arith, study-size s)),
+          le-leb (size S) (length (l .nearest)) (omega (arith, study-size s)),
+          le-leb (size S) (length (l .away)) (omega (arith, study-size s)),
+        ))
 
-  pub centres-accepted : {a : Answer} → a ≡ Done → verdictOf a ≡ centresAnswer s list → CentresAccepted s list
+  pub centres-accepted : {a : Answer} → a ≡ Done → verdictOf a ≡ centresAnswer s l → CentresAccepted s l
   unfolding centresAnswer contentsOf centresReasons
   centres-accepted e f =
-      let q : accepted ≡ centresAnswer s list = sym (ap verdictOf e) ∙ f in
-      let h = accepted-held s (λ H. centresReasons (H .study) (length list)) (sym q) in
-      let w = none-holds (centresReasons S (length list)) (h .reasons) in
+      let q : accepted ≡ centresAnswer s l = sym (ap verdictOf e) ∙ f in
+      let h = accepted-held s (λ H. centresReasons (H .study) l) (sym q) in
+      let w = none-holds (centresReasons S l) (h .reasons) in
+      let fits = each-at roomy (not-not (each roomy) (w .1 .0)) in
       record {
         passed = passed-by s (h .not-short) (h .tested);
-        room = omega (arith, study-size s, leb→le (size S) (length list) (not-not (leb (size S) (length list)) (w .1 .0)));
+        some-tide = tide-there s (w .0);
+        list-room = omega (arith, study-size s, leb→le (size S) (length (l .list)) (fits .0));
+        nearest-room = omega (arith, study-size s, leb→le (size S) (length (l .nearest)) (fits .1 .0));
+        away-room = omega (arith, study-size s, leb→le (size S) (length (l .away)) (fits .1 .1 .0));
         answer = q;
       }
 
+  -- the rows of distances that an accepted call may read
+  pub dataset-rows : CentresAccepted s l → DistanceRows (s .distances) n
+  dataset-rows A =
+      let p = A .passed in record { few = p .study .few; distances-long = omega (arith, p .study .few, p .long .distances) }
+
   module _ (g : ℕ) where
-    -- a refused call hands back nothing and leaves the list
-    pub centres-refused : {a : Answer} {x : Refusal} → a ≡ Refused x → verdictOf a ≡ centresAnswer s list
-        → (0 ≡ length (centresFront s g list)) × (list ≡ centresLeaves s g list)
+    abbrev numbers : List ℕ
+    numbers = centreNumbers S g
+
+    -- a refused call hands back nothing and leaves the lists
+    pub centres-refused : {a : Answer} {x : Refusal} → a ≡ Refused x → verdictOf a ≡ centresAnswer s l
+        → (0 ≡ length (centresFront s g l)) × (l ≡ centresLeaves s g l)
     unfolding centresFront centresLeaves
     centres-refused {a} {x} e f =
-        let q : refused (numbered x) ≡ centresAnswer s list = sym (ap verdictOf e) ∙ f in
-        let cs = centreNumbers S g in
-        (ap (λ v. length (settled v cs [])) q, ap (λ v. settled v cs [] ++ drop (length (settled v cs [])) list) q)
+        let q : refused (numbered x) ≡ centresAnswer s l = sym (ap verdictOf e) ∙ f in
+        (ap (λ v. length (settled v numbers [])) q, ap (λ v. settled v (centresWritten S g l) l) q)
 
     -- the front is a part of the list that is left
-    pub centres-part : {count : ℕ} {new : List ℕ} → count ≡ length (centresFront s g list) → new ≡ centresLeaves s g list
-        → (count ≡ length (take count new)) × (take count new ≡ centresFront s g list)
-    unfolding centresLeaves
+    pub centres-part : {count : ℕ} {new : CentreLists} → count ≡ length (centresFront s g l) → new ≡ centresLeaves s g l
+        → (count ≡ length (take count (new .list))) × (take count (new .list) ≡ centresFront s g l)
+    unfolding centresFront centresLeaves centresWritten
     centres-part {count} {new} e f = (e ∙ ap length (sym part), part)
       where
-        part : take count new ≡ centresFront s g list
-        part = ap₂ (λ (c : ℕ) l. take c l) e f ∙ take-append-seam (centresFront s g list) (drop (length (centresFront s g list)) list)
+        of : (v : Verdict) → take (length (settled v numbers [])) (settled v (centresWritten S g l) l .list) ≡ settled v numbers []
+        of accepted = take-append-seam numbers (drop (length numbers) (l .list))
+        of (refused x) = refl
 
-    module _ (A : CentresAccepted s list) where
+        part : take count (new .list) ≡ centresFront s g l
+        part = ap₂ (λ (c : ℕ) (k : CentreLists). take c (k .list)) e f ∙ of (centresAnswer s l)
+
+    module _ (A : CentresAccepted s l) where
       abbrev found : List ℕ
       found = centresAmong (within (s .distances) n) g n
 
-      front-is : centresFront s g list ≡ map suc found
-      unfolding centresFront centreNumbers centres arrayProblem
-      front-is =
-          ap (λ v. settled v (centreNumbers S g) []) (sym (A .answer))
-          ∙ ap (λ (P : Problem). map suc (centres P g)) (problem-of-arrays s (A .passed .study))
+      numbers-are : numbers ≡ map suc found
+      unfolding centreNumbers centres arrayProblem
+      numbers-are = ap (λ (P : Problem). map suc (centres P g)) (problem-of-arrays s (A .passed .study))
 
-      -- the centres found, written as numbers from 1
-      pub centres-filled : {count : ℕ} {cs new : List ℕ} → CentresAt (s .distances) n g count cs → new ≡ overwrite count (λ i. getD cs i 0 + 1) list
-          → (count ≡ length (centresFront s g list)) × (new ≡ centresLeaves s g list)
-      unfolding centresLeaves overwrite
-      centres-filled {count} {cs} {new} C e =
-          (sym long, e ∙ ap₂ (λ a b. a ++ b) (written ∙ sym front-is) (ap (λ z. drop z list) (sym long)))
-        where
-          long : length (centresFront s g list) ≡ count
-          long = ap length front-is ∙ length-map found suc ∙ C .front .long
+      -- there is a centre
+      some-found : 0 < length found
+      unfolding arrayProblem centres problem
+      some-found =
+          let L = study-lawful S (valid-study s (A .passed .study) .triangle) in
+          subst (λ (P : Problem). 0 < length (centres P g)) (problem-of-arrays s (A .passed .study))
+          (some-centre (problem S) L g 0 (omega (arith, study-size s, A .some-tide)))
 
-          written : tabulate count (λ i. getD cs i 0 + 1) ≡ map suc found
-          written =
-              tabulate-is count (λ i. getD cs i 0 + 1) 1 (map suc found) (length-map found suc ∙ C .front .long)
-              (λ i l. add-one (getD cs i 0) ∙ ap suc (front-at (C .front) i l) ∙ sym (List·getD-map suc found i 0))
+      -- a table over the tides, of what the centres are to each
+      table-is : (f : (ℕ → ℕ → ℕ) → List ℕ → ℕ → ℕ) (old : List ℕ) {cs : List ℕ} → cs ≡ found
+          → overwrite n (f (within (s .distances) n) cs) old ≡ over (tabulate (size S) (f (distance S) (centres (problem S) g))) old
+      unfolding overwrite problem centres arrayProblem
+      table-is f old {cs} e =
+          let h = f (within (s .distances) n) cs in
+          let same = ap (λ (P : Problem). tabulate (P .size) (f (P .dist) (centres P g))) (problem-of-arrays s (A .passed .study))
+          ∙ ap (λ z. tabulate n (f (within (s .distances) n) z)) (sym e) in
+          ap (λ z. tabulate n h ++ drop z old) (sym (length-tabulate n h)) ∙ ap (λ xs. over xs old) (sym same)
+
+      module _ {count : ℕ} {cs : List ℕ} (C : CentresAt (s .distances) n g count cs) where
+        long : length numbers ≡ count
+        long = ap length numbers-are ∙ length-map found suc ∙ C .front .long
+
+        written : tabulate count (λ i. getD cs i 0 + 1) ≡ numbers
+        written =
+            tabulate-is count (λ i. getD cs i 0 + 1) 1 (map suc found) (length-map found suc ∙ C .front .long)
+            (λ i h. add-one (getD cs i 0) ∙ ap suc (front-at (C .front) i h) ∙ sym (List·getD-map suc found i 0))
+            ∙ sym numbers-are
+
+        pub first-found : 1 ≤ count
+        first-found = omega (arith, some-found, C .front .long)
+
+        -- the centres found, written as numbers from 1, and each tide's nearest
+        pub centres-filled : {list nearest away : List ℕ} → list ≡ overwrite count (λ i. getD cs i 0 + 1) (l .list)
+            → nearest ≡ overwrite n (nearestBlock (within (s .distances) n) (take count cs)) (l .nearest)
+            → away ≡ overwrite n (nearestDistance (within (s .distances) n) (take count cs)) (l .away)
+            → (count ≡ length (centresFront s g l)) × (centreLists list nearest away ≡ centresLeaves s g l)
+        unfolding centresFront centresLeaves centresWritten nearestNumbers nearestDistances overwrite
+        centres-filled a b c = (
+          sym long ∙ ap (λ v. length (settled v numbers [])) (A .answer),
+          lists-are
+              (a ∙ ap₂ (λ x y. x ++ y) written (ap (λ z. drop z (l .list)) (sym long)))
+              (b ∙ table-is nearestBlock (l .nearest) (C .front .front))
+              (c ∙ table-is nearestDistance (l .away) (C .front .front))
+              ∙ ap (λ v. settled v (centresWritten S g l) l) (A .answer),
+        )

@@ -1,11 +1,13 @@
 -- The ways out of `check_tides`: short memory, 21, no tides (24), and a dataset with a tide in it. Assumes nothing.
 use Prim.Native.Nat.{ℕ, _≤_, _<_}
 use native.Mathlib.Omega.{arith}
-use mathlib.Core.Path.{_≡_, refl, sym, _∙_}
-use mathlib.Core.Bool.{false}
+use mathlib.Core.Path.{_≡_, refl, sym, _∙_, subst}
+use mathlib.Core.Logic.{⊎-elim}
+use mathlib.Core.Bool.{false, not}
 use mathlib.Core.List.{[], _∷_}
-use lib.Dec.{eqb}
+use lib.Dec.{T, eqb}
 use borrow.Author.Tests.{eq-eqb, ne-eqb}
+use Rattle.lists.proofs.Tests.{split}
 use Rattle.study.specs.declared.Refusal.{Refusal}
 use Rattle.study.specs.declared.Refusal.the-variants.{NoTides}
 use Rattle.study.specs.declared.Answer.{Answer}
@@ -26,6 +28,11 @@ not-both e f = let z : _≡_ {A = ℕ} 0 1 = cc in absurd (omega arith)
 -- the test of the first reason fails where there is a tide
 pub past-24 : {s : State} {first : Answer} → TidesChecked s first → first ≡ Done → eqb (size (studyOf s)) 0 ≡ false
 past-24 {s} F done = let l = F .some-tide done in ne-eqb (size (studyOf s)) 0 (λ e. omega (arith, study-size s))
+
+-- and where it fails, there is a tide
+pub tide-there : (s : State) → T (not (eqb (size (studyOf s)) 0)) → 0 < s .dataset .n
+tide-there s h =
+    ⊎-elim (λ k. k) (λ k. absurd (subst (λ b. T (not b)) (eq-eqb (size (studyOf s)) 0 (omega (arith, study-size s))) h)) (split 0 (s .dataset .n))
 
 module _ {s : State} where
   pub tides-refused : {a : Answer} {x : Refusal} → a ≡ Refused x → verdictOf a ≡ heldAnswer s (λ _. []) → TidesChecked s a

@@ -2,7 +2,8 @@
 use Prim.Native.Nat.{ℕ}
 use mathlib.Core.List.{List, []}
 use lib.ListN.{length}
-use denote.Ref.{now}
+use denote.Ref.{RefT, now}
+use denote.Triple.Both.{Both}
 use Rattle.lists.specs.Lists.{overwrite, over}
 use Rattle.study.specs.declared.BlockRecord.{BlockRecord}
 use Rattle.study.specs.Problem.{blocking}
@@ -19,8 +20,8 @@ use Rattle.dataset.specs.Answers.{heldAnswer}
 abbrev pub centreLists : List ℕ → List ℕ → List ℕ → CentreLists
 centreLists l m d = record { list = l; nearest = m; away = d }
 
--- the lent lists as they are where the function begins
-abbrev pub entryLists : LentList → LentList → LentList → CentreLists
+-- the lent lists as they are where the function begins; E is what is known of the first where it returns, nothing where it is handed back
+abbrev pub entryLists : {E : Type 0} → Both (RefT (List ℕ)) E → LentList → LentList → CentreLists
 entryLists l m d = centreLists (now (l .entry)) (now (m .entry)) (now (d .entry))
 
 -- the lent lists as they are where the function returns

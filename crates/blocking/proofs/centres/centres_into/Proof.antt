@@ -1,4 +1,4 @@
--- A refused call leaves the list, an accepted one what `fill_front` ensures. Assumes nothing.
+-- A refused call leaves the lists, an accepted one what `fill_lists` ensures. Assumes nothing.
 use Rattle.blocking.proofs.CentresLaws.{centres-refused, centres-accepted}
 use borrow.Author.Needs.{needs}
 use Rattle.blocking.proofs.centres.centres_into.Statement.{statement}
@@ -9,11 +9,14 @@ returns c =
     let answer = c .before .before .centres-answer .ensures in
     (answer, centres-refused _ _ _ (c .enum-told2 .given .1) answer)
 
-fill-front-requires : tie.Need-fill-front-requires
-fill-front-requires c κs = centres-accepted _ _ (c .before .enum-told .given .1) (c .before .before .before .centres-answer .ensures)
+fill-lists-requires : tie.Need-fill-lists-requires
+fill-lists-requires c κs =
+    let at = c .before .before .before in centres-accepted _ _ (at .enum-told .given .1) (at .before .before .centres-answer .ensures)
 
 returns-2 : tie.Need-returns-2
-returns-2 c = (c .before .before .before .before .before .before .centres-answer .ensures, c .before .before .fill-front .ensures)
+returns-2 c =
+    let filled = c .before .before .before .before .before .before in
+    (filled .before .before .before .before .before .before .centres-answer .ensures, filled .fill-lists .ensures)
 
 pub centres-into-spec : {M : Type 1} → statement M
 centres-into-spec =
@@ -23,7 +26,11 @@ centres-into-spec =
     (λ c. search needs)
     (λ c. search needs)
     (λ c. search needs)
+    (λ c. search needs)
+    (λ c. search needs)
     returns
-    fill-front-requires
+    fill-lists-requires
+    (λ c. search needs)
+    (λ c. search needs)
     (λ c. search needs)
     returns-2)
