@@ -30,6 +30,7 @@ use Rattle.pricing.proofs.Proofs.{every-study}
 use Rattle.guarantee.specs.Runs.{make-blocks, price-blocks, Output, Inquiry, inquiring, call-ask, Response, lent}
 use Rattle.guarantee.specs.History.{reasonsAfter, toldAfter, verdict, outputs, learnt}
 use Rattle.guarantee.specs.Theorems.{Guaranteed, CanonicalBlock, blocked, charged}
+use Rattle.guarantee.proofs.QueryLaws.{query-accepts, query-tells}
 
 -- ---- a valid study whose tides together are sufficient
 
@@ -135,12 +136,10 @@ module _ (H : Contents) (ok : ValidContents H) where
     Q = inquiring (make-blocks list₀ records₀)
 
     accepts : firstOf (Q .own H) ≡ accepted
-    unfolding learnt verdict reasonsAfter heldReasons freshReasons firstOf
-    accepts = ap (λ (r : Response). r .verdict) e
+    accepts = query-accepts H (make-blocks list₀ records₀) e
 
     tells : Q .tells H ≡ blocked F list records .output
-    unfolding learnt outputs toldAfter lent verdict reasonsAfter heldReasons freshReasons firstOf
-    tells = sym (ap (λ v. settled v (Q .tells H) (Q .lent)) accepts) ∙ ap (λ (r : Response). r .output) e
+    tells = query-tells H (make-blocks list₀ records₀) e
 
     ample : T (sufficient S (λ t. true))
     unfolding inquiring blockReasons

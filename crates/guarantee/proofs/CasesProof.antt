@@ -1,17 +1,19 @@
 -- The statements of specs/Cases.antt, by computation. Assumes nothing.
 use mathlib.Core.Path.{refl}
-use mathlib.Core.List.{flatMap}
+use mathlib.Core.List.{flatMap, headD}
 use Rattle.lists.specs.Lists.{every, sumBelow, countBelow, tabulate}
-use Rattle.study.specs.Study.{noTide, tide, distance, meets, sufficient, validMinima}
+use Rattle.study.specs.Problem.{centresAmong, centres, centreOf, nearestDistance, blocksAt, nearestBlock}
+use Rattle.study.specs.Study.{noTide, tide, distance, meets, sufficient, problem, validMinima}
 use Rattle.study.specs.Refusals.{firstOf, freshReasons, heldReasons}
 use Rattle.study.specs.Calls.{openReasons, understood, minimaReasons, withMinima, settingMinima, triangle, violations, enterReasons, entered, entering}
-use Rattle.study.specs.Calls.{withdrawReasons, withdrawn, shortened, withdrawing, centresReasons, blockReasons, judgeReasons}
+use Rattle.study.specs.Calls.{withdrawReasons, withdrawn, shortened, withdrawing, centresReasons, centreNumbers, nearestNumbers, nearestDistances}
+use Rattle.study.specs.Calls.{centresWritten, blockReasons, judgeReasons}
 use Rattle.file_format.specs.Bits.{binary, allBits, pack, packed}
 use Rattle.file_format.specs.File.{tideFields, fields, fileOf, headReasons, readReasons}
 use Rattle.study_file.specs.Answers.{writeReasons}
-use Rattle.guarantee.specs.Runs.{updating, inquiring}
-use Rattle.guarantee.specs.History.{reasonsAfter, verdict, changed, step, following}
-use Rattle.guarantee.specs.Cases.{order, CallsInOrder, OneRun, minimaCases, MinimaLeft}
+use Rattle.guarantee.specs.Runs.{updating, inquiring, lent}
+use Rattle.guarantee.specs.History.{reasonsAfter, verdict, changed, step, following, toldAfter, outputs}
+use Rattle.guarantee.specs.Cases.{order, CallsInOrder, OneRun, minimaCases, MinimaLeft, EquallyNear}
 
 pub in-order : CallsInOrder
 unfolding order verdict reasonsAfter heldReasons freshReasons updating inquiring readReasons headReasons openReasons minimaReasons
@@ -30,3 +32,8 @@ pub minima-left : MinimaLeft
 unfolding minimaCases following step verdict reasonsAfter heldReasons freshReasons changed updating minimaReasons understood settingMinima withMinima
     validMinima firstOf every sumBelow
 minima-left = refl
+
+pub equally-near : EquallyNear
+unfolding outputs toldAfter lent verdict reasonsAfter heldReasons freshReasons inquiring centresReasons firstOf centresWritten centreNumbers nearestNumbers
+    nearestDistances centres centresAmong centreOf nearestBlock nearestDistance blocksAt problem distance tide noTide tabulate headD
+equally-near = refl

@@ -15,7 +15,7 @@ use Rattle.study.specs.Limits.{maxSettings}
 use Rattle.study.specs.Problem.{blocking}
 use Rattle.study.specs.Study.{Study, problem}
 use Rattle.study.specs.Refusals.{Numbered, Verdict, accepted, refused, settled, value, replied, firstOf}
-use Rattle.study.specs.Calls.{centreNumbers, Figures, figures, judgement}
+use Rattle.study.specs.Calls.{CentreLists, centreNumbers, centresWritten, Figures, figures, judgement}
 use Rattle.study.proofs.CallLaws.{reply-value}
 use Rattle.file_format.specs.File.{fileOf, decoded, readReasons}
 use Rattle.file_format.specs.Theorems.{Bytes}
@@ -29,8 +29,8 @@ use Rattle.study_file.proofs.Proofs.{for-files}
 use Rattle.blocking.specs.Answers.{centresAnswer, centresFront, centresLeaves, blockAnswer, blockReply, blockList, blockRecords, judgeAnswer, judgeReply}
 use Rattle.pricing.specs.Tariff.{total, shares}
 use Rattle.priced_blocks.specs.Answers.{tariffReply}
-use Rattle.guarantee.specs.Runs.{updating, find-centres, make-blocks, price-blocks, judge-list, write-file, Output, inquiring, figureNumbers}
-use Rattle.guarantee.specs.Runs.{judgementNumbers, Call, call-ask, Query, reasons, answer, made, after, lent, told, output}
+use Rattle.guarantee.specs.Runs.{updating, find-centres, make-blocks, price-blocks, judge-list, write-file, Output, inquiring, allThree}
+use Rattle.guarantee.specs.Runs.{figureNumbers, judgementNumbers, Call, call-ask, Query, reasons, answer, made, after, lent, told, output}
 use Rattle.guarantee.specs.Theorems.{replyNumbers, AsContracts, FilesAndDatasets}
 
 -- ---- demand 1
@@ -73,16 +73,15 @@ module _ (s : State) where
   abbrev S : Study
   S = studyOf s
 
-  on-centres : (g : ℕ) (list : List ℕ) → let c = call-ask (find-centres g list) in
-      (output s c .lists ≡ centresLeaves s g list ∷ []) × (output s c .numbers ≡ settled (answer s c) (length (centresFront s g list) ∷ []) [])
+  on-centres : (g : ℕ) (l : CentreLists) → let c = call-ask (find-centres g l) in
+      (output s c .lists ≡ allThree (centresLeaves s g l)) × (output s c .numbers ≡ settled (answer s c) (length (centresFront s g l) ∷ []) [])
   unfolding answer reasons output told lent inquiring contentsOf heldAnswer centresAnswer centresFront centresLeaves
-  on-centres g list =
-      let v = centresAnswer s list in
-      let front = centreNumbers S g in
-      let Q = inquiring (find-centres g list) in
+  on-centres g l =
+      let v = centresAnswer s l in
+      let Q = inquiring (find-centres g l) in
       let tells = Q .tells (contentsOf s) in (
-        part-settled (λ (o : Output). o .lists) v tells (Q .lent) ∙ sym (part-settled (λ (l : List ℕ). over l list ∷ []) v front []),
-        part-settled (λ (o : Output). o .numbers) v tells (Q .lent) ∙ counted v front,
+        part-settled (λ (o : Output). o .lists) v tells (Q .lent) ∙ sym (part-settled allThree v (centresWritten S g l) l),
+        part-settled (λ (o : Output). o .numbers) v tells (Q .lent) ∙ counted v (centreNumbers S g),
       )
     where
       counted : (v : Verdict) (front : List ℕ) → settled v (length front ∷ []) [] ≡ settled v (length (settled v front []) ∷ []) []
@@ -100,7 +99,7 @@ module _ (s : State) where
         on-minima = λ M. (refl, refl);
         on-enter = λ setting row. (refl, refl);
         on-withdraw = λ t. (refl, refl);
-        on-centres = λ g list. (refl, on-centres g list .0, on-centres g list .1);
+        on-centres = λ g l. (refl, on-centres g l .0, on-centres g l .1);
         on-block = λ list records.
             let v = blockAnswer s (length list) (length records) in
             let Q = inquiring (make-blocks list records) in

@@ -2,7 +2,9 @@
 pub mod Follows
 pub mod Names
 pub mod LedgerLaws
+pub mod QueryLaws
 pub mod BlockLaws
+pub mod CentresLaws
 pub mod DemandLaws
 pub mod Proofs
 pub mod CasesProof

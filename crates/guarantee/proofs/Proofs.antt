@@ -1,4 +1,4 @@
--- The four records of specs/Theorems.antt. Assumes nothing.
+-- The five records of specs/Theorems.antt. Assumes nothing.
 use Prim.Native.Nat.{ℕ, _<_}
 use native.Mathlib.Omega.{arith}
 use mathlib.Core.Path.{_≡_, refl, sym, ap, _∙_, subst}
@@ -10,17 +10,18 @@ use Rattle.study.specs.declared.BlockRecord.{BlockRecord}
 use Rattle.study.specs.Problem.{Feasible}
 use Rattle.study.specs.Study.{Study, Contents, size, problem}
 use Rattle.study.specs.Refusals.{Numbered, number, accepted, refused, firstOf, freshReasons, heldReasons}
-use Rattle.study.specs.Calls.{Figures}
+use Rattle.study.specs.Calls.{CentreLists, Figures}
 use Rattle.study.specs.Theorems.{ValidContents}
 use Rattle.validity.specs.Memory.{State, short}
 use Rattle.pricing.specs.Tariff.{total, shares}
 use Rattle.pricing.specs.Theorems.{StudyShares}
-use Rattle.guarantee.specs.Runs.{make-blocks, price-blocks, inquiring, Call, call-ask, reasons, answer, Response, response, run}
+use Rattle.guarantee.specs.Runs.{find-centres, make-blocks, price-blocks, Query, inquiring, Call, call-ask, reasons, answer, Response, response, run}
 use Rattle.guarantee.specs.History.{reasonsAfter, verdict, contentsAfter, studyIn, studyAfter, learnt}
-use Rattle.guarantee.specs.Theorems.{Guaranteed, CanonicalBlock, blocked, Demand1, Demand2, Demand3, charged, ForTariff}
+use Rattle.guarantee.specs.Theorems.{Guaranteed, CanonicalBlock, blocked, Demand1, Demand2, Demand3, charged, ForTariff, centred, CentresTold, ForCentres}
 use Rattle.guarantee.proofs.Follows.{held-some, holds-valid, holds, as-short, settles}
 use Rattle.guarantee.proofs.LedgerLaws.{exactly, anew}
 use Rattle.guarantee.proofs.BlockLaws.{block-25, block-guaranteed, block-canonical, block-charged, block-shared}
+use Rattle.guarantee.proofs.CentresLaws.{centres-told}
 use Rattle.guarantee.proofs.DemandLaws.{unchanged, unwritten, only-reads, as-contracts, files-and-datasets}
 
 -- the study is that of the contents
@@ -41,38 +42,35 @@ module _ (start : State) (calls : List Call) where
   valid-after : (H : Contents) → contentsAfter start calls ≡ some H → ValidContents H
   valid-after H e = holds-valid (held-some (run start calls) H (holds start calls ∙ e))
 
-  -- what Block's caller learns
-  module _ (list₀ : List ℕ) (records₀ : List BlockRecord) where
-    abbrev block : Call
-    block = call-ask (make-blocks list₀ records₀)
+  module _ (H : Contents) (e : contentsAfter start calls ≡ some H) where
+    long : short start ≡ false
+    long = sym (as-short start calls) ∙ held-some (run start calls) H (holds start calls ∙ e) .not-short
 
-    learns : {h : Option Contents} → contentsAfter start calls ≡ h → response (run start calls) block ≡ learnt (short start) h block
-    learns e = settles start calls block ∙ ap (λ h. learnt (short start) h block) e
+  -- what the caller of a query learns
+  module _ (q : Query) where
+    learns : {h : Option Contents} → contentsAfter start calls ≡ h → response (run start calls) (call-ask q) ≡ learnt (short start) h (call-ask q)
+    learns e = settles start calls (call-ask q) ∙ ap (λ h. learnt (short start) h (call-ask q)) e
 
-    refused-none : contentsAfter start calls ≡ none → (r : Numbered) × (answer (run start calls) block ≡ refused r)
+    refused-none : contentsAfter start calls ≡ none → (r : Numbered) × (answer (run start calls) (call-ask q) ≡ refused r)
     unfolding response learnt verdict reasonsAfter heldReasons freshReasons firstOf
     refused-none e = by (short start) (ap (λ (r : Response). r .verdict) (learns e))
       where
-        by : (tooShort : Bool) → answer (run start calls) block ≡ cond tooShort (refused (number 1)) (refused (number 21))
-            → (r : Numbered) × (answer (run start calls) block ≡ refused r)
+        by : (tooShort : Bool) → answer (run start calls) (call-ask q) ≡ cond tooShort (refused (number 1)) (refused (number 21))
+            → (r : Numbered) × (answer (run start calls) (call-ask q) ≡ refused r)
         by true q = (number 1, q)
         by false q = (number 21, q)
 
-    module _ (H : Contents) (e : contentsAfter start calls ≡ some H) where
-      long : short start ≡ false
-      long = sym (as-short start calls) ∙ held-some (run start calls) H (holds start calls ∙ e) .not-short
+    learns-some : (H : Contents) → contentsAfter start calls ≡ some H → response (run start calls) (call-ask q) ≡ learnt false (some H) (call-ask q)
+    learns-some H e = learns e ∙ ap (λ tooShort. learnt tooShort (some H) (call-ask q)) (long H e)
 
-      learns-some : response (run start calls) block ≡ learnt false (some H) block
-      learns-some = learns e ∙ ap (λ tooShort. learnt tooShort (some H) block) long
-
-      answer-own : answer (run start calls) block ≡ firstOf (inquiring (make-blocks list₀ records₀) .own H)
-      unfolding response learnt verdict reasonsAfter heldReasons freshReasons firstOf
-      answer-own = ap (λ (r : Response). r .verdict) learns-some
+    answer-own : (H : Contents) → contentsAfter start calls ≡ some H → answer (run start calls) (call-ask q) ≡ firstOf (inquiring q .own H)
+    unfolding response learnt verdict reasonsAfter heldReasons freshReasons firstOf
+    answer-own H e = ap (λ (r : Response). r .verdict) (learns-some H e)
 
   no-study : (list : List ℕ) (records : List BlockRecord) → studyAfter start calls ≡ none
       → (r : Numbered) × (answer (run start calls) (call-ask (make-blocks list records)) ≡ refused r)
   unfolding studyAfter
-  no-study list records e = refused-none list records (not-studied (contentsAfter start calls) e)
+  no-study list records e = refused-none (make-blocks list records) (not-studied (contentsAfter start calls) e)
 
   too-few : (S : Study) (list : List ℕ) (records : List BlockRecord) → studyAfter start calls ≡ some S → 0 < size S
       → (answer (run start calls) (call-ask (make-blocks list records)) ≡ refused (number 25)) ↔ ((D : ℕ → ℕ) → Feasible (problem S) D → ⊥)
@@ -82,7 +80,7 @@ module _ (start : State) (calls : List Call) where
       let H = K .contents in
       let v = answer (run start calls) (call-ask (make-blocks list records)) in
       subst (λ R. 0 < size R → (v ≡ refused (number 25)) ↔ ((D : ℕ → ℕ) → Feasible (problem R) D → ⊥)) (K .study)
-      (λ l. subst (λ v. (v ≡ refused (number 25)) ↔ ((D : ℕ → ℕ) → Feasible (problem (H .study)) D → ⊥)) (sym (answer-own list records H (K .is)))
+      (λ l. subst (λ v. (v ≡ refused (number 25)) ↔ ((D : ℕ → ℕ) → Feasible (problem (H .study)) D → ⊥)) (sym (answer-own (make-blocks list records) H (K .is)))
       (block-25 H (valid-after H (K .is)) list records l))
 
   -- Block is accepted
@@ -98,10 +96,10 @@ module _ (start : State) (calls : List Call) where
       where
         by : (h : Option Contents) → contentsAfter start calls ≡ h → (S : Study) × (studyIn (contentsAfter start calls) ≡ some S) × Guaranteed S F list
         by none e =
-            let r = sym (refused-none list₀ records₀ e .1) ∙ accepts in
+            let r = sym (refused-none (make-blocks list₀ records₀) e .1) ∙ accepts in
             absurd (let z : _≡_ {A = ℕ} 0 1 = cc in omega arith)
         by (some H) e =
-            (H .study, ap studyIn e, block-guaranteed H (valid-after H e) list₀ list records₀ records F (sym (learns-some list₀ records₀ H e) ∙ q))
+            (H .study, ap studyIn e, block-guaranteed H (valid-after H e) list₀ list records₀ records F (sym (learns-some (make-blocks list₀ records₀) H e) ∙ q))
 
     single : (S : Study) → studyAfter start calls ≡ some S → CanonicalBlock S F list₀ list records₀ records
     unfolding studyAfter
@@ -109,7 +107,7 @@ module _ (start : State) (calls : List Call) where
         let K = studied (contentsAfter start calls) S e in
         let H = K .contents in
         subst (λ R. CanonicalBlock R F list₀ list records₀ records) (K .study)
-        (block-canonical H (valid-after H (K .is)) list₀ list records₀ records F (sym (learns-some list₀ records₀ H (K .is)) ∙ q))
+        (block-canonical H (valid-after H (K .is)) list₀ list records₀ records F (sym (learns-some (make-blocks list₀ records₀) H (K .is)) ∙ q))
 
     charges : (S : Study) → studyAfter start calls ≡ some S
         → (response (run start calls) (call-ask (price-blocks list₀ records₀)) ≡ charged F (total S) (shares S) list records)
@@ -119,16 +117,24 @@ module _ (start : State) (calls : List Call) where
         let K = studied (contentsAfter start calls) S e in
         let H = K .contents in
         let ok = valid-after H (K .is) in
-        let block = sym (learns-some list₀ records₀ H (K .is)) ∙ q in
-        let price = call-ask (price-blocks list₀ records₀) in
+        let block = sym (learns-some (make-blocks list₀ records₀) H (K .is)) ∙ q in
+        let price = price-blocks list₀ records₀ in
         subst
-        (λ R. (response (run start calls) price ≡ charged F (total R) (shares R) list records) × StudyShares R)
+        (λ R. (response (run start calls) (call-ask price) ≡ charged F (total R) (shares R) list records) × StudyShares R)
         (K .study) (
-          settles start calls price ∙ ap (λ h. learnt (short start) h price) (K .is)
-              ∙ ap (λ tooShort. learnt tooShort (some H) price) (long list₀ records₀ H (K .is))
-              ∙ block-charged H ok list₀ list records₀ records F block,
+          learns-some price H (K .is) ∙ block-charged H ok list₀ list records₀ records F block,
           block-shared H ok list₀ list records₀ records F block,
         )
+
+  -- Centres is accepted
+  centres-tell : (S : Study) (g count : ℕ) (l₀ l : CentreLists) → studyAfter start calls ≡ some S
+      → response (run start calls) (call-ask (find-centres g l₀)) ≡ centred count l → CentresTold S g count l₀ l
+  unfolding studyAfter
+  centres-tell S g count l₀ l e q =
+      let K = studied (contentsAfter start calls) S e in
+      let H = K .contents in
+      subst (λ R. CentresTold R g count l₀ l) (K .study)
+      (centres-told H (valid-after H (K .is)) g count l₀ l (sym (learns-some (find-centres g l₀) H (K .is)) ∙ q))
 
 pub demand1 : Demand1
 unfolding answer
@@ -157,3 +163,6 @@ for-tariff =
       as-block = λ start calls list records. refl;
       charges = λ start calls S list₀ list records₀ records F e q. charges start calls list₀ list records₀ records F q S e;
     }
+
+pub for-centres : ForCentres
+for-centres = record { tells = centres-tell }

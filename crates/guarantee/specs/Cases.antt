@@ -1,5 +1,5 @@
--- Calls by computation: where two reasons hold at once the earlier one counts, a run with refused calls in it, and the minima that Minima
--- leaves. Assumes nothing.
+-- Calls by computation: where two reasons hold at once the earlier one counts, a run with refused calls in it, the minima that Minima
+-- leaves, and equally near centres. Assumes nothing.
 use Prim.Native.Nat.{ℕ}
 use mathlib.Core.Path.{_≡_}
 use mathlib.Core.Bool.{Bool, true, false}
@@ -11,9 +11,10 @@ use Rattle.study.specs.declared.Minima.{Minima}
 use Rattle.study.specs.declared.BlockRecord.{BlockRecord}
 use Rattle.study.specs.Study.{Tide, Contents, noTide}
 use Rattle.study.specs.Refusals.{number, seven, Verdict, accepted, refused}
+use Rattle.study.specs.Calls.{CentreLists}
 use Rattle.guarantee.specs.Runs.{set-minima, enter, withdraw, find-centres, make-blocks, price-blocks, judge-list, write-file, Call, call-open}
 use Rattle.guarantee.specs.Runs.{call-read, call-change, call-ask}
-use Rattle.guarantee.specs.History.{verdict, following}
+use Rattle.guarantee.specs.History.{verdict, following, outputs}
 
 -- b0, and the same b for each setting
 abbrev pub minima : ℕ → ℕ → Minima
@@ -30,6 +31,10 @@ two = record { setting = 1; row = [] } ∷ record { setting = 1; row = 3 ∷ [] 
 -- records for n blocks
 abbrev pub records : ℕ → List BlockRecord
 records n = replicate n (record { centre = 0; tides = 0; diameter = 0 })
+
+-- the lists for Centres, of these lengths
+abbrev pub places : ℕ → ℕ → ℕ → CentreLists
+places l m d = record { list = replicate l 0; nearest = replicate m 0; away = replicate d 0 }
 
 -- a call, and the verdict that it must get
 pub record ReasonCase : Type 0 where
@@ -75,9 +80,12 @@ order =
     ∷ case (holding (minima 1 0) [] 0) (call-ask (price-blocks [] [])) 24
     ∷ case (holding (minima 3 0) two 0) (call-ask (price-blocks [] [])) 25
     ∷ case (holding (minima 2 0) two 0) (call-ask (price-blocks (0 ∷ 0 ∷ []) (records 1))) 1
-    -- Centres: 24 before 1; Judge: 24 before 12; Write: 1
-    ∷ case (holding (minima 1 0) [] 0) (call-ask (find-centres 0 [])) 24
-    ∷ case (holding (minima 1 0) two 0) (call-ask (find-centres 0 (0 ∷ []))) 1
+    -- Centres: 24 before 1, 1 for each of the three lists; Judge: 24 before 12; Write: 1
+    ∷ case (holding (minima 1 0) [] 0) (call-ask (find-centres 0 (places 0 0 0))) 24
+    ∷ case (holding (minima 1 0) two 0) (call-ask (find-centres 0 (places 1 2 2))) 1
+    ∷ case (holding (minima 1 0) two 0) (call-ask (find-centres 0 (places 2 1 2))) 1
+    ∷ case (holding (minima 1 0) two 0) (call-ask (find-centres 0 (places 2 2 1))) 1
+    ∷ record { tooShort = false; held = holding (minima 1 0) two 0; call = call-ask (find-centres 0 (places 2 2 2)); gives = accepted }
     ∷ case (holding (minima 1 0) [] 0) (call-ask (judge-list (1 ∷ []))) 24
     ∷ case (holding (minima 1 0) two 0) (call-ask (judge-list (1 ∷ []))) 12
     ∷ case (holding (minima 1 0) [] 0) (call-ask (write-file (replicate 6 0))) 1
@@ -129,3 +137,13 @@ abbrev pub MinimaLeft : Type 0
 MinimaLeft =
     map (λ (c : MinimaCase). following false (holding (minima 1 0) two 0) (call-change (set-minima (c .given)) ∷ [])) minimaCases
     ≡ map (λ (c : MinimaCase). holding (c .left) two 0) minimaCases
+
+-- document 02, 2.4: three tides at 0, 10 and 5 on a line
+abbrev pub three : List Tide
+three = record { setting = 1; row = [] } ∷ record { setting = 1; row = 10 ∷ [] } ∷ record { setting = 1; row = 5 ∷ 5 ∷ [] } ∷ []
+
+-- at g = 5 the first two are centres; the third is equally near to both, and goes to the lower number. The fourth places stay
+abbrev pub EquallyNear : Type 0
+EquallyNear =
+    outputs false (holding (minima 1 0) three 0) (call-ask (find-centres 5 (places 4 4 4))) .lists
+    ≡ (1 ∷ 2 ∷ 0 ∷ 0 ∷ []) ∷ (1 ∷ 2 ∷ 1 ∷ 0 ∷ []) ∷ (0 ∷ 0 ∷ 5 ∷ 0 ∷ []) ∷ []

@@ -10,8 +10,9 @@ use Rattle.study.specs.declared.BlockRecord.{BlockRecord}
 use Rattle.study.specs.Problem.{blocking}
 use Rattle.study.specs.Study.{Study, Contents, problem}
 use Rattle.study.specs.Refusals.{Verdict, settled, Reason, firstOf, freshReasons, heldReasons}
-use Rattle.study.specs.Calls.{openReasons, opening, minimaReasons, settingMinima, enterReasons, entering, withdrawReasons, withdrawing, centresReasons}
-use Rattle.study.specs.Calls.{centreNumbers, blockReasons, Figures, figures, blockRecord, judgeReasons, Judgement, approval, disapproval, judgement}
+use Rattle.study.specs.Calls.{openReasons, opening, minimaReasons, settingMinima, enterReasons, entering, withdrawReasons, withdrawing}
+use Rattle.study.specs.Calls.{CentreLists, centresReasons, centreNumbers, centresWritten, blockReasons, Figures, figures, blockRecord, judgeReasons}
+use Rattle.study.specs.Calls.{Judgement, approval, disapproval, judgement}
 use Rattle.pricing.specs.Tariff.{total, shares}
 use Rattle.file_format.specs.File.{fileOf, decoded, readReasons}
 use Rattle.validity.specs.Memory.{State, short, isDataset, contentsOf, stored}
@@ -42,8 +43,8 @@ updating (withdraw t) = record { own = λ H. withdrawReasons H t; makes = withdr
 
 -- each with the values of its arguments and what it is lent
 pub data Query : Type 0 where
-  -- a radius, and the list for the centres
-  find-centres : ℕ → List ℕ → Query
+  -- a radius, and the lists for the centres and each tide's nearest of them
+  find-centres : ℕ → CentreLists → Query
   -- the list and the records for the blocks
   make-blocks : List ℕ → List BlockRecord → Query
   -- the same, and the blocks are priced (document 02, 2.3: the tariff)
@@ -95,15 +96,19 @@ blockInquiry numbers list records =
       };
     }
 
+-- the three lists of Centres
+abbrev pub allThree : CentreLists → List (List ℕ)
+allThree l = l .list ∷ l .nearest ∷ l .away ∷ []
+
 -- what a query asks, is lent and tells
 unfoldable pub inquiring : Query → Inquiry
-inquiring (find-centres g list) =
+inquiring (find-centres g l) =
     record {
-      own = λ H. centresReasons (H .study) (length list);
-      lent = record { numbers = []; lists = list ∷ []; records = [] };
-      tells = λ H. let front = centreNumbers (H .study) g in record {
-        numbers = length front ∷ [];
-        lists = over front list ∷ [];
+      own = λ H. centresReasons (H .study) l;
+      lent = record { numbers = []; lists = allThree l; records = [] };
+      tells = λ H. record {
+        numbers = length (centreNumbers (H .study) g) ∷ [];
+        lists = allThree (centresWritten (H .study) g l);
         records = [];
       };
     }

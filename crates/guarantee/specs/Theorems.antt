@@ -1,5 +1,5 @@
--- What is proved of every list of calls; there are no proofs here. `demand1`, `demand2`, `demand3` and `for-tariff` of proofs/Proofs.antt
--- prove the four records of these names. Assumes nothing.
+-- What is proved of every list of calls; there are no proofs here. `demand1`, `demand2`, `demand3`, `for-tariff` and `for-centres` of
+-- proofs/Proofs.antt prove the five records of these names. Assumes nothing.
 use Prim.Native.Nat.{ℕ, suc, _*_, _≤_, _<_}
 use mathlib.Core.Path.{_≡_}
 use mathlib.Core.Logic.{_↔_}
@@ -8,14 +8,14 @@ use mathlib.Core.List.{List, [], _∷_, _++_}
 use mathlib.Core.Option.{none, some}
 use lib.Dec.{T}
 use lib.ListN.{length, take}
-use Rattle.lists.specs.Lists.{greatest, overwrite, over}
+use Rattle.lists.specs.Lists.{at, greatest, overwrite, over}
 use Rattle.study.specs.declared.Minima.{Minima}
 use Rattle.study.specs.declared.BlockRecord.{BlockRecord}
-use Rattle.study.specs.Problem.{centres, labels, radius, blocking, diameter, greatestDiameter, Feasible}
-use Rattle.study.specs.Study.{Study, Contents, size, problem, Renumbered}
-use Rattle.study.specs.Theorems.{Canonical}
+use Rattle.study.specs.Problem.{centres, centreOf, labels, radius, blocking, diameter, greatestDiameter, Feasible}
+use Rattle.study.specs.Study.{Study, Contents, size, distance, problem, Renumbered}
+use Rattle.study.specs.Theorems.{Canonical, IsNearest}
 use Rattle.study.specs.Refusals.{number, Numbered, accepted, refused, settled, Reply, value, refusal, firstOf}
-use Rattle.study.specs.Calls.{opening, Figures, blockRecord}
+use Rattle.study.specs.Calls.{opening, CentreLists, centresWritten, Figures, blockRecord}
 use Rattle.file_format.specs.File.{decoded}
 use Rattle.file_format.specs.Theorems.{Bytes}
 use Rattle.validity.specs.Memory.{State, short, isDataset, contentsOf}
@@ -26,7 +26,7 @@ use Rattle.pricing.specs.Tariff.{total, shares}
 use Rattle.pricing.specs.Theorems.{StudyShares}
 use Rattle.priced_blocks.specs.Answers.{Bill, tariffReply}
 use Rattle.guarantee.specs.Runs.{set-minima, enter, withdraw, find-centres, make-blocks, price-blocks, judge-list, write-file, Query}
-use Rattle.guarantee.specs.Runs.{figureNumbers, judgementNumbers}
+use Rattle.guarantee.specs.Runs.{allThree, figureNumbers, judgementNumbers}
 use Rattle.guarantee.specs.Runs.{Call, call-open, call-read, call-change, call-ask, reasons, answer, after, lent, output, Response, response, run}
 use Rattle.guarantee.specs.History.{held, contentsAfter, studyAfter, learnt}
 use Rattle.guarantee.specs.Ledger.{Ledger, emptyLedger, fileLedger, noteAll, ledgerAfter, Exactly}
@@ -46,9 +46,9 @@ pub record AsContracts (s : State) : Type 0 where
   pub on-enter : (setting : ℕ) (row : List ℕ)
       → let c = call-change (enter setting row) in (answer s c ≡ enterAnswer s setting row) × (after s c ≡ enterLeaves s setting row)
   pub on-withdraw : (t : ℕ) → let c = call-change (withdraw t) in (answer s c ≡ withdrawAnswer s t) × (after s c ≡ withdrawLeaves s t)
-  pub on-centres : (g : ℕ) (list : List ℕ) → let c = call-ask (find-centres g list) in
-      (answer s c ≡ centresAnswer s list) × (output s c .lists ≡ centresLeaves s g list ∷ [])
-      × (output s c .numbers ≡ settled (answer s c) (length (centresFront s g list) ∷ []) [])
+  pub on-centres : (g : ℕ) (l : CentreLists) → let c = call-ask (find-centres g l) in
+      (answer s c ≡ centresAnswer s l) × (output s c .lists ≡ allThree (centresLeaves s g l))
+      × (output s c .numbers ≡ settled (answer s c) (length (centresFront s g l) ∷ []) [])
   pub on-block : (list : List ℕ) (records : List BlockRecord) → let c = call-ask (make-blocks list records) in
       (answer s c ≡ blockAnswer s (length list) (length records))
       × (output s c .numbers ≡ replyNumbers figureNumbers (blockReply s (length list) (length records)))
@@ -181,3 +181,26 @@ pub record ForTariff : Type 0 where
       → response (run start calls) (call-ask (make-blocks list₀ records₀)) ≡ blocked F list records
       → (response (run start calls) (call-ask (price-blocks list₀ records₀)) ≡ charged F (total S) (shares S) list records)
       × StudyShares S
+
+-- ---- Centres (document 02, 2.4)
+
+-- the response of an accepted Centres: how many centres there are, and the three lists as they then stand
+abbrev pub centred : ℕ → CentreLists → Response
+centred count l = record { verdict = accepted; output = record { numbers = count ∷ []; lists = allThree l; records = [] } }
+
+-- what is told of tide t: this block's centre is the nearest of the centres at g, it is this far away, and that is at most g
+pub record NearestTold (S : Study) (g t block away : ℕ) : Type 0 where
+  pub nearest : IsNearest (distance S) (centres (problem S) g) t block
+  pub distance-is : away ≡ distance S (centreOf (centres (problem S) g) block) t
+  pub in-radius : away ≤ g
+
+-- what an accepted Centres at g tells of a study, lent l₀ and leaving l: what is written, and past it what was there
+pub record CentresTold (S : Study) (g count : ℕ) (l₀ l : CentreLists) : Type 0 where
+  pub counted : count ≡ length (centres (problem S) g)
+  pub written : l ≡ centresWritten S g l₀
+  pub nearest : (t : ℕ) → t < size S → NearestTold S g t (at (l .nearest) t) (at (l .away) t)
+
+-- for every start, every list of calls, and the Centres after it, at any g and lent any lists, where it is not refused
+pub record ForCentres : Type 0 where
+  pub tells : (start : State) (calls : List Call) (S : Study) (g count : ℕ) (l₀ l : CentreLists) → studyAfter start calls ≡ some S
+      → response (run start calls) (call-ask (find-centres g l₀)) ≡ centred count l → CentresTold S g count l₀ l

@@ -1,13 +1,13 @@
 -- The nearest centre: the definitions give what `IsNearest` says, and nothing else does. Assumes nothing.
 use Prim.Native.Nat.{ℕ, zero, suc, _-_, _≤_, _<_}
 use native.Mathlib.Omega.{arith}
-use mathlib.Core.Path.{_≡_, refl, sym, ap, _∙_, subst}
+use mathlib.Core.Path.{_≡_, sym, ap, _∙_, subst}
 use mathlib.Core.Bool.{Bool, true, false, cond}
-use mathlib.Core.List.{List, [], _∷_, map, headD}
+use mathlib.Core.List.{List, _∷_, map, headD}
 use mathlib.Core.List.{List·Memᴰ·head as here, List·Memᴰ·tail as there}
 use lib.Dec.{T, eqb, eqb→eq}
 use lib.ListN.{length, getD}
-use Rattle.lists.specs.Lists.{_among_, iota, least, filter}
+use Rattle.lists.specs.Lists.{_among_, iota, filter}
 use Rattle.lists.proofs.Tests.{eq→eqb}
 use Rattle.lists.proofs.Members.{no-member, filter-mem, mem-filter, first-mem, nonempty, getD-mem, place, mem-map, map-mem, range-mem, mem-range}
 use Rattle.lists.proofs.Members.{least-mem, least-le}
