@@ -26,10 +26,10 @@ from-centre-requires-2 c κs =
     (pre .0, (c .loop-test .taken, pre .1))
 
 loop-again : tie.Need-loop-again Inv-loop μ-loop
-loop-again c = (omega arith, first-less (c .before .before .before .loop .inv .1) (c .before .from-centre2 .ensures) (c .if1 .taken))
+loop-again c = (omega arith, first-less (c .before .before .before .loop .inv .1) (c .before .from-centre2 .ensures) (omega arith))
 
 loop-again-2 : tie.Need-loop-again-2 Inv-loop μ-loop
-loop-again-2 c = (omega arith, first-kept (c .before .before .before .loop .inv .1) (c .before .from-centre2 .ensures) (c .if1 .left))
+loop-again-2 c = (omega arith, first-kept (c .before .before .before .loop .inv .1) (c .before .from-centre2 .ensures) (omega arith))
 
 add-t11 : tie.Need-add-t11 Inv-loop μ-loop
 add-t11 c = let pre = c .before .before .before .before .pre in omega (arith, c .before .loop .inv .1 .inside, pre .0 .tides .few)
