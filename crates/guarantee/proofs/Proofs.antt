@@ -42,9 +42,8 @@ module _ (start : State) (calls : List Call) where
   valid-after : (H : Contents) → contentsAfter start calls ≡ some H → ValidContents H
   valid-after H e = holds-valid (held-some (run start calls) H (holds start calls ∙ e))
 
-  module _ (H : Contents) (e : contentsAfter start calls ≡ some H) where
-    long : short start ≡ false
-    long = sym (as-short start calls) ∙ held-some (run start calls) H (holds start calls ∙ e) .not-short
+  long : (H : Contents) → contentsAfter start calls ≡ some H → short start ≡ false
+  long H e = sym (as-short start calls) ∙ held-some (run start calls) H (holds start calls ∙ e) .not-short
 
   -- what the caller of a query learns
   module _ (q : Query) where
@@ -90,6 +89,9 @@ module _ (start : State) (calls : List Call) where
     unfolding response
     accepts = ap (λ (r : Response). r .verdict) q
 
+    told : (H : Contents) → contentsAfter start calls ≡ some H → learnt false (some H) (call-ask (make-blocks list₀ records₀)) ≡ blocked F list records
+    told H e = sym (learns-some (make-blocks list₀ records₀) H e) ∙ q
+
     guaranteed : (S : Study) × (studyAfter start calls ≡ some S) × Guaranteed S F list
     unfolding studyAfter
     guaranteed = by (contentsAfter start calls) refl
@@ -99,7 +101,7 @@ module _ (start : State) (calls : List Call) where
             let r = sym (refused-none (make-blocks list₀ records₀) e .1) ∙ accepts in
             absurd (let z : _≡_ {A = ℕ} 0 1 = cc in omega arith)
         by (some H) e =
-            (H .study, ap studyIn e, block-guaranteed H (valid-after H e) list₀ list records₀ records F (sym (learns-some (make-blocks list₀ records₀) H e) ∙ q))
+            (H .study, ap studyIn e, block-guaranteed H (valid-after H e) list₀ list records₀ records F (told H e))
 
     single : (S : Study) → studyAfter start calls ≡ some S → CanonicalBlock S F list₀ list records₀ records
     unfolding studyAfter
@@ -107,7 +109,7 @@ module _ (start : State) (calls : List Call) where
         let K = studied (contentsAfter start calls) S e in
         let H = K .contents in
         subst (λ R. CanonicalBlock R F list₀ list records₀ records) (K .study)
-        (block-canonical H (valid-after H (K .is)) list₀ list records₀ records F (sym (learns-some (make-blocks list₀ records₀) H (K .is)) ∙ q))
+        (block-canonical H (valid-after H (K .is)) list₀ list records₀ records F (told H (K .is)))
 
     charges : (S : Study) → studyAfter start calls ≡ some S
         → (response (run start calls) (call-ask (price-blocks list₀ records₀)) ≡ charged F (total S) (shares S) list records)
@@ -117,7 +119,7 @@ module _ (start : State) (calls : List Call) where
         let K = studied (contentsAfter start calls) S e in
         let H = K .contents in
         let ok = valid-after H (K .is) in
-        let block = sym (learns-some (make-blocks list₀ records₀) H (K .is)) ∙ q in
+        let block = told H (K .is) in
         let price = price-blocks list₀ records₀ in
         subst
         (λ R. (response (run start calls) (call-ask price) ≡ charged F (total R) (shares R) list records) × StudyShares R)
