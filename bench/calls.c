@@ -66,6 +66,15 @@ static uint32_t judging(uint32_t *result) {
     return tides_judge(DATASET, list, record[1], result, 2);
 }
 
+/* Every tide that is at 0 from no other is a centre: the most that there is to compare. */
+static uint32_t centring(uint32_t *result) {
+    (void)result;
+    uint8_t list[120], nearest[120];
+    uint32_t away[120];
+    uint16_t count;
+    return tides_centres(DATASET, 0, list, 120, nearest, 120, away, 120, &count, 1);
+}
+
 static double best(uint32_t (*call)(uint32_t *), uint32_t *result) {
     double least = 1e9;
     for (int r = 0; r < REPETITIONS; r++) {
@@ -93,7 +102,8 @@ int main(int count, char **names) {
         if (alone > most) most = alone;
     }
     printf("mean %.3f, most %.3f\n", sum / (count - 1), most);
-    printf("on the last file: Read %.3f, Write %.3f, Withdraw and Enter %.3f, Judge %.3f, tariff less Block %.3f\n", best(reading, other),
-           best(writing, other), best(withdraw_enter, other), best(judging, other), best(tariff, other) - best(block, other));
+    printf("on the last file: Read %.3f, Write %.3f, Withdraw and Enter %.3f, Judge %.3f, Centres at 0 %.3f, tariff less Block %.3f\n",
+           best(reading, other), best(writing, other), best(withdraw_enter, other), best(judging, other), best(centring, other),
+           best(tariff, other) - best(block, other));
     return 0;
 }
