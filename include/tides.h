@@ -51,11 +51,13 @@ uint32_t tides_withdraw(uint16_t *record, size_t record_length, uint32_t *distan
                         size_t settings_length, uint32_t tide);
 
 /*
- * The centres at radius g, as tide numbers in the front of a list of at least n places; their number goes into count[0].
- * Reasons: 1 (with count), 21, 24, 1 (list).
+ * The centres at radius g. The list gets their tide numbers in its front, and count[0] how many they are. For each tide, nearest gets the
+ * block number of its nearest centre, the lower of equally near ones, and nearest_distances how far that centre lies from the tide. Each of
+ * the three has at least n places. Reasons: 1 (with count), 21, 24, 1 (list, nearest, nearest_distances).
  */
 uint32_t tides_centres(const uint16_t *record, size_t record_length, const uint32_t *distances, size_t distances_length,
                        const uint8_t *settings, size_t settings_length, uint32_t g, uint8_t *list, size_t list_length,
+                       uint8_t *nearest, size_t nearest_length, uint32_t *nearest_distances, size_t nearest_distances_length,
                        uint16_t *count, size_t count_length);
 
 /*

@@ -4,8 +4,8 @@ use native.Mathlib.Omega.{arith}
 use mathlib.Core.Path.{_≡_, refl, sym, ap, _∙_, subst}
 use mathlib.Core.Logic.{_⊎_}
 use mathlib.Core.Bool.{Bool, true, _||_}
-use mathlib.Core.List.{List, [], _∷_, _++_}
-use lib.ListN.{length, drop, set, length-map}
+use mathlib.Core.List.{List, [], _∷_}
+use lib.ListN.{length, set, length-map}
 use Rattle.lists.proofs.Tests.{true-T}
 use Rattle.study.specs.declared.Answer.{Answer}
 use Rattle.study.specs.declared.Answer.the-variants.{Done, Refused}
@@ -14,7 +14,7 @@ use Rattle.study.specs.declared.Dataset.{Dataset}
 use Rattle.study.specs.Problem.{centres}
 use Rattle.study.specs.Study.{Contents, size, distance, problem}
 use Rattle.study.specs.Refusals.{Numbered, numbered, Verdict, accepted, refused, verdictOf, settled, Reason}
-use Rattle.study.specs.Calls.{centresReasons, centreNumbers}
+use Rattle.study.specs.Calls.{CentreLists, centresReasons, centreNumbers, centresWritten}
 use Rattle.study.specs.Theorems.{ValidContents}
 use Rattle.study.proofs.CallLaws.{reply-refused, reply-value}
 use Rattle.file_format.specs.File.{fileOf, byteLength}
@@ -32,7 +32,7 @@ use Rattle.blocking.specs.Answers.{centresAnswer, centresFront, centresLeaves}
 use Rattle.narrowing.specs.Narrowing.{narrowDataset}
 use Rattle.lists.specs.Lists.{over}
 use Rattle.c_api.specs.Api.{Lent, datasetOf, stateIn, code, roomFirst, lacks, output}
-use Rattle.c_api.specs.Api.{centresVerdict, centresList, centresCount, writeVerdict, writeFile, writeLength}
+use Rattle.c_api.specs.Api.{centresVerdict, centresLeft, centresCount, writeVerdict, writeFile, writeLength}
 use Rattle.c_api.specs.Records.{Narrow}
 use Rattle.c_api.proofs.RecordLaws.{withRecord}
 use Rattle.c_api.proofs.CodeLaws.{small, held-narrow}
@@ -61,9 +61,13 @@ module _ {tooShort : Bool} (v : Verdict) (e : tooShort ≡ true) where
   unfolding roomFirst
   code-too-short = rw e
 
+  pub stays-too-short : {A : Type 0} (new old : A) → old ≡ settled (roomFirst tooShort v) new old
+  unfolding roomFirst
+  stays-too-short new old = rw e
+
   pub output-too-short : (xs old : List ℕ) → old ≡ output (roomFirst tooShort v) xs old
-  unfolding roomFirst output
-  output-too-short xs old = rw e
+  unfolding output
+  output-too-short xs old = stays-too-short (over xs old) old
 
 -- r is the record in l as the code holds it, and a list of fixed size has its m places
 pub record Reads (l : Lent) (r : Dataset) (m : ℕ) (fixed : List ℕ) : Type 0 where
@@ -92,89 +96,83 @@ module _ {l : Lent} {r : Dataset} {m : ℕ} {fixed : List ℕ} (R : Reads l r m 
   pub code-own : {y : Verdict} → held ≡ y → code y ≡ code whole
   code-own q = ap code (sym q ∙ same .verdict ∙ whole-is)
 
+  -- what an accepted call makes of the contents
+  pub made-own : {A : Type 0} (f : Contents → A) {new : A} (old : A) → new ≡ settled held (f (contentsOf (withRecord l r))) old
+      → new ≡ settled whole (f (contentsOf (stateIn l))) old
+  made-own {A} f {new} old q =
+      by verdict (same .contents) (q ∙ ap (λ w. settled w (f (contentsOf (withRecord l r))) old) (same .verdict))
+      ∙ ap (λ w. settled w (f (contentsOf (stateIn l))) old) whole-is
+    where
+      by : (w : Verdict) → (w ≡ accepted → contentsOf (withRecord l r) ≡ contentsOf (stateIn l)) → new ≡ settled w (f (contentsOf (withRecord l r))) old
+          → new ≡ settled w (f (contentsOf (stateIn l))) old
+      by accepted h p = p ∙ ap f (h refl)
+      by (refused y) h p = p
+
   pub output-own : (f : Contents → List ℕ) {new : List ℕ} (old : List ℕ) → new ≡ output held (f (contentsOf (withRecord l r))) old
       → new ≡ output whole (f (contentsOf (stateIn l))) old
   unfolding output
-  output-own f {new} old q =
-      by verdict (same .contents) (q ∙ ap (λ w. output w (f (contentsOf (withRecord l r))) old) (same .verdict))
-      ∙ ap (λ w. output w (f (contentsOf (stateIn l))) old) whole-is
-    where
-      by : (w : Verdict) → (w ≡ accepted → contentsOf (withRecord l r) ≡ contentsOf (stateIn l)) → new ≡ output w (f (contentsOf (withRecord l r))) old
-          → new ≡ output w (f (contentsOf (stateIn l))) old
-      by accepted h p = p ∙ ap (λ K. over (f K) old) (h refl)
-      by (refused y) h p = p
+  output-own f old q = made-own (λ H. over (f H) old) old q
 
 -- ---- Centres
 
-module _ (list : List ℕ) (s : State) where
-  pub centres-narrow : Narrow (centresAnswer s list)
+module _ (lists : CentreLists) (s : State) where
+  pub centres-narrow : Narrow (centresAnswer s lists)
   unfolding centresAnswer centresReasons
-  centres-narrow = held-narrow s (λ H. centresReasons (H .study) (length list)) (λ _. (small tt, (small tt, tt)))
+  centres-narrow = held-narrow s (λ H. centresReasons (H .study) lists) (λ _. (small tt, (small tt, tt)))
 
-  module _ (g : ℕ) where
-    abbrev found : List ℕ
-    found = centreNumbers (contentsOf s .study) g
+  module _ (g : ℕ) (a : Answer) {count : ℕ} (p : verdictOf a ≡ centresAnswer s lists) (q : a ≡ Done) (e : count ≡ length (centresFront s g lists)) where
+    abbrev done : centresAnswer s lists ≡ accepted
+    done = sym p ∙ ap verdictOf q
 
-    centres-output : centresLeaves s g list ≡ output (centresAnswer s list) found list
-    unfolding centresLeaves centresFront output contentsOf
-    centres-output = by (centresAnswer s list)
-      where
-        by : (v : Verdict) → settled v found [] ++ drop (length (settled v found [])) list ≡ settled v (over found list) list
-        by accepted = refl
-        by (refused r) = refl
+    counted : count ≡ length (centreNumbers (studyOf s) g)
+    unfolding centresFront
+    counted = e ∙ ap (λ v. length (settled v (centreNumbers (studyOf s) g) [])) done
 
-    module _ (a : Answer) {count : ℕ} (p : verdictOf a ≡ centresAnswer s list) (q : a ≡ Done) (e : count ≡ length (centresFront s g list)) where
-      abbrev done : centresAnswer s list ≡ accepted
-      done = sym p ∙ ap verdictOf q
+    pub count-fits : count < 65536
+    unfolding centresAnswer contentsOf centreNumbers centres problem
+    count-fits =
+        let A = accepted-held s (λ H. centresReasons (H .study) lists) done in
+        omega (
+          arith,
+          counted,
+          length-map (centres (problem (studyOf s)) g) suc,
+          centres-few (distance (studyOf s)) g (size (studyOf s)),
+          for-datasets .valid s (true-T (isDataset s) (A .tested)) .study .few,
+        )
 
-      counted : count ≡ length found
-      unfolding centresFront contentsOf
-      counted = e ∙ ap (λ v. length (settled v found [])) done
+module _ (l : Lent) (g : ℕ) (lists : CentreLists) (count : List ℕ) where
+  -- it answers the code c, and leaves these lists and this count
+  abbrev CentresSettled : ℕ → CentreLists → List ℕ → Type 0
+  CentresSettled c new n = (c ≡ code (centresVerdict l lists count)) × ((new ≡ centresLeft l g lists count) × (n ≡ centresCount l g lists count))
 
-      pub count-fits : count < 65536
-      unfolding centresAnswer contentsOf centreNumbers centres problem
-      count-fits =
-          let A = accepted-held s (λ H. centresReasons (H .study) (length list)) done in
-          omega (
-            arith,
-            counted,
-            length-map (centres (problem (studyOf s)) g) suc,
-            centres-few (distance (studyOf s)) g (size (studyOf s)),
-            for-datasets .valid s (true-T (isDataset s) (A .tested)) .study .few,
-          )
-
-module _ (l : Lent) (g : ℕ) (list count : List ℕ) where
-  pub centres-too-short : (length (l .numbers) < 12) ⊎ (length count < 1)
-      → (1 ≡ code (centresVerdict l list count)) × ((list ≡ centresList l g list count) × (count ≡ centresCount l g list count))
-  unfolding centresVerdict centresList centresCount
-  centres-too-short h = let e = lacks-one (l .numbers) count h in (code-too-short _ e, (output-too-short _ e _ list, output-too-short _ e _ count))
+  pub centres-too-short : (length (l .numbers) < 12) ⊎ (length count < 1) → CentresSettled 1 lists count
+  unfolding centresVerdict centresLeft centresCount
+  centres-too-short h = let e = lacks-one (l .numbers) count h in (code-too-short _ e, (stays-too-short _ e _ lists, output-too-short _ e _ count))
 
   abbrev own : Contents → List Reason
-  own H = centresReasons (H .study) (length list)
+  own H = centresReasons (H .study) lists
+
+  abbrev counts : Contents → List ℕ
+  counts H = length (centreNumbers (H .study) g) ∷ []
 
   -- what `centres_into` answers of the record as the code holds it
-  module _ {r : Dataset} (R : Reads l r 1 count) (a : Answer) {n : ℕ} {new : List ℕ} (p : verdictOf a ≡ centresAnswer (withRecord l r) list)
-      (q : n ≡ length (centresFront (withRecord l r) g list)) (t : new ≡ centresLeaves (withRecord l r) g list) where
-    listed : new ≡ centresList l g list count
-    unfolding centresList centresVerdict centresAnswer contentsOf
-    listed = output-own R own (λ H. centreNumbers (H .study) g) list (t ∙ centres-output list (withRecord l r) g)
+  module _ {r : Dataset} (R : Reads l r 1 count) (a : Answer) {n : ℕ} {new : CentreLists} (p : verdictOf a ≡ centresAnswer (withRecord l r) lists)
+      (q : n ≡ length (centresFront (withRecord l r) g lists)) (t : new ≡ centresLeaves (withRecord l r) g lists) where
+    written : new ≡ centresLeft l g lists count
+    unfolding centresLeft centresVerdict centresAnswer centresLeaves contentsOf
+    written = made-own R own (λ H. centresWritten (H .study) g lists) lists t
 
-    abbrev counts : Contents → List ℕ
-    counts H = length (centreNumbers (H .study) g) ∷ []
-
-    pub centres-refused : {x : Refusal} {c : ℕ} → a ≡ Refused x → c ≡ code (verdictOf a)
-        → (c ≡ code (centresVerdict l list count)) × ((new ≡ centresList l g list count) × (count ≡ centresCount l g list count))
+    pub centres-refused : {x : Refusal} {c : ℕ} → a ≡ Refused x → c ≡ code (verdictOf a) → CentresSettled c new count
     unfolding centresVerdict centresCount centresAnswer contentsOf
     centres-refused e f =
-        (f ∙ code-own R own (sym p), (listed, output-own R own counts count (output-refused _ count (sym p ∙ ap verdictOf e))))
+        (f ∙ code-own R own (sym p), (written, output-own R own counts count (output-refused _ count (sym p ∙ ap verdictOf e))))
 
-    pub centres-done : a ≡ Done
-        → (0 ≡ code (centresVerdict l list count)) × ((new ≡ centresList l g list count) × (set count 0 n ≡ centresCount l g list count))
+    pub centres-done : a ≡ Done → CentresSettled 0 new (set count 0 n)
     unfolding centresVerdict centresCount centresAnswer contentsOf
     centres-done e =
         let y = sym p ∙ ap verdictOf e in
-        let one = first-set n count (R .enough) ∙ ap (λ z. over (z ∷ []) count) (counted list (withRecord l r) g a p e q) in
-        (code-own R own y, (listed, output-own R own counts count (output-done _ count y one)))
+        let one = first-set n count (R .enough) ∙ ap (λ z. over (z ∷ []) count) (counted lists (withRecord l r) g a p e q) in
+        (code-own R own y, (written, output-own R own counts count (output-done _ count y one)))
 
 -- ---- Write
 

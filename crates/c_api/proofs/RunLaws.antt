@@ -42,7 +42,7 @@ after-long l (c-read file) = left-long l _ _
 after-long l (c-minima minima) = left-long l _ _
 after-long l (c-enter setting row) = left-long l _ _
 after-long l (c-withdraw t) = left-long l _ _
-after-long l (c-centres g list count) = omega arith
+after-long l (c-centres g lists count) = omega arith
 after-long l (c-block p) = omega arith
 after-long l (c-tariff p) = omega arith
 after-long l (c-judge list result) = omega arith
@@ -79,7 +79,7 @@ module _ (l : Lent) (room : 12 ≤ length (l .numbers)) where
   step (c-minima minima) = minima-step minima
   step (c-enter setting row) = enter-carried l room setting row ∙ sym (as-contract .on-enter setting row .1)
   step (c-withdraw t) = withdraw-carried l room t ∙ sym (as-contract .on-withdraw t .1)
-  step (c-centres g list count) = asked (lacks 1 count) _
+  step (c-centres g lists count) = asked (lacks 1 count) _
   step (c-block p) = asked (lacks 3 (p .result)) _
   step (c-tariff p) = asked (lacks 12 (p .result)) _
   step (c-judge list result) = asked (lacks 2 result) _

@@ -12,7 +12,7 @@ use Rattle.study.specs.declared.BlockRecord.{BlockRecord}
 use Rattle.study.specs.Problem.{blocking}
 use Rattle.study.specs.Study.{Study, problem}
 use Rattle.study.specs.Refusals.{number, seven, Verdict, accepted, refused, settled}
-use Rattle.study.specs.Calls.{centreNumbers, figures, blockRecord, Judgement, approval, disapproval, judgement}
+use Rattle.study.specs.Calls.{CentreLists, centreNumbers, centresWritten, figures, blockRecord, Judgement, approval, disapproval, judgement}
 use Rattle.file_format.specs.File.{fileOf}
 use Rattle.validity.specs.Memory.{State, stateOf, studyOf, contentsOf}
 use Rattle.dataset.specs.Answers.{openAnswer, openLeaves, minimaAnswer, minimaLeaves, enterAnswer, enterLeaves, withdrawAnswer, withdrawLeaves}
@@ -126,19 +126,19 @@ readVerdict l file = roomFirst (lacks 12 (l .numbers)) (readAnswer (stateIn l) f
 unfoldable pub readLeft : Lent → List ℕ → Lent
 readLeft l file = left l (readVerdict l file) (readLeaves (stateIn l) file)
 
--- ---- Centres at g, lent a list and 1 number for their count
+-- ---- Centres at g, lent three lists and 1 number for the centres' count
 
 -- what Centres answers
-unfoldable pub centresVerdict : Lent → List ℕ → List ℕ → Verdict
-centresVerdict l list count = roomFirst (lacks 12 (l .numbers) || lacks 1 count) (centresAnswer (stateIn l) list)
+unfoldable pub centresVerdict : Lent → CentreLists → List ℕ → Verdict
+centresVerdict l lists count = roomFirst (lacks 12 (l .numbers) || lacks 1 count) (centresAnswer (stateIn l) lists)
 
--- the list after it: the centres' numbers in front
-unfoldable pub centresList : Lent → ℕ → List ℕ → List ℕ → List ℕ
-centresList l g list count = output (centresVerdict l list count) (centreNumbers (studyOf (stateIn l)) g) list
+-- the three lists after it
+unfoldable pub centresLeft : Lent → ℕ → CentreLists → List ℕ → CentreLists
+centresLeft l g lists count = settled (centresVerdict l lists count) (centresWritten (studyOf (stateIn l)) g lists) lists
 
 -- the place for the count after it
-unfoldable pub centresCount : Lent → ℕ → List ℕ → List ℕ → List ℕ
-centresCount l g list count = output (centresVerdict l list count) (length (centreNumbers (studyOf (stateIn l)) g) ∷ []) count
+unfoldable pub centresCount : Lent → ℕ → CentreLists → List ℕ → List ℕ
+centresCount l g lists count = output (centresVerdict l lists count) (length (centreNumbers (studyOf (stateIn l)) g) ∷ []) count
 
 -- ---- a call that divides the tides into blocks, lent a list, three columns with a place for each block, and a result
 

@@ -6,6 +6,7 @@ use mathlib.Core.List.{List, [], _∷_}
 use lib.ListN.{getD}
 use Rattle.lists.specs.Lists.{tabulate}
 use Rattle.study.specs.declared.BlockRecord.{BlockRecord}
+use Rattle.study.specs.Calls.{CentreLists}
 use Rattle.guarantee.specs.Runs.{set-minima, enter, withdraw, find-centres, make-blocks, price-blocks, judge-list, write-file}
 use Rattle.guarantee.specs.Runs.{Call, call-open, call-read, call-change, call-ask}
 use Rattle.c_api.specs.Api.{Lent, minimaAt, lacks, openLeft, minimaLeft, enterLeft, withdrawLeft, readLeft, Places, recordRoom}
@@ -19,8 +20,8 @@ pub data CCall : Type 0 where
   c-enter : ℕ → List ℕ → CCall
   -- a tide's number
   c-withdraw : ℕ → CCall
-  -- a radius, a list, and a place for the count
-  c-centres : ℕ → List ℕ → List ℕ → CCall
+  -- a radius, three lists, and a place for the count
+  c-centres : ℕ → CentreLists → List ℕ → CCall
   c-block : Places → CCall
   c-tariff : Places → CCall
   -- a list, and two places for the judgement
@@ -35,7 +36,7 @@ cAfter l (c-read file) = readLeft l file
 cAfter l (c-minima minima) = minimaLeft l minima
 cAfter l (c-enter setting row) = enterLeft l setting row
 cAfter l (c-withdraw t) = withdrawLeft l t
-cAfter l (c-centres g list count) = l
+cAfter l (c-centres g lists count) = l
 cAfter l (c-block p) = l
 cAfter l (c-tariff p) = l
 cAfter l (c-judge list result) = l
@@ -61,7 +62,7 @@ callsOf (c-read file) = call-read file ∷ []
 callsOf (c-minima minima) = unless (lacks 9 minima) (call-change (set-minima (minimaAt 0 minima)))
 callsOf (c-enter setting row) = call-change (enter setting row) ∷ []
 callsOf (c-withdraw t) = call-change (withdraw t) ∷ []
-callsOf (c-centres g list count) = unless (lacks 1 count) (call-ask (find-centres g list))
+callsOf (c-centres g lists count) = unless (lacks 1 count) (call-ask (find-centres g lists))
 callsOf (c-block p) = unless (lacks 3 (p .result)) (call-ask (make-blocks (p .list) (recordsIn p)))
 callsOf (c-tariff p) = unless (lacks 12 (p .result)) (call-ask (price-blocks (p .list) (recordsIn p)))
 callsOf (c-judge list result) = unless (lacks 2 result) (call-ask (judge-list list))

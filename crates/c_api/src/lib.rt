@@ -26,8 +26,9 @@ mod rows;
 pub mod tariff;
 
 ghost use mathlib.Core.Path.{_≡_};
+ghost use Rattle.blocking.specs.Answers.{entryLists, exitLists};
 ghost use Rattle.c_api.specs.Api.{lent, code, openVerdict, openLeft, minimaVerdict, minimaLeft, enterVerdict, enterLeft};
-ghost use Rattle.c_api.specs.Api.{withdrawVerdict, withdrawLeft, readVerdict, readLeft, centresVerdict, centresList, centresCount};
+ghost use Rattle.c_api.specs.Api.{withdrawVerdict, withdrawLeft, readVerdict, readLeft, centresVerdict, centresLeft, centresCount};
 ghost use Rattle.c_api.specs.Api.{places, blockVerdict, blockLeft, judgeVerdict, judgeResult, writeVerdict, writeFile, writeLength};
 
 // Open: an empty dataset with k settings.
@@ -138,7 +139,8 @@ pub extern "C" fn tides_read(
     store_outcome(numbers, outcome)
 }
 
-// Centres at g: their number goes into `count`.
+// Centres at g: their number goes into `count`, their tide numbers into `list`; for each tide the nearest centre's block number goes into
+// `nearest`, and its distance into `away`.
 #[no_mangle]
 pub extern "C" fn tides_centres(
     numbers: &[u16],
@@ -146,14 +148,17 @@ pub extern "C" fn tides_centres(
     settings: &[u8],
     g: u32,
     list: &mut [u8],
+    nearest: &mut [u8],
+    away: &mut [u32],
     count: &mut [u16],
 ) -> u32
     ensures code { λ r. ⌜ r
-        ≡ code (centresVerdict (lent (now (numbers .entry)) (now (distances .entry)) (now (settings .entry))) (now (list .entry)) (now (count .entry))) ⌝ }
-    ensures list { λ _. ⌜ now (list .exit)
-        ≡ centresList (lent (now (numbers .entry)) (now (distances .entry)) (now (settings .entry))) g (now (list .entry)) (now (count .entry)) ⌝ }
+        ≡ code (centresVerdict (lent (now (numbers .entry)) (now (distances .entry)) (now (settings .entry))) (entryLists list nearest away)
+        (now (count .entry))) ⌝ }
+    ensures lists { λ _. ⌜ exitLists list nearest away
+        ≡ centresLeft (lent (now (numbers .entry)) (now (distances .entry)) (now (settings .entry))) g (entryLists list nearest away) (now (count .entry)) ⌝ }
     ensures count { λ _. ⌜ now (count .exit)
-        ≡ centresCount (lent (now (numbers .entry)) (now (distances .entry)) (now (settings .entry))) g (now (list .entry)) (now (count .entry)) ⌝ }
+        ≡ centresCount (lent (now (numbers .entry)) (now (distances .entry)) (now (settings .entry))) g (entryLists list nearest away) (now (count .entry)) ⌝ }
 {
     if numbers.len() < 12 {
         return 1;
@@ -161,7 +166,15 @@ pub extern "C" fn tides_centres(
     if count.len() < 1 {
         return 1;
     }
-    let found = centres_into(dataset_of(numbers), distances, settings, g, list);
+    let found = centres_into(
+        dataset_of(numbers),
+        distances,
+        settings,
+        g,
+        list,
+        nearest,
+        away,
+    );
     let answer = found.answer;
     let Answer::Done = answer else {
         return answer_code(answer);

@@ -14,27 +14,31 @@ returns c = centres-too-short _ _ _ _ (inl (c .if1 .taken))
 returns-2 : tie.Need-returns-2
 returns-2 c = centres-too-short _ _ _ _ (inr (c .if2 .taken))
 
+-- the call, from where its answer is looked at
+abbrev call-of : tie.After-slice-known7 → tie.After-centres-into
+call-of c = c .before .before .before .before .before .before
+
 answer-code-requires : tie.Need-answer-code-requires
-answer-code-requires c κs = subst Narrow (sym (c .before .before .before .before .centres-into .ensures .0)) (centres-narrow _ _)
+answer-code-requires c κs = subst Narrow (sym (call-of (c .before .before) .centres-into .ensures .0)) (centres-narrow _ _)
 
 returns-3 : tie.Need-returns-3
 returns-3 c =
-    let called = c .before .before .before .before .before in
+    let called = call-of (c .before .before .before) in
     let e = called .centres-into .ensures in
-    let got = called .before .before in
+    let got = called .before .before .before .before in
     centres-refused _ _ _ _ (record { room = got .before .before .if1 .left; enough = got .before .if2 .left; held = got .dataset-of .ensures }) _
     (e .0) (e .1 .0) (e .1 .1) (c .before .enum-told2 .given .1) (c .answer-code .ensures)
 
 cast-count : tie.Need-cast-count
 cast-count c =
-    let e = c .before .before .before .before .before .centres-into .ensures in
+    let e = call-of (c .before .before .before) .centres-into .ensures in
     omega (arith, count-fits _ _ _ _ (e .0) (c .before .enum-told .given .1) (e .1 .0))
 
 returns-4 : tie.Need-returns-4
 returns-4 c =
-    let called = c .before .before .before .before .before in
+    let called = call-of (c .before .before .before) in
     let e = called .centres-into .ensures in
-    let got = called .before .before in
+    let got = called .before .before .before .before in
     centres-done _ _ _ _ (record { room = got .before .before .if1 .left; enough = got .before .if2 .left; held = got .dataset-of .ensures }) _
     (e .0) (e .1 .0) (e .1 .1) (c .before .enum-told .given .1)
 
@@ -50,8 +54,12 @@ tides-centres-spec =
     (λ c. search needs)
     answer-code-requires
     (λ c. search needs)
+    (λ c. search needs)
+    (λ c. search needs)
     returns-3
     cast-count
+    (λ c. search needs)
+    (λ c. search needs)
     (λ c. search needs)
     (λ c. search needs)
     (λ c. search needs)
