@@ -43,6 +43,8 @@ extern "C" {
         settings: *const u8, settings_len: usize,
         g: u32,
         list: *mut u8, list_len: usize,
+        nearest: *mut u8, nearest_len: usize,
+        nearest_distances: *mut u32, nearest_distances_len: usize,
         count: *mut u16, count_len: usize,
     ) -> u32;
     fn tides_block(
@@ -168,6 +170,10 @@ impl World {
             settings: Lent { places: vec![], len: 0 },
         }
     }
+    /// Whether enough is lent for a book.
+    fn has_room(&self) -> bool {
+        self.record.len >= RECORD && self.distances.len >= PLACES && self.settings.len >= TIDES
+    }
     fn study(&self) -> Option<Study> {
         plain::study(&self.record.places, &self.distances.places, &self.settings.places)
     }
@@ -220,6 +226,8 @@ enum Call {
     Centres {
         g: u32,
         list: Lent<u8>,
+        nearest: Lent<u8>,
+        away: Lent<u32>,
         count: Lent<u16>,
     },
     Block(Columns),
@@ -292,7 +300,9 @@ impl Call {
             Call::Open { .. } | Call::Withdraw { .. } => vec![],
             Call::Minima { minima } => vec![&mut minima.len],
             Call::Enter { row, .. } => vec![&mut row.len],
-            Call::Centres { list, count, .. } => vec![&mut list.len, &mut count.len],
+            Call::Centres { list, nearest, away, count, .. } => {
+                vec![&mut list.len, &mut nearest.len, &mut away.len, &mut count.len]
+            }
             Call::Block(c) | Call::Tariff(c) => vec![
                 &mut c.list.len,
                 &mut c.centres.len,
@@ -324,8 +334,12 @@ fn ask_library(w: &mut World, call: &mut Call) -> u32 {
                 tides_enter(rp, rn, dp, dn, sp, sn, *setting, row.ptr(), row.len)
             }
             Call::Withdraw { tide } => tides_withdraw(rp, rn, dp, dn, sp, sn, *tide),
-            Call::Centres { g, list, count } => tides_centres(
-                rp, rn, dp, dn, sp, sn, *g, list.ptr(), list.len, count.ptr(), count.len,
+            Call::Centres { g, list, nearest, away, count } => tides_centres(
+                rp, rn, dp, dn, sp, sn, *g,
+                list.ptr(), list.len,
+                nearest.ptr(), nearest.len,
+                away.ptr(), away.len,
+                count.ptr(), count.len,
             ),
             Call::Block(c) | Call::Tariff(c) => divide(
                 rp, rn, dp, dn, sp, sn,
@@ -357,7 +371,9 @@ fn ask_plain(w: &mut World, call: &mut Call) -> u32 {
         Call::Minima { minima } => plain::minima(r, d, s, minima.part()),
         Call::Enter { setting, row } => plain::enter(r, d, s, *setting, row.part()),
         Call::Withdraw { tide } => plain::withdraw(r, d, s, *tide),
-        Call::Centres { g, list, count } => plain::centres(r, d, s, *g, list.part(), count.part()),
+        Call::Centres { g, list, nearest, away, count } => {
+            plain::centres(r, d, s, *g, list.part(), nearest.part(), away.part(), count.part())
+        }
         Call::Block(c) | Call::Tariff(c) => divide(
             r,
             d,
@@ -390,6 +406,7 @@ struct Seen {
     untouched: u64, // tables that came back untouched
     raised: u64,    // minima that were taken with another b0
     bills: Bills,
+    centred: Centred,
 }
 
 /// Accepted tariffs, and what was met in them.
@@ -426,6 +443,40 @@ impl Bills {
     }
 }
 
+/// Accepted Centres and what was met in them, and refusals of one list alone.
+#[derive(Default)]
+struct Centred {
+    all: u64,
+    ties: u64,       // tides with two or more nearest centres
+    least: u64,      // calls with g = 0
+    beyond: u64,     // calls with g above every distance
+    short: [u64; 3], // calls with only the list, only nearest or only away too short
+}
+
+impl Centred {
+    fn note(&mut self, w: &World, call: &Call, answer: u32) {
+        let Call::Centres { g, list, nearest, away, count } = call else { return };
+        let n = w.n();
+        if answer == 0 {
+            let d = w.study().unwrap().distances;
+            let centres = &list.places[..count.places[0] as usize];
+            let as_near = |t: usize| {
+                centres.iter().filter(|c| d[**c as usize - 1][t] == away.places[t]).count()
+            };
+            self.all += 1;
+            self.ties += (0..n).filter(|t| as_near(*t) > 1).count() as u64;
+            self.least += (*g == 0) as u64;
+            self.beyond += d.iter().flatten().all(|x| x < g) as u64;
+        }
+        if answer == 1 && w.has_room() && count.len > 0 {
+            let short = [list.len < n, nearest.len < n, away.len < n];
+            if let [i] = (0..3).filter(|i| short[*i]).collect::<Vec<usize>>()[..] {
+                self.short[i] += 1;
+            }
+        }
+    }
+}
+
 impl Seen {
     fn new() -> Seen {
         Seen {
@@ -440,6 +491,7 @@ impl Seen {
             untouched: 0,
             raised: 0,
             bills: Bills::default(),
+            centred: Centred::default(),
         }
     }
 
@@ -514,6 +566,7 @@ impl Seen {
                 fail(&what, &before_w, &before_call);
             }
         }
+        self.centred.note(w, call, answer);
         if let (Call::Minima { minima }, 0) = (&*call, answer) {
             self.raised += (w.record.places[2] != minima.places[0] as u16) as u64;
         }
@@ -562,8 +615,13 @@ fn say_calls(a: &Call, b: &Call) {
     match (a, b) {
         (Call::Minima { minima: x }, Call::Minima { minima: y }) => say("minima", x, y),
         (Call::Enter { row: x, .. }, Call::Enter { row: y, .. }) => say("row", x, y),
-        (Call::Centres { list: x, count: s, .. }, Call::Centres { list: y, count: t, .. }) => {
+        (
+            Call::Centres { list: x, nearest: m, away: p, count: s, .. },
+            Call::Centres { list: y, nearest: n, away: q, count: t, .. },
+        ) => {
             say("list", x, y);
+            say("nearest", m, n);
+            say("away", p, q);
             say("count", s, t);
         }
         (Call::Block(x), Call::Block(y)) | (Call::Tariff(x), Call::Tariff(y)) => {
@@ -602,9 +660,10 @@ fn fail(what: &str, w: &World, call: &Call) -> ! {
             println!("setting {setting}, row {:?}", &row.places[..row.len])
         }
         Call::Withdraw { tide } => println!("tide {tide}"),
-        Call::Centres { g, list, count } => {
-            println!("g {g}, list of {}, count of {}", list.len, count.len)
-        }
+        Call::Centres { g, list, nearest, away, count } => println!(
+            "g {g}, list of {}, nearest of {}, away of {}, count of {}",
+            list.len, nearest.len, away.len, count.len
+        ),
         Call::Block(c) | Call::Tariff(c) => println!(
             "list of {}, centres of {}, sizes of {}, diameters of {}, result of {}",
             c.list.len, c.centres.len, c.sizes.len, c.diameters.len, c.result.len
@@ -1111,7 +1170,7 @@ impl Run {
                     }
                     _ => rng.next() as u32,
                 };
-                Call::Centres { g, list: room(rng, n, 3), count: room(rng, 1, 1) }
+                centring(rng, g, n)
             }
             5 => Call::Block(Columns::room(rng, n, 3)),
             9 => Call::Tariff(Columns::room(rng, n, 12)),
@@ -1190,6 +1249,17 @@ impl Run {
         if (faults[1] > 0 || faults[2] > 0) && !replaced {
             *self = before;
         }
+    }
+}
+
+/// Centres at g, lent a little more than n tides need.
+fn centring(rng: &mut Rng, g: u32, n: usize) -> Call {
+    Call::Centres {
+        g,
+        list: room(rng, n, 3),
+        nearest: room(rng, n, 3),
+        away: room(rng, n, 3),
+        count: room(rng, 1, 1),
     }
 }
 
@@ -1435,10 +1505,10 @@ fn short(seen: &mut Seen, rng: &mut Rng) {
                 _ if i < own => *trial.1.lengths()[i],
                 _ => [RECORD, PLACES, TIDES][i - own],
             };
-            // list, centres, sizes and diameters need 5 places, other outputs their own
+            // lists and columns need 5 places, other outputs their own
             let need = match (&trial.1, i) {
-                (Call::Centres { .. }, 0) => 5,
-                (Call::Centres { .. }, 1) => 1,
+                (Call::Centres { .. }, 0..=2) => 5,
+                (Call::Centres { .. }, 3) => 1,
                 (Call::Block(_) | Call::Tariff(_), 0..=3) => 5,
                 (Call::Block(_), 4) => 3,
                 (Call::Tariff(_), 4) => 12,
@@ -1783,6 +1853,18 @@ fn expect(answer: u32, expected: u32, what: &str) {
     }
 }
 
+/// A book of tides on a line.
+fn line(seen: &mut Seen, rng: &mut Rng, at: &[i32], settings: &[u8], k: u8) -> Run {
+    let mut run = Run::new(rng, 1);
+    expect(run.make(seen, &mut Call::Open { k: k as u32 }, 0), 0, "Open");
+    for t in 0..at.len() {
+        let row: Vec<u32> = (0..t).map(|e| at[t].abs_diff(at[e])).collect();
+        let mut call = Call::Enter { setting: settings[t] as u32, row: exact(rng, &row) };
+        expect(run.make(seen, &mut call, 0), 0, "Enter");
+    }
+    run
+}
+
 /// The cases that document 01 works out, with its own numbers.
 fn worked(seen: &mut Seen, rng: &mut Rng) {
     // positions, settings, k, minima; reach, list, diameters
@@ -1795,16 +1877,6 @@ fn worked(seen: &mut Seen, rng: &mut Rng) {
         (&[0, 5], &[1; 2], 1, &[1], 0, &[1, 2], &[0, 0]),
         (&[0, 5], &[1; 2], 1, &[2], 5, &[1, 1], &[5]),
     ];
-    let line = |seen: &mut Seen, rng: &mut Rng, at: &[i32], settings: &[u8], k: u8| -> Run {
-        let mut run = Run::new(rng, 1);
-        expect(run.make(seen, &mut Call::Open { k: k as u32 }, 0), 0, "Open");
-        for t in 0..at.len() {
-            let row: Vec<u32> = (0..t).map(|e| at[t].abs_diff(at[e])).collect();
-            let mut call = Call::Enter { setting: settings[t] as u32, row: exact(rng, &row) };
-            expect(run.make(seen, &mut call, 0), 0, "Enter");
-        }
-        run
-    };
     let put_minima = |seen: &mut Seen, rng: &mut Rng, run: &mut Run, given: &[u8]| {
         let mut m = [0; 9];
         m[..given.len()].copy_from_slice(given);
@@ -1960,6 +2032,79 @@ fn below_the_sum(seen: &mut Seen, rng: &mut Rng) {
     expect(run.make(seen, &mut read, 0), 3, "a file with b0 = 1");
 }
 
+// ---- nearest centres ----
+
+/// Document 02, 2.4: cases with their numbers; each list with a place too few,
+/// with n and with one more.
+fn nearest_centres(seen: &mut Seen, rng: &mut Rng) {
+    let far = FAR as i32;
+    // positions, g; centres, each tide's nearest block, its distance
+    let cases: [(&[i32], u32, &[u8], &[u8], &[u32]); 12] = [
+        // equally near: the lower number, wherever its centre lies
+        (&[0, 10, 5, 5, 5], 5, &[1, 2], &[1, 2, 1, 1, 1], &[0, 0, 5, 5, 5]),
+        (&[10, 0, 5], 5, &[1, 2], &[1, 2, 1], &[0, 0, 5]),
+        // the nearest: not the first in reach, and not the last
+        (&[0, 41, 40], 40, &[1, 2], &[1, 2, 2], &[0, 0, 1]),
+        (&[0, 41, 1], 40, &[1, 2], &[1, 2, 1], &[0, 0, 1]),
+        (
+            &[0, 20, 40, 21, 19, 30, 10],
+            10,
+            &[1, 2, 3],
+            &[1, 2, 3, 2, 2, 2, 1],
+            &[0, 0, 0, 1, 1, 10, 10],
+        ),
+        // every tide a centre, or as good as one
+        (&[2, 5, 0], 0, &[1, 2, 3], &[1, 2, 3], &[0, 0, 0]),
+        (&[5, 9, 5, 9], 0, &[1, 2], &[1, 2, 1, 2], &[0, 0, 0, 0]),
+        (&[4], 0, &[1], &[1], &[0]),
+        // one centre
+        (&[3, 0, 7], 4, &[1], &[1, 1, 1], &[0, 3, 4]),
+        (&[3, 0, 7], 8, &[1], &[1, 1, 1], &[0, 3, 4]),
+        (&[0, far], u32::MAX, &[1], &[1, 1], &[0, FAR]),
+        (&[0, far], FAR - 1, &[1, 2], &[1, 2], &[0, 0]),
+    ];
+    for (at, g, centres, blocks, distances) in cases {
+        let n = at.len();
+        let mut run = line(seen, rng, at, &[1; 7], 1);
+        for lens in 0..27 {
+            let mut call = centring(rng, g, n + 1);
+            let missing = [lens / 9, lens / 3 % 3, lens % 3]; // of n + 1 places
+            for (len, less) in call.lengths().into_iter().zip(missing) {
+                *len = n + 1 - less;
+            }
+            let expected = if missing.contains(&2) { 1 } else { 0 };
+            let what = format!("Centres at {g} of {at:?}, without {missing:?} of n + 1 places");
+            expect(run.make(seen, &mut call, 0), expected, &what);
+            let Call::Centres { list, nearest, away, count, .. } = &call else { unreachable!() };
+            if expected == 0
+                && (&list.places[..centres.len()] != centres
+                    || &nearest.places[..n] != blocks
+                    || &away.places[..n] != distances
+                    || count.places[0] as usize != centres.len())
+            {
+                fail("a case of document 02, 2.4", &run.w, &call);
+            }
+        }
+    }
+}
+
+/// Books of up to 12 tides, with Centres at every distance and next to it.
+fn every_distance(seen: &mut Seen, rng: &mut Rng, runs: usize) {
+    for turn in 0..runs {
+        let n = 1 + turn % 12;
+        let study = some_study(rng, n);
+        let mut run = Run::new(rng, 1);
+        let mut read = Call::Read { file: exact(rng, &plain::file_of(&study)) };
+        expect(run.make(seen, &mut read, 0), 0, "a study is read");
+        for d in plain::candidates(&study) {
+            for g in [d, d + 1] {
+                let mut call = centring(rng, g, n);
+                expect(run.make(seen, &mut call, 0), 0, "Centres");
+            }
+        }
+    }
+}
+
 // ---- the tariff ----
 
 /// The total and the shares of a book of heaps, each of so many tides at some
@@ -2074,6 +2219,8 @@ fn main() {
     let groups: Vec<Group> = vec![
         ("worked cases", Box::new(worked)),
         ("b0 below the sum", Box::new(below_the_sum)),
+        ("nearest centres", Box::new(nearest_centres)),
+        ("centres at every g", Box::new(|s, r| every_distance(s, r, 600))),
         ("tariffs", Box::new(tariffs)),
         ("tariffs of heaps", Box::new(|s, r| heaps(s, r, 600))),
         ("each slice short", Box::new(short)),
@@ -2114,6 +2261,9 @@ fn main() {
     whole &= seen.raised > 0;
     whole &= seen.lowered > 0 && seen.untouched > 0;
     whole &= seen.bills.reduced > 0 && seen.bills.halves > 0 && seen.bills.ties > 0;
+    let centred = &seen.centred;
+    whole &= centred.ties > 0 && centred.least > 0 && centred.beyond > 0;
+    whole &= centred.short.iter().all(|x| *x > 0);
     println!("Judge said yes {} times and no {} times", seen.yes, seen.no);
     println!(
         "{} blockings of up to 7 tides also by full enumeration, none wider than twice the least",
@@ -2130,8 +2280,17 @@ fn main() {
         seen.bills.halves,
         seen.bills.ties
     );
+    println!(
+        "{} Centres accepted: {} tides with equally near centres, {} calls with g = 0, \
+         {} with g above every distance",
+        centred.all, centred.ties, centred.least, centred.beyond
+    );
+    println!(
+        "Centres refused 1 for one list alone: list {}, nearest {}, nearest_distances {}",
+        centred.short[0], centred.short[1], centred.short[2]
+    );
     if !whole {
-        println!("FAILED: a refusal or an acceptance of the table above was never seen");
+        println!("FAILED: something that is counted above was never seen");
         exit(1);
     }
     println!("every refusal seen through every call that can give it");
