@@ -1,4 +1,4 @@
-// Centres beside the plain rule: the front handed back with the refusal's number, and the whole list.
+// Centres beside the plain rule: the front handed back with the refusal's number, the whole list, and each tide's nearest centre.
 use crate::given::is_number;
 use blocking::centres::Counted;
 use blocking::centres::centres_into;
@@ -32,6 +32,25 @@ fn right_places(list: &[u8], plain: Centres) -> bool {
     true
 }
 
+// Whether two places hold the number of tide t's nearest block and how far its centre is; 170 past the last tide.
+fn right_tide(block: u8, distance: u32, small: Small, plain: Centres, t: usize) -> bool {
+    if small.n <= t {
+        return block == 170 && distance == 170;
+    }
+    block == plain.nearest(small, t) && distance == plain.away(small, t, block)
+}
+
+fn right_tides(nearest: [u8; 9], away: [u32; 9], small: Small, plain: Centres) -> bool {
+    let mut t: usize = 0;
+    while t < 9 {
+        if !right_tide(nearest[t], away[t], small, plain, t) {
+            return false;
+        }
+        t += 1;
+    }
+    true
+}
+
 // 24 where there are no tides, else 0.
 fn right_number(number: u32, small: Small) -> bool {
     if small.n == 0 {
@@ -45,19 +64,33 @@ fn right_answer(counted: Counted, small: Small, plain: Centres) -> bool {
     counted.count == wide(plain.count) && right_number(answer_number(answer), small)
 }
 
-fn right_list(small: Small, g: u32, plain: Centres) -> bool {
+fn right_lists(small: Small, g: u32, plain: Centres) -> bool {
     let mut distances = [7u32; 14403];
     let mut settings = [9u8; 123];
     let mut list = [170u8; 9];
+    let mut nearest = [170u8; 9];
+    let mut away = [170u32; 9];
     let dataset = small.held(&mut distances, &mut settings);
-    let counted = centres_into(dataset, &distances, &settings, g, &mut list);
-    right_answer(counted, small, plain) && right_places(&list, plain)
+    let counted = centres_into(
+        dataset,
+        &distances,
+        &settings,
+        g,
+        &mut list,
+        &mut nearest,
+        &mut away,
+    );
+    right_answer(counted, small, plain)
+        && right_places(&list, plain)
+        && right_tides(nearest, away, small, plain)
 }
 
 fn right_front(small: Small, g: u32, plain: Centres) -> bool {
     let mut distances = [7u32; 14403];
     let mut settings = [9u8; 123];
     let mut list = [170u8; 9];
+    let mut nearest = [170u8; 9];
+    let mut away = [170u32; 9];
     let dataset = small.held(&mut distances, &mut settings);
     let mut refusal: u8 = 99;
     let front = blocking::centres::centres(
@@ -66,31 +99,68 @@ fn right_front(small: Small, g: u32, plain: Centres) -> bool {
         &settings,
         g,
         &mut list,
+        &mut nearest,
+        &mut away,
         &mut refusal,
     );
     front.len() == wide(plain.count)
         && right_places(front, plain)
+        && right_tides(nearest, away, small, plain)
         && right_number(refusal as u32, small)
 }
 
-fn trial(so_far: Tally, small: Small, g: u32) -> Tally {
-    let plain = centres::at_radius(small, g);
-    so_far
-        .see(right_list(small, g, plain))
-        .see(right_front(small, g, plain))
+// Those of a study's tides that have equally near centres.
+fn ties(so_far: Tally, small: Small, plain: Centres) -> Tally {
+    let n = small.n;
+    let mut all = so_far;
+    let mut t: usize = 0;
+    while t < n {
+        all = all.see(plain.is_tied(small, t));
+        t += 1;
+    }
+    all
 }
 
-// At 0, at the greatest radius, and at one between.
-pub fn trials(count: u32) -> Tally {
-    let mut all = tally::new();
+// Calls that give what the plain rule gives, and tides that have equally near centres.
+pub struct Centred {
+    agreed: Tally,
+    tied: Tally,
+}
+
+impl Centred {
+    fn and(self, small: Small, g: u32) -> Centred {
+        let plain = centres::at_radius(small, g);
+        Centred {
+            agreed: self.agreed
+                .see(right_lists(small, g, plain))
+                .see(right_front(small, g, plain)),
+            tied: ties(self.tied, small, plain),
+        }
+    }
+
+    // At 0, at the greatest radius, and at one between.
+    fn and_each(self, small: Small, between: u32) -> Centred {
+        self.and(small, 0)
+            .and(small, 4294967295)
+            .and(small, between)
+    }
+
+    pub fn print(self) {
+        self.agreed.print(b"centres as the plain rule");
+        self.tied.print(b"tides with equally near centres");
+    }
+}
+
+pub fn trials(count: u32) -> Centred {
+    let mut all = Centred {
+        agreed: tally::new(),
+        tied: tally::new(),
+    };
     let mut seed: u64 = 20240229;
     let mut i: u32 = 0;
     while i < count {
         seed = next(seed);
-        let small = studies::study(seed);
-        all = trial(all, small, 0);
-        all = trial(all, small, 4294967295);
-        all = trial(all, small, between(seed, 1, 20) as u32);
+        all = all.and_each(studies::study(seed), between(seed, 1, 20) as u32);
         i += 1;
     }
     all
