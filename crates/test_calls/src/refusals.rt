@@ -1,5 +1,6 @@
 // Each reason of Centres, Block and Judge, most where a later one holds too, so that the order shows. Block's records are always
 // 120 here, so that they are never too short.
+use crate::nearest::same_front;
 use blocking::centres::centres_into;
 use blocking::judge::judge;
 use blocking::records::block_by_value;
@@ -30,17 +31,69 @@ fn kept(list: &[u8]) -> bool {
     true
 }
 
+// The same of a list of distances of at most two places.
+fn kept_distances(list: &[u32]) -> bool {
+    same_front(list, &[170, 170])
+}
+
 // The number that Centres gives, 0 where it is done; 98 where it has written or counted something.
-fn centres_number(dataset: Dataset, distances: &[u32], settings: &[u8], list: &mut [u8]) -> u32 {
-    let counted = centres_into(dataset, distances, settings, 1, list);
+fn centres_number(
+    dataset: Dataset,
+    distances: &[u32],
+    settings: &[u8],
+    list: &mut [u8],
+    nearest: &mut [u8],
+    away: &mut [u32],
+) -> u32 {
+    let counted = centres_into(dataset, distances, settings, 1, list, nearest, away);
     let answer = counted.answer;
     if counted.count != 0 {
         return 98;
     }
-    if !kept(list) {
+    if !(kept(list) && kept(nearest) && kept_distances(away)) {
         return 98;
     }
     answer_number(answer)
+}
+
+// Whether Centres hands back an empty front, leaves this number, and writes nothing into the other two lists.
+fn no_front(
+    dataset: Dataset,
+    distances: &[u32],
+    settings: &[u8],
+    list: &mut [u8],
+    nearest: &mut [u8],
+    away: &mut [u32],
+    number: u32,
+) -> bool {
+    let mut refusal: u8 = 99;
+    let front = blocking::centres::centres(
+        dataset,
+        distances,
+        settings,
+        1,
+        list,
+        nearest,
+        away,
+        &mut refusal,
+    );
+    front.len() == 0 && refusal as u32 == number && kept(nearest) && kept_distances(away)
+}
+
+// Centres in both its forms, each with this number; all three lists held 170 and still do.
+fn centres_refused(
+    so_far: Tally,
+    dataset: Dataset,
+    distances: &[u32],
+    settings: &[u8],
+    list: &mut [u8],
+    nearest: &mut [u8],
+    away: &mut [u32],
+    number: u32,
+) -> Tally {
+    so_far
+        .see(centres_number(dataset, distances, settings, list, nearest, away) == number)
+        .see(no_front(dataset, distances, settings, list, nearest, away, number) && kept(list))
 }
 
 fn block_number(dataset: Dataset, distances: &[u32], settings: &[u8], list: &mut [u8]) -> u32 {
@@ -65,22 +118,7 @@ fn judge_number(dataset: Dataset, distances: &[u32], settings: &[u8], list: &[u8
     }
 }
 
-// Whether Centres hands back an empty front of a list of one place, and leaves this number.
-fn no_front(dataset: Dataset, distances: &[u32], settings: &[u8], number: u32) -> bool {
-    let mut list = [170u8; 1];
-    let mut refusal: u8 = 99;
-    let front = blocking::centres::centres(
-        dataset,
-        distances,
-        settings,
-        1,
-        &mut list,
-        &mut refusal,
-    );
-    front.len() == 0 && refusal as u32 == number
-}
-
-// The three calls with a list of one place, which holds no valid number for Judge.
+// The three calls with lists of one place; that of Judge holds no valid number.
 fn refused(
     so_far: Tally,
     dataset: Dataset,
@@ -90,12 +128,20 @@ fn refused(
     block: u32,
     judge: u32,
 ) -> Tally {
-    let mut first = [170u8; 1];
-    let mut second = [170u8; 1];
-    so_far
-        .see(centres_number(dataset, distances, settings, &mut first) == centres)
-        .see(no_front(dataset, distances, settings, centres))
-        .see(block_number(dataset, distances, settings, &mut second) == block)
+    let mut list = [170u8; 1];
+    let mut nearest = [170u8; 1];
+    let mut away = [170u32; 1];
+    let t = centres_refused(
+        so_far,
+        dataset,
+        distances,
+        settings,
+        &mut list,
+        &mut nearest,
+        &mut away,
+        centres,
+    );
+    t.see(block_number(dataset, distances, settings, &mut list) == block)
         .see(judge_number(dataset, distances, settings, &[0]) == judge)
 }
 
@@ -123,12 +169,22 @@ fn no_dataset(so_far: Tally) -> Tally {
     refused(t, empty, &distances, &settings, 21, 21, 21)
 }
 
-// 24 with fewer than b0 tides, and a list for Judge that is too long.
+// 24 with fewer than b0 tides, and a list for Judge that is too long; and with no place in any list of Centres.
 fn no_tides(so_far: Tally) -> Tally {
     let mut distances = [7u32; TABLE_SIZE];
     let mut settings = [9u8; MAX_TIDES];
     let empty = opened(&mut distances, &mut settings, 1);
-    refused(so_far, empty, &distances, &settings, 24, 24, 24)
+    let t = refused(so_far, empty, &distances, &settings, 24, 24, 24);
+    centres_refused(
+        t,
+        empty,
+        &distances,
+        &settings,
+        &mut [],
+        &mut [],
+        &mut [],
+        24,
+    )
 }
 
 // Two tides of settings 1 and 2, with these minima: the lists are too short, and 25 comes before that.
@@ -144,6 +200,24 @@ fn two(so_far: Tally, b0: u8, first: u8, block: u32) -> Tally {
     refused(so_far, set, &distances, &settings, 1, block, 12)
 }
 
+// 1 for two tides, with these lists of Centres.
+fn too_short(so_far: Tally, list: &mut [u8], nearest: &mut [u8], away: &mut [u32]) -> Tally {
+    let mut distances = [7u32; TABLE_SIZE];
+    let mut settings = [9u8; MAX_TIDES];
+    let held = two_tides(&mut distances, &mut settings);
+    centres_refused(so_far, held, &distances, &settings, list, nearest, away, 1)
+}
+
+// Each of the three lists alone has a place less than there are tides, the other two as many.
+fn one_short(so_far: Tally) -> Tally {
+    let mut list = [170u8; 2];
+    let mut nearest = [170u8; 2];
+    let mut away = [170u32; 2];
+    let first = too_short(so_far, &mut [170], &mut nearest, &mut away);
+    let second = too_short(first, &mut list, &mut [170], &mut away);
+    too_short(second, &mut list, &mut nearest, &mut [170])
+}
+
 // A list of three places: one too many for Judge, whose first number is 0.
 fn long_list(so_far: Tally) -> Tally {
     let mut distances = [7u32; TABLE_SIZE];
@@ -154,5 +228,5 @@ fn long_list(so_far: Tally) -> Tally {
 
 pub fn trials(so_far: Tally) -> Tally {
     let t = no_tides(no_dataset(short_memory(so_far)));
-    long_list(two(two(two(t, 1, 0, 1), 3, 0, 25), 2, 2, 25))
+    long_list(one_short(two(two(two(t, 1, 0, 1), 3, 0, 25), 2, 2, 25)))
 }
