@@ -1,6 +1,7 @@
 // Document 01's cases through the calls, and Block, Judge and Centres beside plain ones for up to seven tides.
 // Each group prints how many of its answers and places came out as expected.
 use test_calls::calls;
+use test_calls::nearest;
 use test_calls::refusals;
 use test_comparisons::centring;
 use test_comparisons::comparing;
@@ -29,6 +30,7 @@ fn main() {
     print_calls();
     comparing::trials(6000).print();
     judging::trials(3000).print();
-    centring::trials(1000).print(b"centres as the plain rule");
+    centring::trials(1000).print();
+    nearest::trials(tally::new()).print(b"nearest centres");
     refusals::trials(tally::new()).print(b"refusals");
 }
