@@ -5,23 +5,9 @@ use study::MAX_TIDES;
 use study::TABLE_SIZE;
 use test_tools::samples::entered;
 use test_tools::samples::opened;
+use test_tools::slices::same_front;
 use test_tools::tally::Tally;
 use test_tools::tally::answer_number;
-
-// Whether b begins with a.
-pub fn same_front(a: &[u32], b: &[u32]) -> bool {
-    if b.len() < a.len() {
-        return false;
-    }
-    let mut i: usize = 0;
-    while i < a.len() {
-        if a[i] != b[i] {
-            return false;
-        }
-        i += 1;
-    }
-    true
-}
 
 // Two tides on a line, at 0 and 10.
 fn ends(distances: &mut [u32], settings: &mut [u8]) -> Dataset {

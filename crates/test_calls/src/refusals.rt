@@ -1,6 +1,5 @@
 // Each reason of Centres, Block and Judge, most where a later one holds too, so that the order shows. Block's records are always
 // 120 here, so that they are never too short.
-use crate::nearest::same_front;
 use blocking::centres::centres_into;
 use blocking::judge::judge;
 use blocking::records::block_by_value;
@@ -16,6 +15,7 @@ use test_tools::samples::nonsense;
 use test_tools::samples::opened;
 use test_tools::samples::two_tides;
 use test_tools::samples::with_minima;
+use test_tools::slices::same_front;
 use test_tools::tally::Tally;
 use test_tools::tally::answer_number;
 

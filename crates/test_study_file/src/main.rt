@@ -4,7 +4,6 @@ use crate::reading::comes_back;
 use crate::reading::number;
 use crate::reading::read;
 use crate::reading::read_into;
-use crate::reading::same_front;
 use crate::reading::write;
 use crate::samples::flip;
 use crate::samples::four_tides;
@@ -18,6 +17,7 @@ use study::refusals::number_of;
 use study_file::Written;
 use test_tools::samples::nonsense;
 use test_tools::slices::front;
+use test_tools::slices::same_front;
 use test_tools::tally;
 use test_tools::tally::Tally;
 

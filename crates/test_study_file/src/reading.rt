@@ -6,21 +6,7 @@ use study::refusals::number_of;
 use study_file::Written;
 use test_tools::samples::nonsense;
 use test_tools::slices::front;
-
-// Whether b begins with a.
-pub fn same_front(a: &[u32], b: &[u32]) -> bool {
-    if b.len() < a.len() {
-        return false;
-    }
-    let mut i: usize = 0;
-    while i < a.len() {
-        if a[i] != b[i] {
-            return false;
-        }
-        i += 1;
-    }
-    true
-}
+use test_tools::slices::same_front;
 
 // Read, where there is no dataset.
 pub fn read_into(distances: &mut [u32], settings: &mut [u8], bytes: &[u8]) -> Outcome {

@@ -2,8 +2,8 @@
 use borrow.Author.Needs.{needs}
 use lib.ListN.{length}
 use Prim.Native.Nat.{_≤_, _-_}
-use Rattle.test_study_file.proofs.reading.same_front.Statement.{statement}
-use Rattle.test_study_file.proofs.reading.same_front.Tie as tie
+use Rattle.test_tools.proofs.slices.same_front.Statement.{statement}
+use Rattle.test_tools.proofs.slices.same_front.Tie as tie
 
 abbrev Inv-loop : tie.InvT-loop
 Inv-loop a b i₀ i = i ≤ length a
