@@ -80,7 +80,7 @@ order =
     ∷ case (holding (minima 1 0) [] 0) (call-ask (price-blocks [] [])) 24
     ∷ case (holding (minima 3 0) two 0) (call-ask (price-blocks [] [])) 25
     ∷ case (holding (minima 2 0) two 0) (call-ask (price-blocks (0 ∷ 0 ∷ []) (records 1))) 1
-    -- Centres: 24 before 1, 1 for each of the three lists; Judge: 24 before 12; Write: 1
+    -- Centres: 24, and 1 for each of the three lists; Judge: 24 before 12; Write: 1
     ∷ case (holding (minima 1 0) [] 0) (call-ask (find-centres 0 (places 0 0 0))) 24
     ∷ case (holding (minima 1 0) two 0) (call-ask (find-centres 0 (places 1 2 2))) 1
     ∷ case (holding (minima 1 0) two 0) (call-ask (find-centres 0 (places 2 1 2))) 1
