@@ -1,92 +1,83 @@
 -- The code's cut out of four bytes is the field, and what a caller knows of a field that was read. Assumes nothing.
 use Prim.Native.Nat.{ℕ, _+_, _-_, _*_, _/_, _%_, _^_, _≤_, _<_}
-use native.Mathlib.Nat.{mod-eq-of-lt}
 use native.Mathlib.Omega.{arith}
-use mathlib.Core.Path.{_≡_, refl, sym, ap, ap₂, _∙_, subst}
-use mathlib.Core.Bool.{Bool, true, false, cond}
+use mathlib.Core.Path.{_≡_, sym, ap, ap₂, _∙_, subst}
+use mathlib.Core.Bool.{Bool, true, false, not}
 use mathlib.Core.List.{List}
-use lib.Dec.{T, leb, leb→le}
+use lib.Dec.{leb}
 use lib.ListN.{length, getD}
-use lib.Pow.{pow-mono}
-use borrow.Author.Tests.{le-leb, lt-leb}
+use lib.Pow.{field, shl-shr, shr-shr}
+use borrow.Author.Tests.{leb-true, leb-false, not-true, not-false}
 use Rattle.file_format.specs.Bits.{bitsAt}
 use Rattle.file_format.specs.Theorems.{Bytes}
 use Rattle.file_format.proofs.BitLaws.{bitsAt-small, window}
+use Rattle.bit_reader.specs.declared.Place.{Place}
 use Rattle.bit_reader.specs.declared.FieldValue.{FieldValue}
 use Rattle.bit_reader.specs.declared.FieldValue.the-variants as FieldValueCase
-use Rattle.bit_reader.specs.declared.Start.{Start}
-use Rattle.bit_reader.specs.declared.Start.the-variants as StartCase
-use Rattle.bit_reader.specs.Fields.{fieldAt, Askable, startOf}
+use Rattle.bit_reader.specs.Fields.{BitsRead, FieldGot, FieldRead}
 
 -- ---- reading
 
-small : (w : ℕ) → w ≤ 20 → 2 ^ w ≤ 1048576
-small w h = pow-mono {i = w} {j = 20} h
+-- of 32 bits, b are moved out in front and those past the next w at the back
+cut : (x b w : ℕ) → b + w ≤ 32 → x * 2 ^ b % 4294967296 / 2 ^ (32 - w) ≡ x / 2 ^ (32 - b - w) % 2 ^ w
+cut x b w h =
+    let all : 32 ≡ w + (32 - w) = omega arith in
+    let back : 32 - w ≡ b + (32 - b - w) = omega arith in
+    ap (λ k. x * 2 ^ b % 2 ^ k / 2 ^ (32 - w)) all
+    ∙ field (x * 2 ^ b) w (32 - w)
+    ∙ ap (λ y. y % 2 ^ w) (ap (λ k. x * 2 ^ b / 2 ^ k) back ∙ sym (shr-shr (x * 2 ^ b) b (32 - b - w)) ∙ ap (λ y. y / 2 ^ (32 - b - w)) (shl-shr x b))
 
--- 1 moved up by a field's width
-pub one-moved : (w : ℕ) → w ≤ 20 → 1 * 2 ^ w % 4294967296 ≡ 2 ^ w
-one-moved w h = let e : 1 * 2 ^ w ≡ 2 ^ w = omega arith in ap (λ x. x % 4294967296) e ∙ mod-eq-of-lt (omega (arith, small w h))
-
-module _ (s : List ℕ) (at w : ℕ) (ask : Askable at w) where
-  pub field-end : length s < (at + w + 7) / 8 → FieldValueCase.End ≡ fieldAt s at w
-  field-end h = ap (λ b. cond b (FieldValueCase.Value (bitsAt s at w)) FieldValueCase.End) (sym (lt-leb (at + w) (8 * length s) (omega arith)))
-
-  pub field-value : (at + w + 7) / 8 ≤ length s → Bytes s → (a b c d : ℕ)
-      → a ≡ getD s (at / 8) 0 → b ≡ getD s (at / 8 + 1) 0 → c ≡ getD s (at / 8 + 2) 0 → d ≡ getD s (at / 8 + 3) 0
-      → FieldValueCase.Value ((a * 16777216 + b * 65536 + (c * 256 + d)) / 2 ^ (32 - at % 8 - w) % (1 * 2 ^ w % 4294967296)) ≡ fieldAt s at w
-  field-value h bytes a b c d p q r t =
-      ap₂ (λ x y. FieldValueCase.Value (x / 2 ^ (32 - at % 8 - w) % y)) four (one-moved w (ask .narrow))
-      ∙ ap FieldValueCase.Value (sym (window s bytes at w (omega (arith, ask .narrow))))
-      ∙ ap (λ b. cond b (FieldValueCase.Value (bitsAt s at w)) FieldValueCase.End) (sym (le-leb (at + w) (8 * length s) (omega arith)))
+module _ (s : List ℕ) {n : ℕ} (p : Place) (h : BitsRead p n) where
+  -- the number in the field, of the bytes from the place's on
+  pub field-value : (w : ℕ) → w ≤ 20 → Bytes s → (a b c d : ℕ)
+      → a ≡ getD s (p .byte) 0 → b ≡ getD s (p .byte + 1) 0 → c ≡ getD s (p .byte + 2) 0 → d ≡ getD s (p .byte + 3) 0
+      → (a * 16777216 + b * 65536 + (c * 256 + d)) * 2 ^ p .bit % 4294967296 / 2 ^ (32 - w) ≡ bitsAt s n w
+  field-value w narrow bytes a b c d e f g k =
+      cut (a * 16777216 + b * 65536 + (c * 256 + d)) (p .bit) w (omega (arith, h .below))
+      ∙ ap₂ (λ x y. x / 2 ^ (32 - y - w) % 2 ^ w) (four ∙ ap word byte-is) bit-is
+      ∙ sym (window s bytes n w (omega (arith, narrow)))
     where
-      four : a * 16777216 + b * 65536 + (c * 256 + d)
-          ≡ getD s (at / 8) 0 * 16777216 + getD s (at / 8 + 1) 0 * 65536 + getD s (at / 8 + 2) 0 * 256 + getD s (at / 8 + 3) 0
+      word : ℕ → ℕ
+      word i = getD s i 0 * 16777216 + getD s (i + 1) 0 * 65536 + getD s (i + 2) 0 * 256 + getD s (i + 3) 0
+
+      four : a * 16777216 + b * 65536 + (c * 256 + d) ≡ word (p .byte)
       four = omega arith
+
+      byte-is : p .byte ≡ n / 8
+      byte-is = omega (arith, h .below, h .count)
+
+      bit-is : p .bit ≡ n % 8
+      bit-is = omega (arith, h .below, h .count)
+
+-- what the test of the length told
+module _ (s : List ℕ) (m : ℕ) {r : Bool} (e : r ≡ leb m (8 * length s)) where
+  pub inside : not r ≡ false → m ≤ 8 * length s
+  inside q = leb-true m (8 * length s) (sym e ∙ not-false r q)
+
+  pub outside : not r ≡ true → 8 * length s < m
+  outside q = leb-false m (8 * length s) (sym e ∙ not-true r q)
 
 -- ---- what was read
 
--- the number in a field inside the bytes
-pub record FieldGot (s : List ℕ) (at w v : ℕ) : Type 0 where
-  pub is : v ≡ bitsAt s at w
-  pub small : v < 2 ^ w
-  pub inside : at + w ≤ 8 * length s
+module _ {s : List ℕ} {n w v : ℕ} {next : Place} where
+  pub field-small : FieldGot s n w v next → v < 2 ^ w
+  field-small g = subst (λ x. x < 2 ^ w) (sym (g .is)) (bitsAt-small s n w)
 
-module _ {s : List ℕ} {at w : ℕ} where
-  -- what was read where there was no end
-  pub got : {f : FieldValue} {v : ℕ} → f ≡ fieldAt s at w → f ≡ FieldValueCase.Value v → FieldGot s at w v
-  got {f} {v} e q = by (leb (at + w) (8 * length s)) (λ t. leb→le (at + w) (8 * length s) t) (sym q ∙ e)
+  -- the answer is the field
+  pub field-read : FieldGot s n w v next → FieldRead s n w (FieldValueCase.Value v next)
+  field-read g = record { got = λ e. same e; ends = λ e. absurd (never e) }
     where
-      by : (b : Bool) → (T b → at + w ≤ 8 * length s) → FieldValueCase.Value v ≡ cond b (FieldValueCase.Value (bitsAt s at w)) FieldValueCase.End → FieldGot s at w v
-      by true h p = let i : v ≡ bitsAt s at w = cc in record { is = i; small = subst (λ x. x < 2 ^ w) (sym i) (bitsAt-small s at w); inside = h tt }
-      by false h p = absurd (let z : _≡_ {A = ℕ} 0 1 = cc in omega arith)
+      same : {x : ℕ} {p : Place} → FieldValueCase.Value v next ≡ FieldValueCase.Value x p → FieldGot s n w x p
+      same {x} {p} e =
+          let i : v ≡ x = cc in
+          let j : next ≡ p = cc in subst (λ y. FieldGot s n w y p) i (subst (FieldGot s n w v) j g)
 
-module _ (s : List ℕ) (at w : ℕ) where
-  -- inside the bytes there is no end
-  pub no-end : {f : FieldValue} → f ≡ fieldAt s at w → f ≡ FieldValueCase.End → at + w ≤ 8 * length s → ⊥
-  no-end {f} e q h = never (sym q ∙ e ∙ ap (λ b. cond b (FieldValueCase.Value (bitsAt s at w)) FieldValueCase.End) (le-leb (at + w) (8 * length s) h))
-    where
-      never : FieldValueCase.End ≡ FieldValueCase.Value (bitsAt s at w) → ⊥
-      never p = let z : _≡_ {A = ℕ} 0 1 = cc in omega arith
+      never : FieldValueCase.Value v next ≡ FieldValueCase.End → ⊥
+      never e = let z : _≡_ {A = ℕ} 0 1 = cc in omega arith
 
-module _ {s : List ℕ} where
-  start : {r : Start} (f g : FieldValue) → r ≡ startOf f g → f ≡ fieldAt s 0 8 → g ≡ fieldAt s 8 7 → {m n : ℕ} → r ≡ StartCase.Fields m n
-      → FieldGot s 0 8 m × FieldGot s 8 7 n
-  start (FieldValueCase.Value x) (FieldValueCase.Value y) e a b {m} {n} q =
-      let i : x ≡ m = cc in
-      let j : y ≡ n = cc in (subst (FieldGot s 0 8) i (got a refl), subst (FieldGot s 8 7) j (got b refl))
-  start (FieldValueCase.Value x) FieldValueCase.End e a b q = absurd (let z : _≡_ {A = ℕ} 0 1 = cc in omega arith)
-  start FieldValueCase.End g e a b q = absurd (let z : _≡_ {A = ℕ} 0 1 = cc in omega arith)
-
-  -- what the two fields hold
-  pub got-start : {r : Start} {m n : ℕ} → r ≡ startOf (fieldAt s 0 8) (fieldAt s 8 7) → r ≡ StartCase.Fields m n → FieldGot s 0 8 m × FieldGot s 8 7 n
-  got-start e q = start (fieldAt s 0 8) (fieldAt s 8 7) e refl refl q
-
--- fifteen bits are enough for both
-pub no-end-start : (s : List ℕ) {r : Start} → r ≡ startOf (fieldAt s 0 8) (fieldAt s 8 7) → r ≡ StartCase.End → 15 ≤ 8 * length s → ⊥
-no-end-start s {r} e q h =
-    never (sym q ∙ e
-    ∙ ap₂ (λ a b. startOf (cond a (FieldValueCase.Value (bitsAt s 0 8)) FieldValueCase.End) (cond b (FieldValueCase.Value (bitsAt s 8 7)) FieldValueCase.End))
-    (le-leb 8 (8 * length s) (omega arith)) (le-leb 15 (8 * length s) h))
+-- the answer is the end
+pub end-read : (s : List ℕ) (n w : ℕ) → 8 * length s < n + w → FieldRead s n w FieldValueCase.End
+end-read s n w h = record { got = λ e. absurd (never e); ends = λ _. h }
   where
-    never : StartCase.End ≡ StartCase.Fields (bitsAt s 0 8) (bitsAt s 8 7) → ⊥
-    never p = let z : _≡_ {A = ℕ} 0 1 = cc in omega arith
+    never : {x : ℕ} {p : Place} → FieldValueCase.End ≡ FieldValueCase.Value x p → ⊥
+    never e = let z : _≡_ {A = ℕ} 0 1 = cc in omega arith

@@ -1,27 +1,33 @@
--- The field at a bit position, where the bytes go that far, and the two fields with which a file begins. Assumes nothing.
+-- The place of the next bit, carried from field to field, and what a field read there is. Assumes nothing.
 use Prim.Native.Nat.{ℕ, _+_, _*_, _^_, _≤_, _<_}
-use mathlib.Core.Bool.{cond}
+use mathlib.Core.Path.{_≡_}
 use mathlib.Core.List.{List}
-use lib.Dec.{leb}
 use lib.ListN.{length}
 use Rattle.file_format.specs.Bits.{bitsAt}
+use Rattle.bit_reader.specs.declared.Place.{Place}
 use Rattle.bit_reader.specs.declared.FieldValue.{FieldValue}
 use Rattle.bit_reader.specs.declared.FieldValue.the-variants as FieldValueCase
-use Rattle.bit_reader.specs.declared.Start.{Start}
-use Rattle.bit_reader.specs.declared.Start.the-variants as StartCase
 
--- the number in the w bits at a position, or the end where the bytes stop before
-abbrev pub fieldAt : List ℕ → ℕ → ℕ → FieldValue
-fieldAt s at w = cond (leb (at + w) (8 * length s)) (FieldValueCase.Value (bitsAt s at w)) FieldValueCase.End
+-- document 02, 2.5: before each field the bit is below 8, and eight times the byte plus the bit is the number of bits read
+pub record BitsRead (p : Place) (n : ℕ) : Type 0 where
+  pub below : p .bit < 8
+  pub count : 8 * p .byte + p .bit ≡ n
 
--- a field that can be asked for: its width is that of a field of the file, and its position fits a word
-pub record Askable (at w : ℕ) : Type 0 where
+-- a field that can be asked for at a place: its width is that of a field of the file, and the bits read fit a word
+pub record Askable (p : Place) (w : ℕ) : Type 0 where
+  pub read : ℕ
+  pub here : BitsRead p read
+  pub low : read < 2 ^ 63
   pub wide : 1 ≤ w
   pub narrow : w ≤ 20
-  pub low : at < 2 ^ 63
 
--- the mark and the number of tides of two fields read; the end where one of them is
-abbrev pub startOf : FieldValue → FieldValue → Start
-startOf (FieldValueCase.Value m) (FieldValueCase.Value n) = StartCase.Fields m n
-startOf (FieldValueCase.Value m) FieldValueCase.End = StartCase.End
-startOf FieldValueCase.End f = StartCase.End
+-- a field that was read after n bits: it is inside the bytes, v is the number in it, and next is the place past it
+pub record FieldGot (s : List ℕ) (n w v : ℕ) (next : Place) : Type 0 where
+  pub inside : n + w ≤ 8 * length s
+  pub is : v ≡ bitsAt s n w
+  pub past : BitsRead next (n + w)
+
+-- the answer after n bits, asked for w more: the field, or the end where the bytes stop before
+pub record FieldRead (s : List ℕ) (n w : ℕ) (f : FieldValue) : Type 0 where
+  pub got : {v : ℕ} {next : Place} → f ≡ FieldValueCase.Value v next → FieldGot s n w v next
+  pub ends : f ≡ FieldValueCase.End → 8 * length s < n + w

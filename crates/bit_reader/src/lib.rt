@@ -1,20 +1,22 @@
-// The fields of a file by bit position. `field_at` reads one field and is all that knows how bits lie in bytes; `BitReader` holds the
-// bytes and a position, and each of its functions is a thin call onto it.
+// The fields of a file, one after the other. A place, a byte and a bit in it, is carried from field to field, and no position is divided.
+// `field_at` reads one field and is all that knows how bits lie in bytes; `BitReader` holds the bytes and a place, and each of its functions
+// is a thin call onto it.
 ghost use mathlib.Core.Path.{_≡_};
-ghost use Prim.Native.Nat.{_+_, _<_, _^_};
-ghost use lib.ListN.{getD};
+ghost use Prim.Native.Nat.{ℕ, _+_, _*_, _<_};
+ghost use lib.Dec.{leb};
+ghost use lib.ListN.{getD, length};
 ghost use denote.Ref.{now};
-ghost use Rattle.bit_reader.specs.Fields.{fieldAt, Askable, startOf};
+ghost use Rattle.bit_reader.specs.Fields.{BitsRead, Askable, FieldRead};
 
-// A field's value, or the end where the bytes stop before.
-pub enum FieldValue {
-    Value(u32),
-    End,
+// Where the next bit stands: in which byte, and as which of its bits, the most significant being bit 0.
+pub struct Place {
+    pub byte: usize,
+    pub bit: usize,
 }
 
-// The mark and the number of tides with which a file begins, or the end where the bytes stop before.
-pub enum Start {
-    Fields(u32, u32),
+// A field's value and the place past it, or the end where the bytes stop before.
+pub enum FieldValue {
+    Value(u32, Place),
     End,
 }
 
@@ -35,84 +37,80 @@ fn byte_at(bytes: &[u8], i: usize) -> u32
     wide(bytes[i])
 }
 
-// The field of `width` bits at a position, most significant bit first, cut out of the four bytes that it can stand in.
-pub fn field_at(bytes: &[u8], at: usize, width: usize) -> FieldValue
-    requires { ⌜ Askable at width ⌝ }
-    ensures { λ r. ⌜ r ≡ fieldAt (now (bytes .entry)) at width ⌝ }
+// The place `width` bits on: every eight bits are carried into the byte.
+fn past(place: Place, width: usize) -> Place
+    requires { ⌜ Askable place width ⌝ }
+    ensures { λ r. ⌜ ((n : ℕ) → BitsRead place n → BitsRead r (n + width)) ⌝ }
 {
-    if bytes.len() < (at + width + 7) / 8 {
+    let mut byte = place.byte;
+    let mut bit = place.bit + width;
+    while 8 <= bit {
+        byte += 1;
+        bit -= 8;
+    }
+    Place { byte, bit }
+}
+
+// Whether the bytes go as far as a place.
+fn reaches(bytes: &[u8], place: Place) -> bool
+    ensures { λ r. ⌜ ((n : ℕ) → BitsRead place n → r ≡ leb n (8 * length (now (bytes .entry)))) ⌝ }
+{
+    if place.byte < bytes.len() {
+        return true;
+    }
+    if bytes.len() < place.byte {
+        return false;
+    }
+    if place.bit == 0 {
+        return true;
+    }
+    false
+}
+
+// The field of `width` bits at a place, most significant bit first, cut out of the four bytes that it can stand in.
+pub fn field_at(bytes: &[u8], place: Place, width: usize) -> FieldValue
+    requires { ⌜ Askable place width ⌝ }
+    ensures { λ r. ⌜ ((n : ℕ) → BitsRead place n → FieldRead (now (bytes .entry)) n width r) ⌝ }
+{
+    let next = past(place, width);
+    if !reaches(bytes, next) {
         return FieldValue::End;
     }
-    let i = at / 8;
+    let i = place.byte;
     let high = wide(bytes[i]) * 16777216 + byte_at(bytes, i + 1) * 65536;
     let low = byte_at(bytes, i + 2) * 256 + byte_at(bytes, i + 3);
-    let rest = (32 - at % 8 - width) as u32;
-    let w = width as u32;
-    FieldValue::Value(((high + low) >> rest) % (1 << w))
+    let read = place.bit as u32;
+    let rest = (32 - width) as u32;
+    FieldValue::Value(((high + low) << read) >> rest, next)
 }
 
-// What two fields say together.
-fn start_of(mark: FieldValue, tides: FieldValue) -> Start
-    ensures { λ r. ⌜ r ≡ startOf mark tides ⌝ }
-{
-    let FieldValue::Value(m) = mark else {
-        return Start::End;
-    };
-    let FieldValue::Value(n) = tides else {
-        return Start::End;
-    };
-    Start::Fields(m, n)
-}
-
-// Bytes and the position of the next bit in them.
+// Bytes and the place of the next bit in them.
 pub struct BitReader<'a> {
     pub bytes: &'a [u8],
-    pub bit: usize,
+    pub place: Place,
 }
 
 impl<'a> BitReader<'a> {
-    // A reader at a position.
-    pub fn new(bytes: &'a [u8], bit: usize) -> BitReader<'a>
-        ensures { λ r. ⌜ (r .bytes ≡ bytes .entry) × (r .bit ≡ bit) ⌝ }
+    // A reader at a place.
+    pub fn new(bytes: &'a [u8], place: Place) -> BitReader<'a>
+        ensures { λ r. ⌜ (r .bytes ≡ bytes .entry) × (r .place ≡ place) ⌝ }
     {
-        BitReader { bytes, bit }
+        BitReader { bytes, place }
     }
 
-    // The field at the reader's position.
+    // The field at the reader's place.
     pub fn take(self, width: usize) -> FieldValue
-        requires { ⌜ Askable (self .bit) width ⌝ }
-        ensures { λ f. ⌜ f ≡ fieldAt (now (self .entry .bytes)) (self .entry .bit) width ⌝ }
+        requires { ⌜ Askable (self .place) width ⌝ }
+        ensures { λ f. ⌜ ((n : ℕ) → BitsRead (self .entry .place) n → FieldRead (now (self .entry .bytes)) n width f) ⌝ }
     {
-        field_at(self.bytes, self.bit, width)
-    }
-
-    // The reader past a field.
-    pub fn moved(self, width: usize) -> BitReader<'a>
-        requires { ⌜ self .bit + width < 2 ^ 64 ⌝ }
-        ensures { λ r. ⌜ (r .bytes ≡ self .entry .bytes) × (r .bit ≡ self .entry .bit + width) ⌝ }
-    {
-        BitReader {
-            bytes: self.bytes,
-            bit: self.bit + width,
-        }
+        field_at(self.bytes, self.place, width)
     }
 }
 
-// The field at a position, with plain parameters, for callers that the borrow checker covers.
-pub fn read_field(bytes: &[u8], at: usize, width: usize) -> FieldValue
-    requires { ⌜ Askable at width ⌝ }
-    ensures { λ f. ⌜ f ≡ fieldAt (now (bytes .entry)) at width ⌝ }
+// The field at a place, with plain parameters, for callers that the borrow checker covers.
+pub fn read_field(bytes: &[u8], place: Place, width: usize) -> FieldValue
+    requires { ⌜ Askable place width ⌝ }
+    ensures { λ f. ⌜ ((n : ℕ) → BitsRead place n → FieldRead (now (bytes .entry)) n width f) ⌝ }
 {
-    BitReader::new(bytes, at).take(width)
-}
-
-// The two fields with which a file begins: a reader at its first bit, moved on.
-pub fn read_start(bytes: &[u8]) -> Start
-    ensures { λ r. ⌜ r ≡ startOf (fieldAt (now (bytes .entry)) 0 8) (fieldAt (now (bytes .entry)) 8 7) ⌝ }
-{
-    let r = BitReader::new(bytes, 0);
-    let mark = r.take(8);
-    let s = r.moved(8);
-    let tides = s.take(7);
-    start_of(mark, tides)
+    BitReader::new(bytes, place).take(width)
 }

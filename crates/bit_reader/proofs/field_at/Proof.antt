@@ -1,38 +1,58 @@
--- `bit_reader::field_at` meets its contract: the four bytes from that of the position on hold the field. Assumes nothing.
-use lib.Pow.{pow-pos}
-use Rattle.bit_reader.proofs.FieldLaws.{one-moved, field-end, field-value}
+-- `bit_reader::field_at` meets its contract: the bytes reach the place past the field or stop before it, and the four bytes from the place's
+-- on hold the field. Assumes nothing.
+use Prim.Native.Nat.{_+_}
+use native.Mathlib.Omega.{arith}
+use Rattle.bit_reader.proofs.FieldLaws.{inside, outside, field-value, field-read, end-read}
 use borrow.Author.Needs.{needs}
 use Rattle.bit_reader.proofs.field_at.Statement.{statement}
 use Rattle.bit_reader.proofs.field_at.Tie as tie
 
 returns : tie.Need-returns
-returns c =
-    let entry = c .before .before in
-    field-end (entry .args .bytes .now) (entry .args .at) (entry .args .width) (entry .pre) (c .if1 .taken)
+returns c n here =
+    let at-past = c .before .before in
+    let args = at-past .before .before .args in
+    let end = n + args .width in
+    end-read (args .bytes .now) n (args .width)
+    (outside (args .bytes .now) end (c .before .reaches .ensures end (at-past .past .ensures n here)) (c .if1 .taken))
 
-rem-t14 : tie.Need-rem-t14
-rem-t14 c =
-    let entry = c .before .before .before .before .before .before .before in
-    rw (one-moved (entry .args .width) (entry .pre .narrow)) (pow-pos (entry .args .width))
+first-byte : tie.Need-shared-slice-read-wide
+first-byte c =
+    let tested = c .before in
+    let at-past = tested .before .before in
+    let entry = at-past .before .before in
+    let asked = entry .pre in
+    let end = asked .read + entry .args .width in
+    let past = at-past .past .ensures (asked .read) (asked .here) in
+    omega (arith, asked .here .count, asked .wide, inside (entry .args .bytes .now) end (tested .before .reaches .ensures end past) (tested .if1 .left))
 
 returns-2 : tie.Need-returns-2
-returns-2 c =
-    let at-first = c .before .before .before in
-    let at-test = at-first .before .before in
-    let entry = at-test .before .before in
-    field-value (entry .args .bytes .now) (entry .args .at) (entry .args .width) (entry .pre) (at-test .if1 .left)
-    (λ i. at-test .before .shared-slice-known .given i .fits)
-    (at-first .wide .result) (c .before .before .byte-at .result) (c .before .byte-at2 .result) (c .byte-at3 .result)
-    (at-first .wide .ensures .0) (c .before .before .byte-at .ensures .0) (c .before .byte-at2 .ensures .0) (c .byte-at3 .ensures .0)
+returns-2 c n here =
+    let at-third = c .before in
+    let at-second = at-third .before in
+    let at-first = at-second .before in
+    let at-byte = at-first .before in
+    let tested = at-byte .before .before in
+    let at-past = tested .before .before in
+    let entry = at-past .before .before in
+    let end = n + entry .args .width in
+    let past = at-past .past .ensures n here in
+    field-read record {
+      inside = inside (entry .args .bytes .now) end (tested .before .reaches .ensures end past) (tested .if1 .left);
+      is = field-value (entry .args .bytes .now) (entry .args .place) here (entry .args .width) (entry .pre .narrow)
+          (λ i. at-past .before .shared-slice-known .given i .fits)
+          (at-byte .wide .result) (at-first .byte-at .result) (at-second .byte-at2 .result) (at-third .byte-at3 .result)
+          (at-byte .wide .ensures .0) (at-first .byte-at .ensures .0) (at-second .byte-at2 .ensures .0) (at-third .byte-at3 .ensures .0);
+      past = past;
+    }
 
 pub field-at-spec : {M : Type 1} → statement M
 field-at-spec =
     tie.close
     (tie.spec
-    (λ c. search needs)
-    (λ c. search needs)
+    (λ c κs. search needs)
+    (λ c κs. search needs)
     returns
-    (λ c. search needs)
+    first-byte
     (λ c κs. search needs)
     (λ c. search needs)
     (λ c. search needs)
@@ -51,6 +71,4 @@ field-at-spec =
     (λ c. search needs)
     (λ c. search needs)
     (λ c. search needs)
-    (λ c. search needs)
-    rem-t14
     returns-2)
