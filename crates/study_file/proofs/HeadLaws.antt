@@ -1,31 +1,33 @@
 -- Read's reasons before any tide, at each way out of the code, and the record that a file gives. Assumes nothing.
-use Prim.Native.Nat.{ℕ, zero, suc, _+_, _-_, _*_, _≤_, _<_}
+use Prim.Native.Nat.{ℕ, zero, suc, _+_, _-_, _*_, _/_, _≤_, _<_}
 use native.Mathlib.Omega.{arith}
 use mathlib.Core.Path.{_≡_, refl, sym, ap, ap₂, _∙_, subst}
 use mathlib.Core.Bool.{Bool, true, false, cond, not}
 use mathlib.Core.List.{List, _++_}
-use lib.Dec.{ltb, eqb, lt→ltb}
+use lib.Dec.{ltb, eqb, lt→ltb, lit<}
 use lib.Arith.{le→nltb}
 use lib.ListN.{length, drop, replicate}
-use borrow.Author.Tests.{eq-eqb, ne-eqb}
+use borrow.Author.Tests.{eq-eqb, ne-eqb, eqb-true, not-true, not-false}
 use Rattle.lists.specs.Lists.{between, tabulate, overwrite}
 use Rattle.lists.proofs.Tests.{T-true, T-false}
 use Rattle.study.specs.declared.Minima.{Minima}
 use Rattle.study.specs.declared.Dataset.{Dataset}
-use Rattle.study.specs.Study.{validMinima}
-use Rattle.study.specs.Refusals.{number, Verdict, accepted, refused, firstOf}
+use Rattle.study.specs.declared.Refusal.{Refusal}
+use Rattle.study.specs.declared.Refusal.the-variants as RefusalCase
+use Rattle.study.specs.declared.Answer.the-variants.{Done, Refused}
+use Rattle.study.specs.Study.{size, validMinima}
+use Rattle.study.specs.Refusals.{number, Verdict, accepted, refused, verdictOf, numbered, firstOf}
 use Rattle.file_format.specs.Bits.{binary, bitAt, bitsAt}
 use Rattle.file_format.specs.File.{bitLength, byteLength, minimaAt, decoded, headReasons}
 use Rattle.file_format.proofs.DecodedLaws.{decoded-size}
-use Rattle.file_format.specs.Head.{Head}
-use Rattle.bit_reader.specs.declared.Start.{Start}
-use Rattle.bit_reader.specs.declared.Start.the-variants as StartCase
-use Rattle.bit_reader.specs.Fields.{fieldAt, startOf}
-use Rattle.bit_reader.proofs.FieldLaws.{FieldGot, got-start}
+use Rattle.bit_reader.specs.declared.Place.{Place}
+use Rattle.bit_reader.specs.Fields.{BitsRead, FieldGot}
 use Rattle.validity.specs.Memory.{setK, setSize, setMinima, setCount, recordOf}
 use Rattle.lists.proofs.Scans.{between-in}
 use Rattle.study_file.proofs.Lengths.{length-sum}
-use Rattle.study_file.specs.Loading.{Begun}
+use Rattle.study_file.specs.declared.head.Start.the-variants as StartCase
+use Rattle.study_file.specs.declared.head.HeadRead.{HeadRead}
+use Rattle.study_file.specs.Heading.{Marked, Begun, StartGot, minimumAt, RecordBegins, HeadRecord, HeadGot}
 
 -- ---- the minima and the record
 
@@ -34,37 +36,40 @@ drop-replicate x zero n = let e : n ≡ n - 0 = omega arith in ap (λ m. replica
 drop-replicate x (suc k) zero = let e : 0 ≡ 0 - suc k = omega arith in ap (λ m. replicate m x) e
 drop-replicate x (suc k) (suc n) = let e : n - k ≡ suc n - suc k = omega arith in drop-replicate x k n ∙ ap (λ m. replicate m x) e
 
-pub minima-read : (s : List ℕ) {k j b0 : ℕ} {b : List ℕ} → j ≡ k → b0 ≡ bitsAt s 19 7
-    → b ≡ overwrite j (λ (i : ℕ). bitsAt s (42 + 7 * i) 7) (replicate 8 0) → _≡_ {A = Minima} (record { b0 = b0; b = b }) (minimaAt s k)
+pub minima-read : (s : List ℕ) (k : ℕ) {b0 : ℕ} {b : List ℕ} → b0 ≡ bitsAt s 19 7 → b ≡ overwrite k (minimumAt s) (replicate 8 0)
+    → _≡_ {A = Minima} (record { b0 = b0; b = b }) (minimaAt s k)
 unfolding minimaAt overwrite
-minima-read s {k} {j} {b0} {b} q e f =
-    ap₂ (λ (x : ℕ) (y : List ℕ). record { b0 = x; b = y }) e
-    (f ∙ ap (λ z. tabulate z (λ (i : ℕ). bitsAt s (42 + 7 * i) 7) ++ drop z (replicate 8 0)) q
-    ∙ ap (λ ys. tabulate k (λ (i : ℕ). bitsAt s (42 + 7 * i) 7) ++ ys) (drop-replicate 0 k 8))
+minima-read s k {b0} {b} e f =
+    ap₂ (λ (x : ℕ) (y : List ℕ). record { b0 = x; b = y }) e (f ∙ ap (λ ys. tabulate k (minimumAt s) ++ ys) (drop-replicate 0 k 8))
 
-pub record-read : (s : List ℕ) (r : Dataset) {n k w : ℕ} {M : Minima} → n ≡ bitsAt s 8 7 → k ≡ bitsAt s 15 4 → w ≡ bitsAt s 26 16 → M ≡ minimaAt s k
-    → setK k (setSize n (setMinima M (setCount w r))) ≡ recordOf (decoded s) r
-unfolding recordOf decoded
-record-read s r {n} {k} {w} {M} a b c e =
-    let f : M ≡ minimaAt s (bitsAt s 15 4) = e ∙ ap (minimaAt s) b in
-    λ i. setK (b i) (setSize ((a ∙ sym (decoded-size s)) i) (setMinima (f i) (setCount (c i) r)))
+pub record-read : {s : List ℕ} {k n : ℕ} {p : Place} → RecordBegins s k n p → (r : Dataset) {w : ℕ} {M : Minima} {q : Place} → w ≡ bitsAt s 26 16
+    → M ≡ minimaAt s k → BitsRead q (42 + 7 * k) → HeadRecord s r (setK k (setSize n (setMinima M (setCount w r)))) q
+unfolding recordOf decoded bitLength
+record-read {s} {k} {n} R r {w} {M} c e here =
+    let B = R .begun in
+    let f : M ≡ minimaAt s (bitsAt s 15 4) = e ∙ ap (minimaAt s) (B .k-is) in
+    let count : n ≡ size (decoded s .study) = B .tides ∙ sym (decoded-size s) in
+    record {
+      is = λ i. setK (B .k-is i) (setSize (count i) (setMinima (f i) (setCount (c i) r)));
+      first = record { below = here .below; count = omega (arith, here .count, B .k-is) };
+    }
 
 -- no bits fill the last byte
 pub fill-none : (s : List ℕ) (end : ℕ) → 8 * length s - end ≡ 0 → true ≡ eqb (bitsAt s end (8 * length s - end)) 0
 unfolding binary
 fill-none s end e = sym (ap (λ w. eqb (binary (bitAt s) end w) 0) e)
 
+-- they begin in the last byte
+pub fill-begins : (s : List ℕ) (end : ℕ) → (8 * length s - end ≡ 0 → ⊥) → (end ≤ 8 * length s) × (8 * length s < end + 8) × (end ≤ 143258)
+    → BitsRead (record { byte = length s - 1; bit = 8 - (8 * length s - end) }) end
+fill-begins s end some inside =
+    let more : 1 ≤ 8 * length s - end = at-least-one (8 * length s - end) some in
+    record { below = omega (arith, inside .0, inside .1); count = omega (arith, inside .0, inside .1) }
+  where
+    at-least-one : (x : ℕ) → (x ≡ 0 → ⊥) → 1 ≤ x
+    at-least-one x f = omega (arith, f)
+
 -- ---- the reasons, in order
-
--- the mark and the number of tides, of a file that has them
-pub record Started (s : List ℕ) (m n : ℕ) : Type 0 where
-  pub six : 6 ≤ length s
-  pub mark : m ≡ bitsAt s 0 8
-  pub tides : n ≡ bitsAt s 8 7
-
-pub started : {s : List ℕ} {r : Start} {m n : ℕ} → 6 ≤ length s → r ≡ startOf (fieldAt s 0 8) (fieldAt s 8 7) → r ≡ StartCase.Fields m n
-    → Started s m n
-started {s} {r} {m} {n} h e q = let g : FieldGot s 0 8 m × FieldGot s 8 7 n = got-start e q in record { six = h; mark = g .0 .is; tides = g .1 .is }
 
 -- the tests of these reasons, where they have passed
 past-8 : (s : List ℕ) → 6 ≤ length s → ltb (length s) 6 ≡ false
@@ -73,33 +78,63 @@ past-8 s h = T-false (ltb (length s) 6) (le→nltb (length s) 6 h)
 past-10 : (s : List ℕ) {n : ℕ} → n ≡ bitsAt s 8 7 → n ≤ 120 → ltb 120 (bitsAt s 8 7) ≡ false
 past-10 s e h = T-false (ltb 120 (bitsAt s 8 7)) (le→nltb 120 (bitsAt s 8 7) (subst (λ z. z ≤ 120) e h))
 
-pub head-short : (s : List ℕ) → length s < 6 → refused (number 8) ≡ firstOf (headReasons s)
+-- before the first bit none is read
+pub first-place : BitsRead (record { byte = 0; bit = 0 }) 0
+first-place = record { below = lit< tt; count = refl }
+
+-- the start is refused, or read
+module _ {s : List ℕ} where
+  start-stops : {why : Refusal} → refused (numbered why) ≡ firstOf (headReasons s) → StartGot s (StartCase.Refused why)
+  start-stops {why} e = record { goes = λ q. absurd (never q); stops = λ q. same q }
+    where
+      never : {n k : ℕ} {p : Place} → StartCase.Refused why ≡ StartCase.Fields n k p → ⊥
+      never q = let z : _≡_ {A = ℕ} 0 1 = cc in omega arith
+
+      same : {x : Refusal} → StartCase.Refused why ≡ StartCase.Refused x → refused (numbered x) ≡ firstOf (headReasons s)
+      same {x} q = let i : x ≡ why = cc in ap (λ r. refused (numbered r)) i ∙ e
+
+  start-goes : {n k : ℕ} {p : Place} → Begun s k n → BitsRead p 19 → StartGot s (StartCase.Fields n k p)
+  start-goes {n} {k} {p} B here = record { goes = λ q. same q; stops = λ q. absurd (never q) }
+    where
+      never : {why : Refusal} → StartCase.Fields n k p ≡ StartCase.Refused why → ⊥
+      never q = let z : _≡_ {A = ℕ} 0 1 = cc in omega arith
+
+      same : {m j : ℕ} {x : Place} → StartCase.Fields n k p ≡ StartCase.Fields m j x → Begun s j m × BitsRead x 19
+      same {m} {j} {x} q =
+          let a : n ≡ m = cc in
+          let b : k ≡ j = cc in
+          let c : p ≡ x = cc in (subst (λ i. Begun s i m) b (subst (Begun s k) a B), subst (λ y. BitsRead y 19) c here)
+
+pub start-short : (s : List ℕ) → length s < 6 → StartGot s (StartCase.Refused RefusalCase.FileLength)
 unfolding headReasons firstOf
-head-short s l = rw (T-true (ltb (length s) 6) (lt→ltb (length s) 6 l))
+start-short s l = start-stops (rw (T-true (ltb (length s) 6) (lt→ltb (length s) 6 l)))
 
-module _ {s : List ℕ} {m n : ℕ} (B : Started s m n) where
-  pub head-mark : (m ≡ 84 → ⊥) → refused (number 9) ≡ firstOf (headReasons s)
+module _ {s : List ℕ} {m : ℕ} {p : Place} (six : 6 ≤ length s) (g : FieldGot s 0 8 m p) where
+  pub start-mark : (m ≡ 84 → ⊥) → StartGot s (StartCase.Refused RefusalCase.Mark)
   unfolding headReasons firstOf
-  head-mark f = rw (past-8 s (B .six), ne-eqb (bitsAt s 0 8) 84 (λ e. f (B .mark ∙ e)))
+  start-mark f = start-stops (rw (past-8 s six, ne-eqb (bitsAt s 0 8) 84 (λ e. f (g .is ∙ e))))
 
-  module _ (marked : m ≡ 84) where
-    past-9 : eqb (bitsAt s 0 8) 84 ≡ true
-    past-9 = eq-eqb (bitsAt s 0 8) 84 (sym (B .mark) ∙ marked)
+  pub marked : m ≡ 84 → Marked s p
+  marked e = record { six = six; mark = sym (g .is) ∙ e; here = g .past }
 
-    pub head-count : 120 < n → refused (number 10) ≡ firstOf (headReasons s)
+module _ {s : List ℕ} {p : Place} (M : Marked s p) {n : ℕ} {q : Place} (g : FieldGot s 8 7 n q) where
+  past-9 : eqb (bitsAt s 0 8) 84 ≡ true
+  past-9 = eq-eqb (bitsAt s 0 8) 84 (M .mark)
+
+  pub start-count : 120 < n → StartGot s (StartCase.Refused RefusalCase.TideCount)
+  unfolding headReasons firstOf
+  start-count l =
+      let many : ltb 120 (bitsAt s 8 7) ≡ true = T-true _ (lt→ltb 120 (bitsAt s 8 7) (subst (λ z. 120 < z) (g .is) l)) in
+      start-stops (rw (past-8 s (M .six), past-9, many))
+
+  module _ (few : n ≤ 120) {k : ℕ} {r : Place} (h : FieldGot s 15 4 k r) where
+    pub start-k : between 1 8 k ≡ false → StartGot s (StartCase.Refused RefusalCase.SettingCount)
     unfolding headReasons firstOf
-    head-count l =
-        let many : ltb 120 (bitsAt s 8 7) ≡ true = T-true _ (lt→ltb 120 (bitsAt s 8 7) (subst (λ z. 120 < z) (B .tides) l)) in
-        rw (past-8 s (B .six), past-9, many)
+    start-k f = start-stops (rw (past-8 s (M .six), past-9, past-10 s (g .is) few, ap (between 1 8) (sym (h .is)) ∙ f))
 
-    module _ (few : n ≤ 120) {k : ℕ} (e : k ≡ bitsAt s 15 4) where
-      pub head-k : between 1 8 k ≡ false → refused (number 2) ≡ firstOf (headReasons s)
-      unfolding headReasons firstOf
-      head-k f = rw (past-8 s (B .six), past-9, past-10 s (B .tides) few, ap (between 1 8) (sym e) ∙ f)
-
-      pub begun : 1 ≤ k → k ≤ 8 → Begun s k n
-      begun l h =
-          record { six = B .six; mark = sym (B .mark) ∙ marked; tides = B .tides; few = few; k-is = e; low = l; high = h }
+    pub begun : 1 ≤ k → k ≤ 8 → StartGot s (StartCase.Fields n k r)
+    begun l u =
+        start-goes record { six = M .six; mark = M .mark; tides = g .is; few = few; k-is = h .is; low = l; high = u } (h .past)
 
 -- ---- the length, the minima and the last byte
 
@@ -133,12 +168,16 @@ module _ {s : List ℕ} {k n : ℕ} where
         ap₂ (λ x y. eqb (bitsAt s (bitLength x y) (8 * length s - bitLength x y)) 0) (sym (B .k-is)) (sym (B .tides)) ∙ c,
       )
 
-  module _ (B : Begun s k n) {size : ℕ} (e : size ≡ byteLength k n) where
-    pub head-length : (length s ≡ size → ⊥) → refused (number 8) ≡ firstOf (headReasons s)
-    head-length f = by-tests B false _ _ (ne-eqb (length s) (byteLength k n) (λ q. f (q ∙ sym e))) refl refl
+  module _ (B : Begun s k n) {bits : ℕ} (e : bits ≡ bitLength k n) {v : Bool} (tested : v ≡ eqb (length s) ((bits + 7) / 8)) where
+    long-test : {b : Bool} → v ≡ b → eqb (length s) (byteLength k n) ≡ b
+    unfolding byteLength
+    long-test q = ap (λ x. eqb (length s) ((x + 7) / 8)) (sym e) ∙ sym tested ∙ q
 
-    pub whole : length s ≡ size → Whole s k n
-    whole q = record { begun = B; long = q ∙ e }
+    pub head-length : not v ≡ true → refused (number 8) ≡ firstOf (headReasons s)
+    head-length q = by-tests B false _ _ (long-test (not-true v q)) refl refl
+
+    pub whole : not v ≡ false → Whole s k n
+    whole q = record { begun = B; long = eqb-true (length s) (byteLength k n) (long-test (not-false v q)) }
 
   module _ (W : Whole s k n) where
     abbrev B : Begun s k n
@@ -148,38 +187,48 @@ module _ {s : List ℕ} {k n : ℕ} where
     is-long = eq-eqb (length s) (byteLength k n) (W .long)
 
     -- the fields before the tides are inside, and the last byte begins before the end
-    pub minima-inside : (k ≤ 8) × (42 + 7 * k ≤ 8 * length s)
+    pub record-begins : {p : Place} → BitsRead p 19 → RecordBegins s k n p
     unfolding byteLength
-    minima-inside = let t = length-sum k n (B .high) (B .few) in (B .high, omega (arith, W .long, t .first))
+    record-begins here =
+        let t = length-sum k n (B .high) (B .few) in
+        record { begun = B; here = here; inside = omega (arith, W .long, t .first) }
 
     pub fill-inside : {end : ℕ} → end ≡ bitLength k n → (end ≤ 8 * length s) × (8 * length s < end + 8) × (end ≤ 143258)
     unfolding byteLength
     fill-inside q = let t = length-sum k n (B .high) (B .few) in (omega (arith, W .long), omega (arith, W .long), omega (arith, t .most))
 
-    module _ {M : Minima} (is : M ≡ minimaAt s k) {v : Bool} (tested : v ≡ validMinima k M) where
+    module _ {old next : Dataset} {p : Place} (H : HeadRecord s old next p) {v : Bool} (tested : v ≡ validMinima (next .k) (next .minima)) where
       good : {b : Bool} → v ≡ b → validMinima k (minimaAt s k) ≡ b
-      good q = ap (validMinima k) (sym is) ∙ sym tested ∙ q
+      unfolding recordOf decoded
+      good q =
+          ap (λ x. validMinima x (minimaAt s x)) (B .k-is)
+          ∙ sym (ap (λ (r : Dataset). validMinima (r .k) (r .minima)) (H .is))
+          ∙ sym tested ∙ q
 
-      pub head-minima : v ≡ false → refused (number 3) ≡ firstOf (headReasons s)
-      head-minima q = by-tests B true false _ is-long (good q) refl
+      pub head-minima : not v ≡ true → refused (number 3) ≡ firstOf (headReasons s)
+      head-minima q = by-tests B true false _ is-long (good (not-true v q)) refl
 
-      pub sound : v ≡ true → HeadSound s k n
-      sound q = record { whole = W; minima = good q }
+      pub sound : not v ≡ false → HeadSound s k n
+      sound q = record { whole = W; minima = good (not-false v q) }
 
   module _ (G : HeadSound s k n) {end : ℕ} (ends : end ≡ bitLength k n) {w : Bool} (fill : w ≡ eqb (bitsAt s end (8 * length s - end)) 0) where
     filled : {b : Bool} → w ≡ b → eqb (bitsAt s (bitLength k n) (8 * length s - bitLength k n)) 0 ≡ b
     filled q = ap (λ p. eqb (bitsAt s p (8 * length s - p)) 0) (sym ends) ∙ sym fill ∙ q
 
-    pub head-fill : w ≡ false → refused (number 11) ≡ firstOf (headReasons s)
-    head-fill q = by-tests (G .whole .begun) true true false (is-long (G .whole)) (G .minima) (filled q)
+    pub head-fill : not w ≡ true → refused (number 11) ≡ firstOf (headReasons s)
+    head-fill q = by-tests (G .whole .begun) true true false (is-long (G .whole)) (G .minima) (filled (not-true w q))
 
-    pub head-done : w ≡ true → accepted ≡ firstOf (headReasons s)
-    head-done q = by-tests (G .whole .begun) true true true (is-long (G .whole)) (G .minima) (filled q)
+    pub head-done : not w ≡ false → accepted ≡ firstOf (headReasons s)
+    head-done q = by-tests (G .whole .begun) true true true (is-long (G .whole)) (G .minima) (filled (not-false w q))
 
--- ---- where all have passed
+-- ---- what the code answers
 
-pub record-minima : {s : List ℕ} {k : ℕ} → Head s → k ≡ bitsAt s 15 4 → (k ≤ 8) × (42 + 7 * k ≤ 8 * length s)
-unfolding byteLength
-record-minima {s} {k} h e =
-    let t = length-sum (bitsAt s 15 4) (bitsAt s 8 7) (h .k-high) (h .few) in
-    (omega (arith, h .k-high), omega (arith, h .long, t .first))
+module _ {s : List ℕ} {old : Dataset} {r : HeadRead} where
+  pub head-stops : {why : Refusal} → r .answer ≡ Refused why → refused (numbered why) ≡ firstOf (headReasons s) → HeadGot s old r
+  head-stops {why} e f = record { verdict = ap verdictOf e ∙ f; goes = λ q. absurd (never (sym q ∙ e)) }
+    where
+      never : Done ≡ Refused why → ⊥
+      never q = let z : _≡_ {A = ℕ} 0 1 = cc in omega arith
+
+  pub head-goes : r .answer ≡ Done → accepted ≡ firstOf (headReasons s) → HeadRecord s old (r .dataset) (r .place) → HeadGot s old r
+  head-goes e f H = record { verdict = ap verdictOf e ∙ f; goes = λ _. H }

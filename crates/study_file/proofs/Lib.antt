@@ -4,6 +4,7 @@ pub mod WritingLaws
 pub mod PuttingLaws
 pub mod WriteCallLaws
 pub mod LoadingLaws
+pub mod AdvanceLaws
 pub mod HeadLaws
 pub mod RowLaws
 pub mod ReadCallLaws

@@ -20,7 +20,9 @@ use Rattle.file_format.proofs.ReadLaws.{head-T, refused-head}
 use Rattle.validity.specs.Memory.{State, stateOf, short, recordOf, stored}
 use Rattle.dataset.specs.Answers.{freshAnswer, freshLeaves}
 use Rattle.study_file.specs.Answers.{readAnswer, readLeaves}
-use Rattle.study_file.specs.Loading.{Loaded, Reading}
+use Rattle.bit_reader.specs.declared.Place.{Place}
+use Rattle.study_file.specs.Heading.{HeadRecord}
+use Rattle.study_file.specs.Loading.{Loaded, Reading, TidesRead}
 use Rattle.study_file.proofs.LoadingLaws.{loaded-none, loaded-accepted, copied-distances, copied-settings}
 
 -- ---- on the way
@@ -39,17 +41,20 @@ blank x n i e =
 
 -- where the reasons before any tide have passed
 module _ (s : List ℕ) {a : Answer} (verdict : verdictOf a ≡ firstOf (headReasons s)) (q : a ≡ Done) where
-  pub head-passed : Head s
+  head-passed : Head s
   head-passed = head-T s .0 (sym verdict ∙ ap verdictOf q)
 
-  pub tides-begin : (o : Dataset) {r : Dataset} → r ≡ recordOf (decoded s) o → {matrix vector : List ℕ} → matrix ≡ replicate 14400 0 → vector ≡ replicate 120 0
-      → (r .k ≡ bitsAt s 15 4) × (r .n ≡ bitsAt s 8 7) × Loaded s 0 matrix vector
-  tides-begin o e {matrix} {vector} x y = (
-    k-is s o e,
-    count-is s o e,
-    loaded-none s matrix vector head-passed (sym verdict ∙ ap verdictOf q)
-        (ap length x ∙ length-replicate {A = ℕ} 14400 0) (ap length y ∙ length-replicate {A = ℕ} 120 0)
-        (λ i. ap (λ (l : List ℕ). getD l i 0) x ∙ blank 0 14400 i refl) (λ i. ap (λ (l : List ℕ). getD l i 0) y ∙ blank 0 120 i refl),
+  pub tides-begin : {o r : Dataset} {p : Place} → HeadRecord s o r p → {matrix vector : List ℕ} → matrix ≡ replicate 14400 0 → vector ≡ replicate 120 0
+      → (r .k ≡ bitsAt s 15 4) × (r .n ≡ bitsAt s 8 7) × TidesRead s 0 p matrix vector
+  tides-begin {o} H {matrix} {vector} x y = (
+    k-is s o (H .is),
+    count-is s o (H .is),
+    record {
+      loaded = loaded-none s matrix vector head-passed (sym verdict ∙ ap verdictOf q)
+          (ap length x ∙ length-replicate {A = ℕ} 14400 0) (ap length y ∙ length-replicate {A = ℕ} 120 0)
+          (λ i. ap (λ (l : List ℕ). getD l i 0) x ∙ blank 0 14400 i refl) (λ i. ap (λ (l : List ℕ). getD l i 0) y ∙ blank 0 120 i refl);
+      here = H .first;
+    },
   )
 
 -- ---- the ways out

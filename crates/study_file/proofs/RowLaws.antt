@@ -1,6 +1,7 @@
 -- A row of distances taken from a file into memory and tested, and what a tide makes of the reading. Assumes nothing.
 use Prim.Native.Nat.{ℕ, _+_, _*_, _≤_, _<_}
 use native.Mathlib.Omega.{arith}
+use native.Mathlib.Numerals.{add-one}
 use mathlib.Core.Path.{_≡_, refl, sym, ap, ap₂, _∙_, subst}
 use mathlib.Core.List.{List, [], _∷_}
 use lib.ListN.{length, getD, set}
@@ -10,25 +11,31 @@ use Rattle.study.specs.declared.Refusal.{Refusal}
 use Rattle.study.specs.declared.Refusal.the-variants as RefusalCase
 use Rattle.study.specs.declared.Answer.{Answer}
 use Rattle.study.specs.declared.Answer.the-variants.{Done, Refused}
-use Rattle.study.specs.Refusals.{seven, accepted, refused}
+use Rattle.study.specs.Refusals.{seven, accepted, refused, verdictOf}
 use Rattle.study.specs.Calls.{Pair, violations}
 use Rattle.file_format.specs.Bits.{bitsAt}
 use Rattle.file_format.specs.File.{bitLength, byteLength, tideAt}
-use Rattle.bit_reader.proofs.FieldLaws.{FieldGot}
+use Rattle.bit_reader.specs.declared.Place.{Place}
+use Rattle.bit_reader.specs.Fields.{BitsRead, FieldGot}
 use Rattle.triangle.specs.declared.Violation.{Violation}
 use Rattle.triangle.specs.declared.Violation.the-variants as ViolationCase
 use Rattle.triangle.specs.Pairs.{violationOf}
 use Rattle.triangle.proofs.PairLaws.{rowIn, part-found}
+use Rattle.file_format.proofs.FileLaws.{bitLength-suc}
 use Rattle.storage.specs.Places.{withRow}
 use Rattle.storage.proofs.PlaceLaws.{row-more}
 use Rattle.study_file.proofs.Lengths.{length-sum, bitLength-up}
-use Rattle.study_file.specs.Loading.{Loaded, Reading, violationVerdict}
+use Rattle.study_file.specs.declared.progress.Progress.{Progress}
+use Rattle.study_file.specs.declared.progress.Progress.the-variants as ProgressCase
+use Rattle.study_file.specs.Advance.{answerOf}
+use Rattle.study_file.specs.Loading.{Loaded, Reading, TidesRead, TideRead, violationVerdict}
+use Rattle.study_file.proofs.AdvanceLaws.{same-place, never-refused}
 use Rattle.study_file.proofs.LoadingLaws.{reached, stopped, turn-five, turn-seven, turn-next}
-use Rattle.study_file.specs.Rows.{rowAt, RowInside, RowRead}
+use Rattle.study_file.specs.Rows.{rowAt, rowStart, RowInside, RowBegins, RowRead}
 
 -- ---- taken
 
-pub row-taken : (s : List ℕ) (start : ℕ) {t i x : ℕ} (l : List ℕ) {matrix : List ℕ} → i < t → FieldGot s (start + 20 * i) 20 x
+pub row-taken : (s : List ℕ) (start : ℕ) {t i x : ℕ} {next : Place} (l : List ℕ) {matrix : List ℕ} → i < t → FieldGot s (start + 20 * i) 20 x next
     → matrix ≡ withRow (rowAt s start t) i l → set (set matrix (t * 120 + i) x) (i * 120 + t) x ≡ withRow (rowAt s start t) (i + 1) l
 row-taken s start {t} {i} {x} l {matrix} h g e =
     ap₂ (λ (n v : ℕ). set (set matrix (n * 120 + i) v) (i * 120 + n) v)
@@ -54,66 +61,102 @@ module _ (d : List ℕ) (t : ℕ) (fits : 14400 ≤ length d) (few : t < 120) {r
   pub row-obeys : r ≡ ViolationCase.Nothing → accepted ≡ violationVerdict (violations (cell d) t (cell d t))
   row-obeys q = none-told (violations (cell d) t (cell d t)) (sym (part-found d t fits few e) ∙ q)
 
+-- a row that is taken and tested
+module _ {s : List ℕ} {t : ℕ} {old new : List ℕ} (laid : new ≡ withRow (rowAt s (rowStart s t) t) t old) {a : Answer}
+    (e : verdictOf a ≡ violationVerdict (violations (cell new) t (cell new t))) where
+  pub row-stops : {why : Refusal} → a ≡ Refused why → RowRead s t old new (ProgressCase.Refused why)
+  row-stops q = record { laid = laid; verdict = sym (ap verdictOf q) ∙ e; past = λ f. absurd (never-refused (sym f)) }
+
+  pub row-goes : {p : Place} → BitsRead p (rowStart s t + 20 * t) → a ≡ Done → RowRead s t old new (ProgressCase.To p)
+  row-goes here q =
+      record { laid = laid; verdict = sym (ap verdictOf q) ∙ e; past = λ f. subst (λ x. BitsRead x (rowStart s t + 20 * t)) (same-place f) here }
+
 -- ---- a tide, at each way out of the code
 
--- t tides are loaded, tide t begins at start, and its fields are inside the file
-pub record AtTide (s : List ℕ) (k t start : ℕ) (matrix vector : List ℕ) : Type 0 where
-  pub loaded : Loaded s t matrix vector
+-- the first t tides are read, and the fields of the next one are inside the file
+pub record AtTide (s : List ℕ) (k t : ℕ) (p : Place) (matrix vector : List ℕ) : Type 0 where
+  pub read : TidesRead s t p matrix vector
   pub k-is : k ≡ bitsAt s 15 4
   pub more : t < bitsAt s 8 7
-  pub begins : start ≡ bitLength (bitsAt s 15 4) t
-  pub setting : start + 3 ≤ 8 * length s
-  pub row : RowInside s matrix (start + 3) t
+  pub setting : bitLength (bitsAt s 15 4) t + 3 ≤ 8 * length s
+  pub low : bitLength (bitsAt s 15 4) t ≤ 143258
+  pub row : RowInside s matrix (rowStart s t) t
 
-pub at-tide : {s : List ℕ} {k t start : ℕ} {matrix vector : List ℕ} → (k ≡ bitsAt s 15 4) × (t < bitsAt s 8 7) × Loaded s t matrix vector
-    → start ≡ bitLength k t → AtTide s k t start matrix vector
+pub at-tide : {s : List ℕ} {k t : ℕ} {p : Place} {matrix vector : List ℕ}
+    → (k ≡ bitsAt s 15 4) × (t < bitsAt s 8 7) × TidesRead s t p matrix vector → AtTide s k t p matrix vector
 unfolding byteLength
-at-tide {s} {k} {t} {start} pre e =
-    let h = pre .2 .head in
-    let begins : start ≡ bitLength (bitsAt s 15 4) t = e ∙ ap (λ z. bitLength z t) (pre .0) in
+at-tide {s} {k} {t} pre =
+    let h = pre .2 .loaded .head in
     let up = bitLength-up (bitsAt s 15 4) t (bitsAt s 8 7) (pre .1) in
     let few : t ≤ 120 = omega (arith, h .few, pre .1) in
     let sum = length-sum (bitsAt s 15 4) t (h .k-high) few in
     record {
-      loaded = pre .2;
+      read = pre .2;
       k-is = pre .0;
       more = pre .1;
-      begins = begins;
-      setting = omega (arith, h .long, begins);
+      setting = omega (arith, h .long);
+      low = sum .most;
       row = record {
         few = omega (arith, h .few, pre .1);
-        long = pre .2 .long;
-        inside = omega (arith, h .long, begins);
-        low = omega (arith, begins, sum .most);
+        long = pre .2 .loaded .long;
+        inside = omega (arith, h .long);
+        low = omega (arith, sum .most);
       };
     }
 
-module _ {s : List ℕ} {k t start : ℕ} {matrix vector : List ℕ} (A : AtTide s k t start matrix vector) {less : ℕ} (g : FieldGot s start 3 less) where
-  read : less ≡ bitsAt s (bitLength (bitsAt s 15 4) t) 3
-  read = g .is ∙ ap (λ p. bitsAt s p 3) (A .begins)
+module _ {s : List ℕ} {k t : ℕ} {p : Place} {matrix vector : List ℕ} (A : AtTide s k t p matrix vector) {less : ℕ} {next : Place}
+    (g : FieldGot s (bitLength (bitsAt s 15 4) t) 3 less next) where
+  abbrev loaded : Loaded s t matrix vector
+  loaded = A .read .loaded
 
-  pub tide-five : k ≤ less → Reading s (t + 1) (Refused RefusalCase.Setting) matrix vector
-  tide-five h = stopped refl (turn-five s t (A .more) matrix vector (A .loaded) less read (omega (arith, A .k-is)))
+  -- no place follows a refusal
+  refused-tide : {why : Refusal} {m v : List ℕ} → Reading s (t + 1) (Refused why) m v → TideRead s (t + 1) (ProgressCase.Refused why) m v
+  refused-tide R = record { reading = R; past = λ e. absurd (never-refused (sym e)) }
 
-  module _ (fits : less < k) {new : List ℕ} {a : Answer} (r : RowRead s (start + 3) t matrix new a) where
+  pub tide-five : k ≤ less → TideRead s (t + 1) (ProgressCase.Refused RefusalCase.Setting) matrix vector
+  tide-five h = refused-tide (stopped refl (turn-five s t (A .more) matrix vector loaded less (g .is) (omega (arith, A .k-is))))
+
+  pub row-begins : RowBegins s matrix t next
+  row-begins = record { here = g .past; inside = A .row }
+
+  module _ (fits : less < k) {new : List ℕ} {r : Progress} (row : RowRead s t matrix new r) where
     small : less < bitsAt s 15 4
     small = omega (arith, A .k-is)
 
     laid : new ≡ withRow (tideAt s (bitsAt s 15 4) t .row) t matrix
     unfolding tideAt
-    laid = r .laid ∙ ap (λ p. withRow (rowAt s (p + 3) t) t matrix) (A .begins)
+    laid = row .laid
 
-    pub tide-stops : {why : Refusal} → a ≡ Refused why → Reading s (t + 1) a new vector
-    tide-stops q = stopped q (turn-seven s t (A .more) matrix vector (A .loaded) less read small new laid a (r .verdict) q)
+    pub tide-stops : {why : Refusal} → r ≡ ProgressCase.Refused why → TideRead s (t + 1) r new vector
+    tide-stops {why} q =
+        let told = ap answerOf q in
+        record {
+          reading = stopped told (turn-seven s t (A .more) matrix vector loaded less (g .is) small new laid (answerOf r) (row .verdict) told);
+          past = λ e. absurd (never-refused (sym e ∙ q));
+        }
 
-    pub tide-goes : a ≡ Done → Reading s (t + 1) Done new (set vector t (less + 1))
-    tide-goes q = reached (turn-next s t (A .more) matrix vector (A .loaded) less read small new laid a (r .verdict) q)
+    pub tide-goes : {q : Place} → r ≡ ProgressCase.To q → TideRead s (t + 1) (ProgressCase.To q) new (set vector t (less + 1))
+    tide-goes {q} e =
+        record {
+          reading = reached (turn-next s t (A .more) matrix vector loaded less (g .is) small new laid (answerOf r) (row .verdict) (ap answerOf e));
+          past = λ f. subst (λ x. BitsRead x (bitLength (bitsAt s 15 4) (t + 1))) (same-place f) next-tide;
+        }
+      where
+        next-tide : BitsRead q (bitLength (bitsAt s 15 4) (t + 1))
+        next-tide =
+            let past = row .past e in
+            let one-more : bitLength (bitsAt s 15 4) (t + 1) ≡ bitLength (bitsAt s 15 4) t + (3 + 20 * t) =
+            ap (bitLength (bitsAt s 15 4)) (add-one t) ∙ bitLength-suc (bitsAt s 15 4) t in
+            record { below = past .below; count = omega (arith, past .count) }
 
 -- ---- all tides
 
-module _ {s : List ℕ} {t n : ℕ} {matrix vector : List ℕ} where
-  pub reached-stops : {a : Answer} {why : Refusal} → Reading s t a matrix vector → a ≡ Refused why → Reading s n a matrix vector
-  reached-stops {why = why} r q = stopped q (r .stops why q)
+module _ {s : List ℕ} {t : ℕ} {matrix vector : List ℕ} {r : Progress} (R : TideRead s t r matrix vector) where
+  pub tides-stop : {n : ℕ} {a : Answer} {why : Refusal} → a ≡ answerOf r → r ≡ ProgressCase.Refused why → Reading s n a matrix vector
+  tides-stop e q = let told = ap answerOf q in stopped (e ∙ told) (R .reading .stops _ told)
 
-  pub reached-all : t ≡ n → Loaded s t matrix vector → Reading s n Done matrix vector
-  reached-all e L = reached (subst (λ z. Loaded s z matrix vector) e L)
+  pub tides-go : {p : Place} → r ≡ ProgressCase.To p → TidesRead s t p matrix vector
+  tides-go q = record { loaded = R .reading .goes (ap answerOf q); here = R .past q }
+
+pub reached-all : {s : List ℕ} {t n : ℕ} {p : Place} {matrix vector : List ℕ} → t ≡ n → TidesRead s t p matrix vector → Reading s n Done matrix vector
+reached-all {s} {matrix = matrix} {vector} e R = reached (subst (λ z. Loaded s z matrix vector) e (R .loaded))

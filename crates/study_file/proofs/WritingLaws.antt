@@ -14,7 +14,6 @@ use lib.Seq.{getD-append-add, getD-drop, getD-set-same, getD-set-other, ext-getD
 use Rattle.lists.specs.Lists.{over}
 use Rattle.lists.proofs.Tests.{test, split, cond-yes, cond-no}
 use Rattle.file_format.specs.Bits.{binary, bitsOf, packed, Bits}
-use Rattle.bit_reader.proofs.FieldLaws.{one-moved}
 use Rattle.file_format.proofs.BitLaws.{append-bit, binary-ext, binary-small, binary-zero, binary-split}
 use Rattle.file_format.proofs.BitLaws.{length-bitsOf, bitsOf-bit, bits-binary, length-pack, pack-at}
 use Rattle.study_file.specs.Writing.{InByte, Stands, Adds}
@@ -257,6 +256,12 @@ bits-mod (suc c) v =
     (ap (λ k. v % 2 ^ k / 2) e ∙ field v c 1)
     (ap (λ k. v % 2 ^ k % 2) e ∙ mod-mod-pow v c 1)
     ∙ ap (λ xs. xs ++ (v % 2 ∷ [])) (bits-mod c (v / 2))
+
+-- 1 moved up by a field's width
+pub one-moved : (w : ℕ) → w ≤ 20 → 1 * 2 ^ w % 4294967296 ≡ 2 ^ w
+one-moved w h =
+    let e : 1 * 2 ^ w ≡ 2 ^ w = omega arith in
+    ap (λ x. x % 4294967296) e ∙ mod-eq-of-lt (omega (arith, pow-mono {i = w} {j = 20} h))
 
 pub bits-small : (x c : ℕ) → c ≤ 20 → x % (1 * 2 ^ c % 4294967296) < 2 ^ c
 bits-small x c few = rw (one-moved c few) (mod-lt x (pow-pos c))

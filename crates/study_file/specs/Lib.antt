@@ -2,6 +2,8 @@
 pub mod Answers
 pub mod Writing
 pub mod Putting
+pub mod Advance
+pub mod Heading
 pub mod Loading
 pub mod Theorems
 pub mod Rows

@@ -4,27 +4,22 @@ use mathlib.Core.Path.{_≡_}
 use mathlib.Core.List.{List, [], _∷_}
 use lib.ListN.{length}
 use Rattle.lists.specs.Lists.{tabulate}
-use Rattle.study.specs.Limits.{maxTides, tableSize, maxSettings}
+use Rattle.study.specs.Limits.{maxTides, tableSize}
 use Rattle.study.specs.Study.{Contents}
 use Rattle.study.specs.Refusals.{Verdict, accepted, refused, firstOf, numbered}
 use Rattle.file_format.specs.Bits.{bitsAt}
-use Rattle.file_format.specs.File.{minimaAt, tideAt, readReasons}
+use Rattle.file_format.specs.File.{bitLength, minimaAt, tideAt, readReasons}
 use Rattle.file_format.specs.Head.{Head, Clear}
 use Rattle.validity.specs.Memory.{distancesOf, settingsOf}
 use Rattle.study.specs.declared.Refusal.{Refusal}
 use Rattle.study.specs.declared.Answer.{Answer}
 use Rattle.study.specs.declared.Answer.the-variants.{Done, Refused}
 use Rattle.study.specs.Calls.{Pair, firstViolation}
-
--- the reasons of the mark, the number of tides and k do not hold
-pub record Begun (s : List ℕ) (k n : ℕ) : Type 0 where
-  pub six : 6 ≤ length s
-  pub mark : bitsAt s 0 8 ≡ 84
-  pub tides : n ≡ bitsAt s 8 7
-  pub few : n ≤ maxTides
-  pub k-is : k ≡ bitsAt s 15 4
-  pub low : 1 ≤ k
-  pub high : k ≤ maxSettings
+use Rattle.bit_reader.specs.declared.Place.{Place}
+use Rattle.bit_reader.specs.Fields.{BitsRead}
+use Rattle.study_file.specs.declared.progress.Progress.{Progress}
+use Rattle.study_file.specs.declared.progress.Progress.the-variants as ProgressCase
+use Rattle.study_file.specs.Advance.{answerOf}
 
 -- the file's contents with its first t tides
 unfoldable pub part : List ℕ → ℕ → Contents
@@ -45,6 +40,16 @@ pub record Loaded (s : List ℕ) (t : ℕ) (matrix vector : List ℕ) : Type 0 w
 pub record Reading (s : List ℕ) (t : ℕ) (a : Answer) (matrix vector : List ℕ) : Type 0 where
   pub goes : a ≡ Done → Loaded s t matrix vector
   pub stops : (why : Refusal) → a ≡ Refused why → firstOf (readReasons s) ≡ refused (numbered why)
+
+-- the first t tides are read: memory holds them, and tide t would begin at p
+pub record TidesRead (s : List ℕ) (t : ℕ) (p : Place) (matrix vector : List ℕ) : Type 0 where
+  pub loaded : Loaded s t matrix vector
+  pub here : BitsRead p (bitLength (bitsAt s 15 4) t)
+
+-- the progress of a tide: an answer on the way, and the place past the first t tides
+pub record TideRead (s : List ℕ) (t : ℕ) (r : Progress) (matrix vector : List ℕ) : Type 0 where
+  pub reading : Reading s t (answerOf r) matrix vector
+  pub past : {p : Place} → r ≡ ProgressCase.To p → BitsRead p (bitLength (bitsAt s 15 4) t)
 
 -- the answer of a row, by the pairs that violate the triangle inequality with it
 abbrev pub violationVerdict : List Pair → Verdict

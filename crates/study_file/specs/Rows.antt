@@ -5,11 +5,16 @@ use mathlib.Core.List.{List}
 use lib.ListN.{length}
 use Rattle.lists.specs.Lists.{tabulate}
 use Rattle.study.specs.Limits.{cell, maxTides, tableSize}
-use Rattle.study.specs.declared.Answer.{Answer}
 use Rattle.study.specs.Refusals.{verdictOf}
 use Rattle.study.specs.Calls.{violations}
 use Rattle.file_format.specs.Bits.{bitsAt}
+use Rattle.file_format.specs.File.{bitLength}
+use Rattle.bit_reader.specs.declared.Place.{Place}
+use Rattle.bit_reader.specs.Fields.{BitsRead}
+use Rattle.study_file.specs.declared.progress.Progress.{Progress}
+use Rattle.study_file.specs.declared.progress.Progress.the-variants as ProgressCase
 use Rattle.storage.specs.Places.{withRow}
+use Rattle.study_file.specs.Advance.{answerOf}
 use Rattle.study_file.specs.Loading.{violationVerdict}
 
 -- the row of tide t from a position on is inside the file s, and the table d has all its places
@@ -23,7 +28,17 @@ pub record RowInside (s d : List ℕ) (start t : ℕ) : Type 0 where
 abbrev pub rowAt : List ℕ → ℕ → ℕ → List ℕ
 rowAt s start t = tabulate t (λ (i : ℕ). bitsAt s (start + 20 * i) 20)
 
--- tide t's row taken into memory, and its answer
-pub record RowRead (s : List ℕ) (start t : ℕ) (old new : List ℕ) (a : Answer) : Type 0 where
-  pub laid : new ≡ withRow (rowAt s start t) t old
-  pub verdict : verdictOf a ≡ violationVerdict (violations (cell new) t (cell new t))
+-- where the distances of tide t begin: past its setting
+abbrev pub rowStart : List ℕ → ℕ → ℕ
+rowStart s t = bitLength (bitsAt s 15 4) t + 3
+
+-- they begin at p and are inside the file, and the table has all its places
+pub record RowBegins (s d : List ℕ) (t : ℕ) (p : Place) : Type 0 where
+  pub here : BitsRead p (rowStart s t)
+  pub inside : RowInside s d (rowStart s t) t
+
+-- tide t's row is taken into memory and tested
+pub record RowRead (s : List ℕ) (t : ℕ) (old new : List ℕ) (r : Progress) : Type 0 where
+  pub laid : new ≡ withRow (rowAt s (rowStart s t) t) t old
+  pub verdict : verdictOf (answerOf r) ≡ violationVerdict (violations (cell new) t (cell new t))
+  pub past : {p : Place} → r ≡ ProgressCase.To p → BitsRead p (rowStart s t + 20 * t)

@@ -1,10 +1,10 @@
-// What stands in a file before its tides, and what Read looks at before any tide.
+// What stands in a file before its tides, field after field, and what Read tests before any tide.
 use crate::length::bit_length;
-use crate::length::byte_length;
+use crate::length::has_length;
+use crate::progress::Progress;
 use bit_reader::FieldValue;
-use bit_reader::Start;
+use bit_reader::Place;
 use bit_reader::read_field;
-use bit_reader::read_start;
 use study::Answer;
 use study::Dataset;
 use study::MAX_SETTINGS;
@@ -13,43 +13,126 @@ use study::Minima;
 use study::Refusal;
 use validity::valid_minima;
 ghost use mathlib.Core.Path.{_≡_};
-ghost use Prim.Native.Nat.{_+_, _-_, _*_, _^_, _≤_, _<_};
+ghost use Prim.Native.Nat.{_+_, _-_, _*_, _≤_, _<_};
 ghost use lib.Dec.{eqb};
 ghost use lib.ListN.{length};
-ghost use Rattle.study.specs.Limits.{maxSettings};
-ghost use Rattle.study.specs.Refusals.{verdictOf, firstOf};
+ghost use Rattle.lists.specs.Lists.{overwrite};
+ghost use Rattle.study.specs.declared.Answer.the-variants.{Done, Refused};
 ghost use Rattle.file_format.specs.Bits.{bitsAt};
-ghost use Rattle.file_format.specs.File.{minimaAt, decoded, headReasons};
-ghost use Rattle.file_format.specs.Head.{Head};
-ghost use Rattle.bit_reader.specs.Fields.{Askable};
-ghost use Rattle.validity.specs.Memory.{recordOf};
-ghost use Rattle.study_file.specs.Loading.{Begun};
+ghost use Rattle.bit_reader.specs.Fields.{BitsRead};
+ghost use Rattle.study_file.specs.Advance.{ReadTo};
+ghost use Rattle.study_file.specs.Heading.{Marked, Begun, StartGot, MinimaBegin, minimumAt, RecordBegins, HeadRecord, HeadGot};
 
-// The number in a field inside the file.
-fn number(file: &[u8], at: usize, width: usize) -> u32
-    requires { ⌜ Askable at width ⌝ }
-    requires { ⌜ at + width ≤ 8 * length (now file) ⌝ }
-    ensures { λ r. ⌜ (r ≡ bitsAt (now (file .entry)) at width) × (r < 2 ^ width) ⌝ }
-{
-    let FieldValue::Value(v) = read_field(file, at, width) else {
-        return 0;
-    };
-    v
+// The number of tides, k and the place past them, or why Read refuses them.
+pub enum Start {
+    Fields(usize, usize, Place),
+    Refused(Refusal),
 }
 
-// The minima of the file; those above k are 0.
-fn minima_of(file: &[u8], k: usize) -> Minima
-    requires { ⌜ (k ≤ maxSettings) × (42 + 7 * k ≤ 8 * length (now file)) ⌝ }
-    ensures { λ r. ⌜ r ≡ minimaAt (now (file .entry)) k ⌝ }
+// The answer before any tide; where it is Done, the record that the file gives and the place of its first tide.
+pub struct HeadRead {
+    pub answer: Answer,
+    pub dataset: Dataset,
+    pub place: Place,
+}
+
+// The number of tides and k: reasons 10, 2.
+fn read_counts(file: &[u8], place: Place) -> Start
+    requires { ⌜ Marked (now file) place ⌝ }
+    ensures { λ r. ⌜ StartGot (now (file .entry)) r ⌝ }
 {
-    let mut b = [0u8; MAX_SETTINGS];
+    let FieldValue::Value(tides, past_tides) = read_field(file, place, 7) else {
+        return Start::Refused(Refusal::FileLength);
+    };
+    let n = tides as usize;
+    if MAX_TIDES < n {
+        return Start::Refused(Refusal::TideCount);
+    }
+    let FieldValue::Value(settings, past_settings) = read_field(file, past_tides, 4) else {
+        return Start::Refused(Refusal::FileLength);
+    };
+    let k = settings as usize;
+    if k < 1 {
+        return Start::Refused(Refusal::SettingCount);
+    }
+    if MAX_SETTINGS < k {
+        return Start::Refused(Refusal::SettingCount);
+    }
+    Start::Fields(n, k, past_settings)
+}
+
+// The mark, the number of tides and k: reasons 8, 9, 10, 2.
+fn read_start(file: &[u8]) -> Start
+    ensures { λ r. ⌜ StartGot (now (file .entry)) r ⌝ }
+{
+    if file.len() < 6 {
+        return Start::Refused(Refusal::FileLength);
+    }
+    let first = Place { byte: 0, bit: 0 };
+    let FieldValue::Value(mark, past_mark) = read_field(file, first, 8) else {
+        return Start::Refused(Refusal::FileLength);
+    };
+    if mark != 0x54 {
+        return Start::Refused(Refusal::Mark);
+    }
+    read_counts(file, past_mark)
+}
+
+// The k minima, into memory of their own.
+fn take_minima(file: &[u8], place: Place, b: &mut [u8], k: usize) -> Progress
+    requires { ⌜ MinimaBegin (now file) (now b) k place ⌝ }
+    ensures { λ r. ⌜ ReadTo (42 + 7 * k) r × (now (b .exit) ≡ overwrite k (minimumAt (now (file .entry))) (now (b .entry))) ⌝ }
+{
+    let mut next = place;
     let mut j: usize = 0;
     while j < k {
-        b[j] = number(file, 42 + 7 * j, 7) as u8;
+        let FieldValue::Value(minimum, past) = read_field(file, next, 7) else {
+            return Progress::Refused(Refusal::FileLength);
+        };
+        b[j] = minimum as u8;
+        next = past;
         j += 1;
     }
-    let b0 = number(file, 19, 7) as u8;
-    Minima { b0, b }
+    Progress::To(next)
+}
+
+// Why the file is refused; the record is as it was.
+fn refused(why: Refusal, dataset: Dataset) -> HeadRead
+    ensures { λ r. ⌜ r .answer ≡ Refused why ⌝ }
+{
+    HeadRead {
+        answer: Answer::Refused(why),
+        dataset,
+        place: Place { byte: 0, bit: 0 },
+    }
+}
+
+// The record with what the file gives: beside n and k, b0, the withdrawals and the minima, those above k being 0.
+fn read_record(dataset: Dataset, file: &[u8], n: usize, k: usize, place: Place) -> HeadRead
+    requires { ⌜ RecordBegins (now file) k n place ⌝ }
+    ensures { λ r. ⌜ (r .answer ≡ Done) × HeadRecord (now (file .entry)) dataset (r .dataset) (r .place) ⌝ }
+{
+    let FieldValue::Value(b0, past_b0) = read_field(file, place, 7) else {
+        return refused(Refusal::FileLength, dataset);
+    };
+    let FieldValue::Value(withdrawn, past_withdrawn) = read_field(file, past_b0, 16) else {
+        return refused(Refusal::FileLength, dataset);
+    };
+    let mut b = [0u8; MAX_SETTINGS];
+    let Progress::To(first_tide) = take_minima(file, past_withdrawn, &mut b, k) else {
+        return refused(Refusal::FileLength, dataset);
+    };
+    let minima = Minima { b0: b0 as u8, b };
+    let mut next = dataset;
+    next.k = k as u8;
+    next.n = n;
+    next.minima = minima;
+    next.withdrawn = withdrawn as u16;
+    HeadRead {
+        answer: Answer::Done,
+        dataset: next,
+        place: first_tide,
+    }
 }
 
 // Whether the bits from `end` on, which fill the last byte, are zero.
@@ -61,66 +144,47 @@ fn filled(file: &[u8], end: usize) -> bool
     if width == 0 {
         return true;
     }
-    number(file, end, width) == 0
-}
-
-// The last of the reasons before any tide: 8, 3, 11.
-fn body_answer(file: &[u8], k: usize, n: usize) -> Answer
-    requires { ⌜ Begun (now file) k n ⌝ }
-    ensures { λ r. ⌜ verdictOf r ≡ firstOf (headReasons (now (file .entry))) ⌝ }
-{
-    if file.len() != byte_length(k, n) {
-        return Answer::Refused(Refusal::FileLength);
-    }
-    if !valid_minima(minima_of(file, k), k as u8) {
-        return Answer::Refused(Refusal::Minima);
-    }
-    if !filled(file, bit_length(k, n)) {
-        return Answer::Refused(Refusal::FillBits);
-    }
-    Answer::Done
-}
-
-// The reasons before any tide: 8, 9, 10, 2, and then those of `body_answer`.
-pub fn head_answer(file: &[u8]) -> Answer
-    ensures { λ r. ⌜ verdictOf r ≡ firstOf (headReasons (now (file .entry))) ⌝ }
-{
-    if file.len() < 6 {
-        return Answer::Refused(Refusal::FileLength);
-    }
-    let Start::Fields(mark, tides) = read_start(file) else {
-        return Answer::Refused(Refusal::FileLength);
+    let place = Place {
+        byte: file.len() - 1,
+        bit: 8 - width,
     };
-    if mark != 0x54 {
-        return Answer::Refused(Refusal::Mark);
-    }
-    let n = tides as usize;
-    if MAX_TIDES < n {
-        return Answer::Refused(Refusal::TideCount);
-    }
-    let k = number(file, 15, 4) as usize;
-    if k < 1 {
-        return Answer::Refused(Refusal::SettingCount);
-    }
-    if MAX_SETTINGS < k {
-        return Answer::Refused(Refusal::SettingCount);
-    }
-    body_answer(file, k, n)
+    let FieldValue::Value(fill, _) = read_field(file, place, width) else {
+        return false;
+    };
+    fill == 0
 }
 
-// The record with what an accepted file gives.
-pub fn record_of(dataset: Dataset, file: &[u8]) -> Dataset
-    requires { ⌜ Head (now file) ⌝ }
-    ensures { λ r. ⌜ r ≡ recordOf (decoded (now (file .entry))) dataset ⌝ }
+// The length, the minima and the last byte: reasons 8, 3, 11.
+fn read_rest(dataset: Dataset, file: &[u8], n: usize, k: usize, place: Place) -> HeadRead
+    requires { ⌜ Begun (now file) k n × BitsRead place 19 ⌝ }
+    ensures { λ r. ⌜ HeadGot (now (file .entry)) dataset r ⌝ }
 {
-    let n = number(file, 8, 7) as usize;
-    let k = number(file, 15, 4) as u8;
-    let minima = minima_of(file, k as usize);
-    let withdrawn = number(file, 26, 16) as u16;
-    let mut next = dataset;
-    next.k = k;
-    next.n = n;
-    next.minima = minima;
-    next.withdrawn = withdrawn;
-    next
+    let bits = bit_length(k, n);
+    if !has_length(file.len(), bits) {
+        return refused(Refusal::FileLength, dataset);
+    }
+    let head = read_record(dataset, file, n, k, place);
+    let answer = head.answer;
+    let Answer::Done = answer else {
+        return head;
+    };
+    let next = head.dataset;
+    if !valid_minima(next.minima, next.k) {
+        return refused(Refusal::Minima, dataset);
+    }
+    if !filled(file, bits) {
+        return refused(Refusal::FillBits, dataset);
+    }
+    head
+}
+
+// What stands before the tides.
+pub fn read_head(dataset: Dataset, file: &[u8]) -> HeadRead
+    ensures { λ r. ⌜ HeadGot (now (file .entry)) dataset r ⌝ }
+{
+    let start = read_start(file);
+    match start {
+        Start::Refused(why) => refused(why, dataset),
+        Start::Fields(n, k, place) => read_rest(dataset, file, n, k, place),
+    }
 }

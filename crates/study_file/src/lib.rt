@@ -1,10 +1,9 @@
 // Read and Write: for any record, memory and bytes of any length, the answer and what stands afterwards.
-use crate::head::head_answer;
-use crate::head::record_of;
-use crate::length::byte_length;
+use crate::head::read_head;
 use crate::memory::copy_distances;
 use crate::memory::copy_settings;
 use crate::tides::read_tides;
+use crate::writing::byte_length;
 use crate::writing::put_fields;
 use dataset::check;
 use study::Answer;
@@ -18,6 +17,7 @@ use validity::is_short;
 mod head;
 mod length;
 mod memory;
+mod progress;
 mod tides;
 mod writing;
 
@@ -45,17 +45,25 @@ pub fn read(dataset: Dataset, distances: &mut [u32], settings: &mut [u8], file: 
             dataset,
         };
     }
-    let first = head_answer(file);
+    let head = read_head(dataset, file);
+    let first = head.answer;
     let Answer::Done = first else {
         return Outcome {
             answer: first,
             dataset,
         };
     };
-    let next = record_of(dataset, file);
+    let next = head.dataset;
     let mut matrix = [0u32; TABLE_SIZE];
     let mut vector = [0u8; MAX_TIDES];
-    let answer = read_tides(file, next.k as usize, next.n, &mut matrix, &mut vector);
+    let answer = read_tides(
+        file,
+        head.place,
+        next.k as usize,
+        next.n,
+        &mut matrix,
+        &mut vector,
+    );
     let Answer::Done = answer else {
         return Outcome { answer, dataset };
     };

@@ -13,11 +13,19 @@ ghost use lib.ListN.{length, getD};
 ghost use Rattle.lists.specs.Lists.{tabulate};
 ghost use Rattle.study.specs.Limits.{maxTides, cell, maxSettings};
 ghost use Rattle.file_format.specs.Bits.{field, bitsOf};
-ghost use Rattle.file_format.specs.File.{tideFields, fields, bitLength};
+ghost use Rattle.file_format.specs.File.{tideFields, fields, bitLength, byteLength};
 ghost use Rattle.validity.specs.Memory.{stateOf, entryState, tideOf, contentsOf};
 ghost use Rattle.study_file.specs.Writing.{InByte, Adds};
 ghost use Rattle.study_file.specs.Rows.{RowInside};
 ghost use Rattle.study_file.specs.Putting.{PutFields, Writable, TideInside, headFields};
+
+// The bytes of a file of n tides, the last one filled with zero bits.
+pub fn byte_length(k: usize, n: usize) -> usize
+    requires { ⌜ (k ≤ maxSettings) × (n ≤ maxTides) ⌝ }
+    ensures { λ r. ⌜ (r ≡ byteLength k n) × (r ≤ 17908) ⌝ }
+{
+    (bit_length(k, n) + 7) / 8
+}
 
 // What a byte keeps when its bits from j on are written.
 fn kept(x: u8, j: usize) -> u32

@@ -1,11 +1,26 @@
 -- `read` meets its contract: what refuses leaves record and memory as they are, and each way out has one law. Assumes nothing.
-use Rattle.study_file.proofs.ReadCallLaws.{head-passed, tides-begin, read-short, read-head, read-tide, read-done}
-use Rattle.validity.specs.Memory.{stateOf}
+use mathlib.Core.Bool.{false}
+use mathlib.Core.Path.{_≡_, refl}
+use Rattle.validity.specs.Memory.{State, stateOf, short}
 use Rattle.validity.proofs.LayoutLaws.{short-test}
-use mathlib.Core.Path.{refl}
+use Rattle.study_file.proofs.ReadCallLaws.{tides-begin, read-short, read-head, read-tide, read-done}
 use borrow.Author.Needs.{needs}
 use Rattle.study_file.proofs.read.Statement.{statement}
 use Rattle.study_file.proofs.read.Tie as tie
+
+-- where the function begins, from where memory is long enough; and what stands there
+abbrev entry-of : tie.Else1 → tie.Start
+entry-of c = c .before .before .before .before .before .before .before
+
+abbrev state-of : tie.Else1 → State
+state-of c = let args = entry-of c .args in stateOf (args .dataset) (args .distances .now) (args .settings .now)
+
+is-long : (c : tie.Else1) → short (state-of c) ≡ false
+is-long c = short-test (state-of c) (c .before .is-short .ensures .0) (c .if1 .left)
+
+-- where the head was read, from where the tides were
+abbrev at-head : tie.After-read-tides → tie.After-read-head
+at-head c = c .before .before .before .before .before .before .before
 
 returns : tie.Need-returns
 returns c =
@@ -15,48 +30,32 @@ returns c =
 
 returns-2 : tie.Need-returns-2
 returns-2 c =
-    let at-head = c .before .before in
-    let tested = at-head .before in
-    let args = tested .before .before .before .before .before .before .before .args in
-    let σ = stateOf (args .dataset) (args .distances .now) (args .settings .now) in
-    let long = short-test σ (tested .before .is-short .ensures .0) (tested .if1 .left) in
-    read-head σ (args .file .now) long (at-head .head-answer .ensures) (c .enum-told2 .given .1)
-
-record-of-requires : tie.Need-record-of-requires
-record-of-requires c κs =
-    let at-head = c .before .before in
-    let args = at-head .before .before .before .before .before .before .before .before .args in
-    head-passed (args .file .now) (at-head .head-answer .ensures) (c .enum-told .given .1)
+    let head = c .before .before in
+    let tested = head .before in
+    read-head (state-of tested) (entry-of tested .args .file .now) (is-long tested) (head .read-head .ensures .verdict) (c .enum-told2 .given .1)
 
 read-tides-requires : tie.Need-read-tides-requires
 read-tides-requires c κs =
-    let at-record = c .before .before .before in
-    let at-head = at-record .before .before .before in
-    let args = at-head .before .before .before .before .before .before .before .before .args in
-    tides-begin (args .file .now) (at-head .head-answer .ensures) (at-record .before .enum-told .given .1) (args .dataset)
-    (at-record .record-of .ensures) refl refl
+    let done = c .before .before .before .before in
+    let head = done .before .before in
+    let got = head .read-head .ensures in
+    tides-begin (entry-of (head .before) .args .file .now) (got .verdict) (done .enum-told .given .1) (got .goes (done .enum-told .given .1)) refl refl
 
 returns-3 : tie.Need-returns-3
 returns-3 c =
     let at-tides = c .before .before .before .before in
-    let tested = at-tides .before .before .before .before .before .before .before .before in
-    let args = tested .before .before .before .before .before .before .before .args in
-    let σ = stateOf (args .dataset) (args .distances .now) (args .settings .now) in
-    let long = short-test σ (tested .before .is-short .ensures .0) (tested .if1 .left) in
-    read-tide σ (args .file .now) long (at-tides .read-tides .ensures) (c .enum-told4 .given .1)
+    let tested = at-head at-tides .before in
+    read-tide (state-of tested) (entry-of tested .args .file .now) (is-long tested) (at-tides .read-tides .ensures) (c .enum-told4 .given .1)
 
 copy-distances-requires : tie.Need-copy-distances-requires
 copy-distances-requires c κs =
-    let after-tides = c .before .before in
-    let at-record = after-tides .before .before .before .before .before .before .before .before in
-    let tested = at-record .before .before .before .before in
+    let tested = at-head (c .before .before .before .before .before .before) .before in
     (tested .before .is-short .ensures .1 (tested .if1 .left) .0, search needs)
 
 copy-settings-requires : tie.Need-copy-settings-requires
 copy-settings-requires c κs =
     let after-tides = c .before .before .before .before .before .before .before in
-    let at-record = after-tides .before .before .before .before .before .before .before .before in
-    let tested = at-record .before .before .before .before in
+    let tested = at-head (after-tides .before .before .before .before) .before in
     (tested .before .is-short .ensures .1 (tested .if1 .left) .1, search needs)
 
 returns-4 : tie.Need-returns-4
@@ -65,12 +64,10 @@ returns-4 c =
     let at-distances = at-settings .before .before .before .before .before in
     let after-tides = at-distances .before .before .before in
     let at-tides = after-tides .before .before .before .before in
-    let at-record = at-tides .before .before .before .before in
-    let tested = at-record .before .before .before .before in
-    let args = tested .before .before .before .before .before .before .before .args in
-    let σ = stateOf (args .dataset) (args .distances .now) (args .settings .now) in
-    let long = short-test σ (tested .before .is-short .ensures .0) (tested .if1 .left) in
-    read-done σ (args .file .now) long (at-tides .read-tides .ensures) (after-tides .enum-told3 .given .1) (at-record .record-of .ensures)
+    let head = at-head at-tides in
+    let record-got = head .read-head .ensures .goes (at-tides .before .before .before .before .before .enum-told .given .1) in
+    read-done (state-of (head .before)) (entry-of (head .before) .args .file .now) (is-long (head .before))
+    (at-tides .read-tides .ensures) (after-tides .enum-told3 .given .1) (record-got .is)
     (at-distances .copy-distances .ensures) (at-settings .copy-settings .ensures)
 
 pub read-spec : {M : Type 1} → statement M
@@ -87,7 +84,6 @@ read-spec =
     (λ c. search needs)
     (λ c. search needs)
     returns-2
-    record-of-requires
     (λ c. search needs)
     (λ c. search needs)
     (λ c. search needs)

@@ -3,9 +3,8 @@
 use native.Mathlib.Omega.{arith}
 use Rattle.study_file.proofs.PuttingLaws.{puts-one}
 use Rattle.study_file.specs.Writing.{Adds}
-use Rattle.study_file.proofs.WritingLaws.{adds-none, bits-small, field-more, field-end}
+use Rattle.study_file.proofs.WritingLaws.{one-moved, adds-none, bits-small, field-more, field-end}
 use lib.Pow.{pow-pos}
-use Rattle.bit_reader.proofs.FieldLaws.{one-moved}
 use Rattle.file_format.specs.Bits.{bitsOf}
 use Prim.Native.Nat.{_-_, _/_, _^_, _≤_}
 use Rattle.study_file.proofs.writing.put_field.Statement.{statement}

@@ -4,8 +4,8 @@ use Rattle.file_format.specs.File.{byteLength}
 use Prim.Native.Nat.{_+_, _/_}
 use mathlib.Core.Path.{ap}
 use borrow.Author.Needs.{needs}
-use Rattle.study_file.proofs.length.byte_length.Statement.{statement}
-use Rattle.study_file.proofs.length.byte_length.Tie as tie
+use Rattle.study_file.proofs.writing.byte_length.Statement.{statement}
+use Rattle.study_file.proofs.writing.byte_length.Tie as tie
 
 returns : tie.Need-returns
 unfolding byteLength
