@@ -12,7 +12,6 @@ use Rattle.file_format.specs.Bits.{bitsAt}
 use Rattle.file_format.specs.Theorems.{Bytes}
 use Rattle.file_format.proofs.BitLaws.{bitsAt-small, window}
 use Rattle.bit_reader.specs.declared.Place.{Place}
-use Rattle.bit_reader.specs.declared.FieldValue.{FieldValue}
 use Rattle.bit_reader.specs.declared.FieldValue.the-variants as FieldValueCase
 use Rattle.bit_reader.specs.Fields.{BitsRead, FieldGot, FieldRead}
 
@@ -58,6 +57,10 @@ module _ (s : List ℕ) (m : ℕ) {r : Bool} (e : r ≡ leb m (8 * length s)) wh
   outside q = leb-false m (8 * length s) (sym e ∙ not-true r q)
 
 -- ---- what was read
+
+-- the same number of bits, written otherwise
+pub bits-same : {p : Place} {m n : ℕ} → BitsRead p m → m ≡ n → BitsRead p n
+bits-same r e = record { below = r .below; count = r .count ∙ e }
 
 module _ {s : List ℕ} {n w v : ℕ} {next : Place} where
   pub field-small : FieldGot s n w v next → v < 2 ^ w

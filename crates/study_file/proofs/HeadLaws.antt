@@ -22,6 +22,7 @@ use Rattle.file_format.specs.File.{bitLength, byteLength, minimaAt, decoded, he
 use Rattle.file_format.proofs.DecodedLaws.{decoded-size}
 use Rattle.bit_reader.specs.declared.Place.{Place}
 use Rattle.bit_reader.specs.Fields.{BitsRead, FieldGot}
+use Rattle.bit_reader.proofs.FieldLaws.{bits-same}
 use Rattle.validity.specs.Memory.{setK, setSize, setMinima, setCount, recordOf}
 use Rattle.lists.proofs.Scans.{between-in}
 use Rattle.study_file.proofs.Lengths.{length-sum}
@@ -51,7 +52,7 @@ record-read {s} {k} {n} R r {w} {M} c e here =
     let count : n ≡ size (decoded s .study) = B .tides ∙ sym (decoded-size s) in
     record {
       is = λ i. setK (B .k-is i) (setSize (count i) (setMinima (f i) (setCount (c i) r)));
-      first = record { below = here .below; count = omega (arith, here .count, B .k-is) };
+      first = bits-same here (omega (arith, B .k-is));
     }
 
 -- no bits fill the last byte

@@ -17,6 +17,7 @@ use Rattle.file_format.specs.Bits.{bitsAt}
 use Rattle.file_format.specs.File.{bitLength, byteLength, tideAt}
 use Rattle.bit_reader.specs.declared.Place.{Place}
 use Rattle.bit_reader.specs.Fields.{BitsRead, FieldGot}
+use Rattle.bit_reader.proofs.FieldLaws.{bits-same}
 use Rattle.triangle.specs.declared.Violation.{Violation}
 use Rattle.triangle.specs.declared.Violation.the-variants as ViolationCase
 use Rattle.triangle.specs.Pairs.{violationOf}
@@ -144,10 +145,9 @@ module _ {s : List ℕ} {k t : ℕ} {p : Place} {matrix vector : List ℕ} (A : 
       where
         next-tide : BitsRead q (bitLength (bitsAt s 15 4) (t + 1))
         next-tide =
-            let past = row .past e in
             let one-more : bitLength (bitsAt s 15 4) (t + 1) ≡ bitLength (bitsAt s 15 4) t + (3 + 20 * t) =
             ap (bitLength (bitsAt s 15 4)) (add-one t) ∙ bitLength-suc (bitsAt s 15 4) t in
-            record { below = past .below; count = omega (arith, past .count) }
+            bits-same (row .past e) (omega arith)
 
 -- ---- all tides
 

@@ -96,7 +96,7 @@ fn take_minima(file: &[u8], place: Place, b: &mut [u8], k: usize) -> Progress
     Progress::To(next)
 }
 
-// Why the file is refused; the record is as it was.
+// A refusal; whoever gets it looks at neither record nor place.
 fn refused(why: Refusal, dataset: Dataset) -> HeadRead
     ensures { λ r. ⌜ r .answer ≡ Refused why ⌝ }
 {

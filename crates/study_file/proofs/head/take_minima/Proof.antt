@@ -5,7 +5,7 @@ use native.Mathlib.Omega.{arith}
 use mathlib.Core.Path.{refl}
 use Rattle.lists.proofs.Fills.{Filled, filled-none, filled-more, filled-done}
 use Rattle.bit_reader.specs.Fields.{BitsRead}
-use Rattle.bit_reader.proofs.FieldLaws.{field-small}
+use Rattle.bit_reader.proofs.FieldLaws.{bits-same, field-small}
 use Rattle.study_file.specs.Heading.{minimumAt}
 use borrow.Author.Needs.{needs}
 use Rattle.study_file.proofs.head.take_minima.Statement.{statement}
@@ -41,12 +41,12 @@ loop-again c =
     let at-field = c .before .before .before in
     let turn = at-field .before .before .loop in
     let minimum = at-field .read-field .ensures (42 + 7 * turn .j) (turn .inv .1) .got (c .before .minimum .given .1) in
-    (filled-more (turn .inv .0) (omega arith) (omega arith) (minimum .is), record { below = minimum .past .below; count = omega (arith, minimum .past .count) })
+    (filled-more (turn .inv .0) (omega arith) (omega arith) (minimum .is), bits-same (minimum .past) (omega arith))
 
 returns-2 : tie.Need-returns-2 Inv-loop μ-loop
 returns-2 c =
     let turn = c .before .loop in (
-      record { place = turn .next; is = refl; here = record { below = turn .inv .1 .below; count = omega (arith, turn .inv .1 .count) } },
+      record { place = turn .next; is = refl; here = bits-same (turn .inv .1) (omega arith) },
       filled-done (turn .inv .0) (omega arith),
     )
 

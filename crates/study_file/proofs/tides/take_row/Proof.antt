@@ -5,6 +5,7 @@ use native.Mathlib.Omega.{arith}
 use mathlib.Core.Path.{_≡_, refl}
 use lib.ListN.{length, length-set}
 use Rattle.bit_reader.specs.Fields.{BitsRead}
+use Rattle.bit_reader.proofs.FieldLaws.{bits-same}
 use Rattle.storage.specs.Places.{withRow}
 use Rattle.storage.proofs.PlaceLaws.{row-none, row-done}
 use Rattle.study_file.specs.Rows.{rowAt, rowStart}
@@ -21,9 +22,7 @@ abbrev μ-loop : tie.MeasureT-loop
 μ-loop file matrix₀ t next₀ i₀ matrix next i = t - i
 
 loop-holds : tie.Need-loop-holds Inv-loop μ-loop
-loop-holds c =
-    let here = c .before .before .pre .here in
-    (omega arith, row-none _ _, refl, record { below = here .below; count = omega (arith, here .count) })
+loop-holds c = (omega arith, row-none _ _, refl, bits-same (c .before .before .pre .here) (omega arith))
 
 read-field-requires : tie.Need-read-field-requires Inv-loop μ-loop
 read-field-requires c κs =
@@ -54,14 +53,13 @@ loop-again c =
       omega arith,
       row-taken (args .file .now) start _ (omega arith) field (turn .inv .1),
       simp length-set (turn .inv .2),
-      record { below = field .past .below; count = omega (arith, field .past .count) },
+      bits-same (field .past) (omega arith),
     )
 
 returns-2 : tie.Need-returns-2 Inv-loop μ-loop
 returns-2 c =
-    let turn = c .before .loop in
-    let here = turn .inv .3 in (
-      record { place = turn .next; is = refl; here = record { below = here .below; count = omega (arith, here .count) } },
+    let turn = c .before .loop in (
+      record { place = turn .next; is = refl; here = bits-same (turn .inv .3) (omega arith) },
       row-done _ _ _ _ _ (omega arith) (omega arith) (turn .inv .1),
     )
 
