@@ -290,10 +290,19 @@ fn full(so_far: Tally) -> Tally {
     full_read(t, &distances, &settings, front(&file, 17908))
 }
 
+// The greatest file with a byte more.
+fn too_long(so_far: Tally) -> Tally {
+    let distances = samples::full_distances();
+    let settings = samples::full_settings();
+    let mut file = [0u8; 17909];
+    write(samples::full_record(), &distances, &settings, &mut file);
+    so_far.see(number(&file) == 8)
+}
+
 fn main() {
     full(tally::new()).print(b"120 tides");
     smallest(tally::new()).print(b"no tides");
-    tide_refusals(head_refusals(short_memory(tally::new()))).print(b"read refused");
+    too_long(tide_refusals(head_refusals(short_memory(tally::new())))).print(b"read refused");
     truncated(tally::new()).print(b"truncated");
     flipped().print();
     write_done(write_refused(tally::new())).print(b"write");
