@@ -52,7 +52,7 @@ fn past(place: Place, width: usize) -> Place
 }
 
 // Whether the bytes go as far as a place.
-fn reaches(bytes: &[u8], place: Place) -> bool
+fn long_enough(bytes: &[u8], place: Place) -> bool
     ensures { λ r. ⌜ ((n : ℕ) → BitsRead place n → r ≡ leb n (8 * length (now (bytes .entry)))) ⌝ }
 {
     if place.byte < bytes.len() {
@@ -73,7 +73,7 @@ pub fn field_at(bytes: &[u8], place: Place, width: usize) -> FieldValue
     ensures { λ r. ⌜ ((n : ℕ) → BitsRead place n → FieldRead (now (bytes .entry)) n width r) ⌝ }
 {
     let next = past(place, width);
-    if !reaches(bytes, next) {
+    if !long_enough(bytes, next) {
         return FieldValue::End;
     }
     let i = place.byte;

@@ -1,4 +1,4 @@
--- `bit_reader::field_at` meets its contract: the bytes reach the place past the field or stop before it, and the four bytes from the place's
+-- `bit_reader::field_at` meets its contract: the bytes go as far as the place past the field, or stop before it, and the four bytes from the place's
 -- on hold the field. Assumes nothing.
 use Prim.Native.Nat.{_+_}
 use native.Mathlib.Omega.{arith}
@@ -13,7 +13,7 @@ returns c n here =
     let args = at-past .before .before .args in
     let end = n + args .width in
     end-read (args .bytes .now) n (args .width)
-    (outside (args .bytes .now) end (c .before .reaches .ensures end (at-past .past .ensures n here)) (c .if1 .taken))
+    (outside (args .bytes .now) end (c .before .long-enough .ensures end (at-past .past .ensures n here)) (c .if1 .taken))
 
 first-byte : tie.Need-shared-slice-read-wide
 first-byte c =
@@ -23,7 +23,7 @@ first-byte c =
     let asked = entry .pre in
     let end = asked .read + entry .args .width in
     let past = at-past .past .ensures (asked .read) (asked .here) in
-    omega (arith, asked .here .count, asked .wide, inside (entry .args .bytes .now) end (tested .before .reaches .ensures end past) (tested .if1 .left))
+    omega (arith, asked .here .count, asked .wide, inside (entry .args .bytes .now) end (tested .before .long-enough .ensures end past) (tested .if1 .left))
 
 returns-2 : tie.Need-returns-2
 returns-2 c n here =
@@ -37,7 +37,7 @@ returns-2 c n here =
     let end = n + entry .args .width in
     let past = at-past .past .ensures n here in
     field-read record {
-      inside = inside (entry .args .bytes .now) end (tested .before .reaches .ensures end past) (tested .if1 .left);
+      inside = inside (entry .args .bytes .now) end (tested .before .long-enough .ensures end past) (tested .if1 .left);
       is = field-value (entry .args .bytes .now) (entry .args .place) here (entry .args .width) (entry .pre .narrow)
           (λ i. at-past .before .shared-slice-known .given i .fits)
           (at-byte .wide .result) (at-first .byte-at .result) (at-second .byte-at2 .result) (at-third .byte-at3 .result)

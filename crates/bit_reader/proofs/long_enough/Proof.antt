@@ -1,9 +1,9 @@
--- `bit_reader::reaches` meets its contract: with the bit below 8, the bytes decide, and between equal bytes the bit. Assumes nothing.
+-- `bit_reader::long_enough` meets its contract: with the bit below 8, the bytes decide, and between equal bytes the bit. Assumes nothing.
 use native.Mathlib.Omega.{arith}
 use mathlib.Core.Path.{sym}
 use borrow.Author.Tests.{le-leb, lt-leb}
-use Rattle.bit_reader.proofs.reaches.Statement.{statement}
-use Rattle.bit_reader.proofs.reaches.Tie as tie
+use Rattle.bit_reader.proofs.long_enough.Statement.{statement}
+use Rattle.bit_reader.proofs.long_enough.Tie as tie
 
 returns : tie.Need-returns
 returns c n here = sym (le-leb n _ (omega (arith, here .below, here .count)))
@@ -17,5 +17,5 @@ returns-3 c n here = sym (le-leb n _ (omega (arith, here .count)))
 returns-4 : tie.Need-returns-4
 returns-4 c n here = sym (lt-leb n _ (omega (arith, here .count)))
 
-pub reaches-spec : {M : Type 1} → statement M
-reaches-spec = tie.close (tie.spec returns returns-2 returns-3 returns-4)
+pub long-enough-spec : {M : Type 1} → statement M
+long-enough-spec = tie.close (tie.spec returns returns-2 returns-3 returns-4)
