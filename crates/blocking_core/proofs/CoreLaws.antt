@@ -3,6 +3,7 @@ use Prim.Native.Nat.{ℕ, suc, _+_, _-_, _≤_, _<_}
 use native.Mathlib.Omega.{arith}
 use native.Mathlib.Numerals.{add-one}
 use mathlib.Core.Path.{_≡_, sym, ap, ap₂, _∙_, subst}
+use mathlib.Core.Logic.{⊎-elim}
 use mathlib.Core.List.{List, _++_}
 use lib.ListN.{length, getD, take, drop, set}
 use lib.Seq.{getD-take}
@@ -11,7 +12,7 @@ use Rattle.lists.proofs.Counts.{count-same}
 use Rattle.lists.proofs.Tables.{length-tabulate, getD-tabulate, tabulate-is, getD-overwrite, getD-past, length-overwrite}
 use Rattle.lists.proofs.Tables.{overwrite-none, overwrite-step, overwrite-done}
 use Rattle.study.specs.Limits.{maxTides}
-use Rattle.study.specs.Problem.{Problem, centresAmong, centres, block, labels, radius, blocking}
+use Rattle.study.specs.Problem.{Problem, centresAmong, centres, centreOf, block, labels, radius, blocking}
 use Rattle.study.specs.Theorems.{Assignment, Prefers, FirstAssignment}
 use Rattle.study.proofs.ProblemLaws.{blocks-same, diameter-same, greatestDiameter-same}
 use Rattle.study.proofs.Dictionary.{blocking-found}
@@ -20,7 +21,7 @@ use Rattle.radius_theory.specs.Arrays.{within, arrayProblem, ValidArrays}
 use Rattle.radius_theory.proofs.RadiiLaws.{lowest-radius}
 use Rattle.radius_search.specs.Front.{Front}
 use Rattle.radius_search.proofs.FrontLaws.{front-at, front-few, front-below, centres-few}
-use Rattle.radius_search.proofs.AssigningLaws.{numbered, numbered-at, allowed-by, assigns}
+use Rattle.radius_search.proofs.AssigningLaws.{numbered, numbered-at, centre-dist, allowed-by, assigns}
 use Rattle.radius_search.specs.Ascents.{Least}
 use Rattle.blocking_core.specs.First.{rank, First, Agree}
 use Rattle.blocking_core.specs.Measured.{Measured}
@@ -29,7 +30,7 @@ use Rattle.blocking_core.specs.Core.{Blocks, Assigns}
 
 -- the first assignment at the least radius
 module _ {d : List ℕ} {n : ℕ} {E : Test} (Q : ValidArrays d n E) {g count₁ : ℕ} {cs lent allowed found list : List ℕ}
-    (L : Least d n E g count₁ cs lent allowed found) (F : First rank n count₁ E allowed list) where
+    (few : n ≤ maxTides) (L : Least d n E g count₁ cs lent allowed found) (F : First (rank d cs) n count₁ E allowed list) where
   abbrev P : Problem
   P = arrayProblem d n E
 
@@ -55,9 +56,15 @@ module _ {d : List ℕ} {n : ℕ} {E : Test} (Q : ValidArrays d n E) {g count₁
 
   -- a block that t prefers has the lower rank
   preferred-ranks : (t : ℕ) → t < n → (ys : List ℕ) → Assignment P g ys → Prefers P (centres P g) t (labels ys t) (labels xs t)
-      → rank t (labels ys t - 1) < rank t (labels list t)
-  unfolding arrayProblem Prefers rank
-  preferred-ranks t l ys A q = omega (arith, numbered-at n (labels list) t l, A .low t l)
+      → rank d cs t (labels ys t - 1) < rank d cs t (labels list t)
+  unfolding arrayProblem Prefers rank centreOf
+  preferred-ranks t l ys A q =
+      let k : labels xs t - 1 ≡ labels list t = omega (arith, numbered-at n (labels list) t l) in
+      let y : labels ys t - 1 < count₁ = omega (arith, A .low t l, A .high t l, listed .long) in
+      let a = centre-dist Q g count₁ cs listed (labels ys t - 1) t y l in
+      let b = ap (λ z. P .dist (getD (centres P g) z 0) t) k ∙ centre-dist Q g count₁ cs listed (labels list t) t (F .assigned .below t l) l in
+      let c = front-few few (L .centres) in
+      ⊎-elim (λ h. omega arith) (λ h. omega (arith, h .0, h .1, A .low t l)) q
 
   first : FirstAssignment P g xs
   unfolding arrayProblem
@@ -76,12 +83,12 @@ module _ {d : List ℕ} {n : ℕ} {E : Test} (Q : ValidArrays d n E) {g count₁
 
 -- from the search, the first assignment there, and its numbering
 pub assigned-core : {d : List ℕ} {n : ℕ} {E : Test} (Q : ValidArrays d n E) {g count₁ : ℕ} {cs lent allowed found first old list : List ℕ}
-    → n ≤ maxTides → Least d n E g count₁ cs lent allowed found → First rank n count₁ E allowed first → TailKept n old found
+    → n ≤ maxTides → Least d n E g count₁ cs lent allowed found → First (rank d cs) n count₁ E allowed first → TailKept n old found
     → TailKept n found first → n ≤ length old → list ≡ overwrite n (λ t. labels first t + 1) first → Assigns d n E g count₁ cs old list
 unfolding numbered overwrite labels
 assigned-core {d} {n} {E} Q {g} {count₁} {cs} {first = first} {old = old} {list = list} few L F K J long e =
     record {
-      radius-of = sym (radius-is Q L F);
+      radius-of = sym (radius-is Q few L F);
       centres-of = L .centres;
       list-of = whole;
       same-length =
@@ -89,7 +96,7 @@ assigned-core {d} {n} {E} Q {g} {count₁} {cs} {first = first} {old = old} {lis
           ∙ J .same-length ∙ K .same-length;
       low = λ t l. omega (arith, at t l);
       high = λ t l. omega (arith, at t l, F .assigned .below t l, front-few few (L .centres));
-      same = λ t l. at t l ∙ sym (ap (λ z. labels z t) (blocking-is Q L F) ∙ numbered-at n (labels first) t l ∙ sym (add-one (labels first t)));
+      same = λ t l. at t l ∙ sym (ap (λ z. labels z t) (blocking-is Q few L F) ∙ numbered-at n (labels first) t l ∙ sym (add-one (labels first t)));
     }
   where
     at : (t : ℕ) → t < n → labels list t ≡ labels first t + 1
@@ -99,7 +106,7 @@ assigned-core {d} {n} {E} Q {g} {count₁} {cs} {first = first} {old = old} {lis
     front =
         tabulate-is n (λ t. labels first t + 1) 0 (numbered n (labels first)) (length-tabulate n (λ t. suc (labels first t)))
         (λ t l. add-one (labels first t) ∙ sym (getD-tabulate n (λ t. suc (labels first t)) t 0 l))
-        ∙ sym (blocking-is Q L F)
+        ∙ sym (blocking-is Q few L F)
 
     whole : list ≡ blocking (arrayProblem d n E) ++ drop n old
     whole = e ∙ ap₂ (λ a b. a ++ b) front (J .rest ∙ K .rest)

@@ -1,21 +1,28 @@
 -- The first assignment by the order in which each tide ranks the blocks, tide after tide: a tide gets the block of least rank that any
 -- assignment gives it that agrees on the tides before, and keeps that block alone. Assumes nothing.
-use Prim.Native.Nat.{ℕ, _≤_, _<_}
+use Prim.Native.Nat.{ℕ, _+_, _*_, _≤_, _<_}
 use mathlib.Core.Path.{_≡_}
 use mathlib.Core.Bool.{Bool, true, false}
 use mathlib.Core.List.{List}
 use lib.ListN.{length}
+use Rattle.lists.specs.Lists.{at, TailKept}
+use Rattle.study.specs.Limits.{maxTides, cell}
 use Rattle.study.specs.Problem.{labels}
 use Rattle.promise.specs.Promise.{Test, Assigned}
-use Rattle.lists.specs.Lists.{TailKept}
+use Rattle.radius_search.specs.Inputs.{DistanceRows, TidesIn}
 
 -- D and G agree on the tides below t
 abbrev pub Agree : ℕ → (ℕ → ℕ) → (ℕ → ℕ) → Type 0
 Agree t D G = (x : ℕ) → x < t → D x ≡ G x
 
--- what tide t ranks the blocks by, the one of least rank first: their numbers
-unfoldable pub rank : ℕ → ℕ → ℕ
-rank t m = m
+-- what tide t ranks the blocks by, the one of least rank first: how far their centres are, equally far ones by number (document 02, 2.6)
+unfoldable pub rank : (d cs : List ℕ) → ℕ → ℕ → ℕ
+rank d cs t m = cell d (at cs m) t * maxTides + m
+
+-- what ranks are made of: the distances of n tides, and the tides that are the blocks' centres
+pub record Ranking (d cs : List ℕ) (n blocks : ℕ) : Type 0 where
+  pub rows : DistanceRows d n
+  pub centres : TidesIn cs blocks n
 
 -- list is an assignment, and the first tide where another one differs ranks its block in list no higher
 pub record First (rank : ℕ → ℕ → ℕ) (n blocks : ℕ) (E : Test) (allowed list : List ℕ) : Type 0 where

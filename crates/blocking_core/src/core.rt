@@ -58,7 +58,16 @@ fn assign(
     let mut allowed: [u8; TABLE_SIZE] = [0; TABLE_SIZE];
     let found = least_radius(distances, settings, n, minima, centres, &mut allowed, list);
     let count = found.count;
-    first_assignment(n, count, minima, settings, &mut allowed, list);
+    first_assignment(
+        distances,
+        n,
+        centres,
+        count,
+        minima,
+        settings,
+        &mut allowed,
+        list,
+    );
     number(list, n);
     found
 }

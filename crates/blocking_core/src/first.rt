@@ -7,14 +7,14 @@ use study::MAX_TIDES;
 use study::Minima;
 use study::wide;
 ghost use mathlib.Core.Path.{_≡_};
-ghost use Prim.Native.Nat.{_<_, _≤_};
+ghost use Prim.Native.Nat.{_+_, _*_, _<_, _≤_};
 ghost use lib.ListN.{length};
 ghost use Rattle.lists.specs.Lists.{at, overwrite, TailKept};
 ghost use Rattle.study.specs.Limits.{maxTides};
 ghost use Rattle.study.specs.Problem.{labels};
 ghost use Rattle.promise.specs.Promise.{Assigned, Asked, meeting, Able};
 ghost use Rattle.blocking_core.specs.Column.{Restricted};
-ghost use Rattle.blocking_core.specs.First.{rank, First, SearchTried, Chosen};
+ghost use Rattle.blocking_core.specs.First.{rank, Ranking, First, SearchTried, Chosen};
 
 // Copies the first n places.
 fn copy(from: &[u8], to: &mut [u8], n: usize)
@@ -102,21 +102,39 @@ fn choose(
     fix(allowed, blocks, t, v);
 }
 
-// What tide t ranks the blocks by: their numbers.
-fn rank_blocks(blocks: usize, t: usize, ranks: &mut [u64; MAX_TIDES])
-    requires { ⌜ (blocks ≤ maxTides) × (length (now ranks) ≡ maxTides) ⌝ }
-    ensures { λ _. ⌜ now (ranks .exit) ≡ overwrite blocks (rank t) (now (ranks .entry)) ⌝ }
+// A block's rank, by how far its centre is and by its number.
+fn rank_of(distance: u32, m: usize) -> u64
+    requires { ⌜ m < maxTides ⌝ }
+    ensures { λ r. ⌜ r ≡ distance * maxTides + m ⌝ }
+{
+    (distance as u64) * (MAX_TIDES as u64) + (m as u64)
+}
+
+// What tide t ranks the blocks by.
+fn rank_blocks(
+    distances: &[u32],
+    n: usize,
+    centres: &[usize; MAX_TIDES],
+    blocks: usize,
+    t: usize,
+    ranks: &mut [u64; MAX_TIDES],
+)
+    requires { ⌜ Ranking (now distances) (now centres) n blocks ⌝ }
+    requires { ⌜ (t < n) × (length (now ranks) ≡ maxTides) ⌝ }
+    ensures { λ _. ⌜ now (ranks .exit) ≡ overwrite blocks (rank (now (distances .entry)) (now (centres .entry)) t) (now (ranks .entry)) ⌝ }
 {
     let mut m = 0;
     while m < blocks {
-        ranks[m] = m as u64;
+        ranks[m] = rank_of(distances[centres[m] * MAX_TIDES + t], m);
         m += 1;
     }
 }
 
 // Chooses the block of tide t by its ranks of the blocks.
 fn choose_block(
+    distances: &[u32],
     n: usize,
+    centres: &[usize; MAX_TIDES],
     blocks: usize,
     minima: Minima,
     settings: &[u8],
@@ -126,19 +144,22 @@ fn choose_block(
 )
     requires { ⌜ Asked (Able minima n (now settings)) n blocks (now allowed) (now list) ⌝ }
     requires { ⌜ Assigned n blocks (meeting minima n (now settings)) (now allowed) (labels (now list)) ⌝ }
+    requires { ⌜ Ranking (now distances) (now centres) n blocks ⌝ }
     requires { ⌜ t < n ⌝ }
-    ensures { λ _. ⌜ Chosen (rank t) n blocks (meeting minima n (now (settings .entry))) t
+    ensures { λ _. ⌜ Chosen (rank (now (distances .entry)) (now (centres .entry)) t) n blocks (meeting minima n (now (settings .entry))) t
         (now (allowed .entry)) (now (allowed .exit)) (now (list .exit)) ⌝ }
     ensures { λ _. ⌜ TailKept n (now (list .entry)) (now (list .exit)) ⌝ }
 {
     let mut ranks: [u64; MAX_TIDES] = [0; MAX_TIDES];
-    rank_blocks(blocks, t, &mut ranks);
+    rank_blocks(distances, n, centres, blocks, t, &mut ranks);
     choose(n, blocks, minima, settings, &ranks, allowed, list, t);
 }
 
 // Turns an assignment into the first one in dictionary order of the tides' ranks. The table is used up.
 pub fn first_assignment(
+    distances: &[u32],
     n: usize,
+    centres: &[usize; MAX_TIDES],
     blocks: usize,
     minima: Minima,
     settings: &[u8],
@@ -147,12 +168,24 @@ pub fn first_assignment(
 )
     requires { ⌜ Asked (Able minima n (now settings)) n blocks (now allowed) (now list) ⌝ }
     requires { ⌜ Assigned n blocks (meeting minima n (now settings)) (now allowed) (labels (now list)) ⌝ }
-    ensures { λ _. ⌜ First rank n blocks (meeting minima n (now (settings .entry))) (now (allowed .entry)) (now (list .exit)) ⌝ }
+    requires { ⌜ Ranking (now distances) (now centres) n blocks ⌝ }
+    ensures { λ _. ⌜ First (rank (now (distances .entry)) (now (centres .entry))) n blocks (meeting minima n (now (settings .entry)))
+        (now (allowed .entry)) (now (list .exit)) ⌝ }
     ensures { λ _. ⌜ TailKept n (now (list .entry)) (now (list .exit)) ⌝ }
 {
     let mut t = 0;
     while t < n {
-        choose_block(n, blocks, minima, settings, allowed, list, t);
+        choose_block(
+            distances,
+            n,
+            centres,
+            blocks,
+            minima,
+            settings,
+            allowed,
+            list,
+            t,
+        );
         t += 1;
     }
 }

@@ -3,7 +3,7 @@ use mathlib.Core.Path.{_≡_, refl, subst}
 use mathlib.Core.List.{List, [], _∷_, map, flatMap, headD, List·Memᴰ·head as here, List·Memᴰ·tail as there}
 use Rattle.lists.specs.Lists.{_among_, every, sumBelow, countBelow, greatest, tabulate}
 use Rattle.lists.proofs.Members.{no-member}
-use Rattle.study.specs.Problem.{centresAmong, centres, centreOf, choices, block, labels, allSufficient, assignments, assignable, candidates}
+use Rattle.study.specs.Problem.{centresAmong, centres, centreOf, blocksAt, choices, block, labels, allSufficient, assignments, assignable, candidates}
 use Rattle.study.specs.Problem.{radius, blocking, diameter, greatestDiameter, feasible}
 use Rattle.study.specs.Study.{Study, tide, distance, meets, sufficient, problem, validMinima, Valid}
 use Rattle.study.specs.Refusals.{Verdict, accepted, firstOf}
@@ -19,7 +19,7 @@ use Rattle.file_format.specs.Cases.{studyIn, studies, ValidStudies, orde
 pub worked-cases : WorkedCases
 unfolding cases case1 case2 case3 case4 case7 one-tide plain line tideOn reply firstOf
     blockReasons figures blockRecord enterReasons entering entered judgeReasons judgement approved opening opened triangle violations
-    centresAmong centres centreOf choices block labels allSufficient assignments assignable candidates radius blocking
+    centresAmong centres centreOf blocksAt choices block labels allSufficient assignments assignable candidates radius blocking
     diameter greatestDiameter feasible tide distance meets sufficient problem validMinima
     readReasons headReasons tideReasons decoded minimaAt tideAt byteLength bitLength fileOf fields tideFields packed pack allBits binary
     every sumBelow countBelow greatest tabulate flatMap headD

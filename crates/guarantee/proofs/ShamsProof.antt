@@ -6,7 +6,7 @@ use mathlib.Core.List.{List, [], _∷_, flatMap, headD}
 use lib.Dec.{T}
 use lib.ListN.{getD, replicate}
 use Rattle.lists.specs.Lists.{over, every, sumBelow, countBelow, greatest, tabulate}
-use Rattle.study.specs.Problem.{centresAmong, centres, centreOf, choices, block, labels, allSufficient, assignments, assignable, candidates}
+use Rattle.study.specs.Problem.{centresAmong, centres, centreOf, blocksAt, choices, block, labels, allSufficient, assignments, assignable, candidates}
 use Rattle.study.specs.Problem.{radius, blocking, greatestDiameter, Feasible, feasible}
 use Rattle.study.specs.Study.{tide, distance, meets, sufficient, problem}
 use Rattle.study.specs.Calls.{opened, Figures}
@@ -47,17 +47,17 @@ unfolding pairs plain line tideOn greatestDiameter labels problem tide distance 
 rest-in-last-width = refl
 
 radius-of-pairs : radius (problem pairs) ≡ 1
-unfolding pairs plain line tideOn centresAmong centres centreOf choices block labels allSufficient assignments assignable candidates radius
+unfolding pairs plain line tideOn centresAmong centres centreOf blocksAt choices block labels allSufficient assignments assignable candidates radius
     tide distance meets sufficient problem every sumBelow countBelow tabulate flatMap headD
 radius-of-pairs = refl
 
 blocking-of-pairs : blocking (problem pairs) ≡ honest
-unfolding pairs plain line tideOn centresAmong centres centreOf choices block labels allSufficient assignments assignable candidates radius blocking
+unfolding pairs plain line tideOn centresAmong centres centreOf blocksAt choices block labels allSufficient assignments assignable candidates radius blocking
     tide distance meets sufficient problem every sumBelow countBelow tabulate flatMap headD
 blocking-of-pairs = refl
 
 blocking-of-mixed : blocking (problem mixed) ≡ 1 ∷ 2 ∷ 3 ∷ 1 ∷ 2 ∷ 3 ∷ []
-unfolding mixed plain line tideOn centresAmong centres centreOf choices block labels allSufficient assignments assignable candidates radius blocking
+unfolding mixed plain line tideOn centresAmong centres centreOf blocksAt choices block labels allSufficient assignments assignable candidates radius blocking
     tide distance meets sufficient problem every sumBelow countBelow tabulate flatMap headD
 blocking-of-mixed = refl
 

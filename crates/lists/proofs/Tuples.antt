@@ -5,7 +5,8 @@ use native.Mathlib.Omega.{arith}
 use mathlib.Core.Path.{_≡_, refl, sym, ap, _∙_, subst}
 use mathlib.Core.Logic.{_⊎_, inl, inr, ⊎-elim}
 use mathlib.Core.Bool.{Bool, true, false, cond, not}
-use mathlib.Core.List.{List, [], _∷_, _++_, map, flatMap, headD, List·Memᴰ·eq-of-singleton, List·Memᴰ·head as here, List·Memᴰ·tail as there}
+use mathlib.Core.List.{List, [], _∷_, _++_, map, flatMap, headD, List·Memᴰ·eq-of-singleton, List·Memᴰ·append-cases}
+use mathlib.Core.List.{List·Memᴰ·head as here, List·Memᴰ·tail as there}
 use lib.Dec.{T, eqb, eqb→eq, T-not}
 use lib.ListN.{length, getD, take}
 use Rattle.lists.specs.Lists.{_among_, iota, filter, isEmpty, before, tuples}
@@ -206,3 +207,45 @@ before-less p k (suc n) x c m h =
     less-in x k c (filter p (iota (suc k) n)) (p k)
     (λ z w. let q = range-mem (suc k) n (filter-mem p (iota (suc k) n) w .0) in omega (arith, q .0))
     (λ a b. before-less p (suc k) n x c a b) m h
+
+-- what stands before x in two lists one after the other
+before-append : (x : ℕ) (us vs : List ℕ) {c : ℕ} → c among before x (us ++ vs)
+    → (c among before x us) ⊎ ((x among us → ⊥) × (c among before x vs))
+before-append x [] vs m = inr (λ n. no-member n, m)
+before-append x (u ∷ us) vs {c} m = step (eqb u x) (λ t. t) (λ n. before-append x us vs n) m
+  where
+    nowhere : T (not (eqb u x)) → (x among us → ⊥) → x among u ∷ us → ⊥
+    nowhere t f (here e) = T-not (eqb u x) t (eq→eqb u x (sym e))
+    nowhere t f (there n) = f n
+
+    step : (b : Bool) → (T (not b) → T (not (eqb u x)))
+        → (c among before x (us ++ vs) → (c among before x us) ⊎ ((x among us → ⊥) × (c among before x vs)))
+        → c among cond b [] (u ∷ before x (us ++ vs)) → (c among cond b [] (u ∷ before x us)) ⊎ ((x among u ∷ us → ⊥) × (c among before x vs))
+    step true f ih n = no-member n
+    step false f ih (here e) = inl (here e)
+    step false f ih (there n) = ⊎-elim (λ h. inl (there h)) (λ h. inr (nowhere (f tt) (h .0), h .1)) (ih n)
+
+-- a list made of stages, one after the other: what stands before x is of an earlier stage, or stands before x in x's own
+module _ (f : ℕ → List ℕ) (stage : ℕ → ℕ) (staged : (k z : ℕ) → z among f k → stage z ≡ k) where
+  pub before-stage : (k n x c : ℕ) → x among flatMap f (iota k n) → c among before x (flatMap f (iota k n))
+      → (stage c < stage x) ⊎ ((stage c ≡ stage x) × (x among f (stage x)) × (c among before x (f (stage x))))
+  unfolding flatMap
+  before-stage k zero x c m h = no-member m
+  before-stage k (suc n) x c m h =
+      ⊎-elim
+      (λ a. let e = staged k c (before-mem x (f k) a) in ⊎-elim (λ b. inr (own a e b)) (λ b. inl (omega (arith, e, later-stage b))) place)
+      (λ a. ⊎-elim (λ b. absurd (a .0 b)) (λ b. before-stage (suc k) n x c b (a .1)) place)
+      (before-append x (f k) (flatMap f (iota (suc k) n)) h)
+    where
+      place : (x among f k) ⊎ (x among flatMap f (iota (suc k) n))
+      place = List·Memᴰ·append-cases (f k) m
+
+      own : c among before x (f k) → stage c ≡ k → x among f k
+          → (stage c ≡ stage x) × (x among f (stage x)) × (c among before x (f (stage x)))
+      own a e b = let q = sym (staged k x b) in (e ∙ q, subst (λ z. x among f z) q b, subst (λ z. c among before x (f z)) q a)
+
+      later-stage : x among flatMap f (iota (suc k) n) → k < stage x
+      later-stage b =
+          let r = flatMap-mem f (iota (suc k) n) b in
+          let q = range-mem (suc k) n (r .1) in
+          omega (arith, staged (r .0) x (r .2), q .0)

@@ -37,7 +37,7 @@ module _ {d : List ℕ} {n : ℕ} {E : Test} (Q : ValidArrays d n E) (g count : 
   unfolding arrayProblem
   centre-lt m l = rw (front-at F m l) (centre-below P g (getD-mem 0 (centres P g) m (omega (arith, F .long))))
 
-  centre-dist : (m t : ℕ) → m < count → t < n → P .dist (getD (centres P g) m 0) t ≡ cell d (getD cs m 0) t
+  pub centre-dist : (m t : ℕ) → m < count → t < n → P .dist (getD (centres P g) m 0) t ≡ cell d (getD cs m 0) t
   centre-dist m t l k = ap (λ z. P .dist z t) (sym (front-at F m l)) ∙ Q .dist (getD cs m 0) t (centre-lt m l) k
 
   -- an assignment at g is one by every relation that holds of the tides near a centre

@@ -2,7 +2,7 @@
 use mathlib.Core.Path.{refl}
 use mathlib.Core.List.{flatMap, headD}
 use Rattle.lists.specs.Lists.{every, sumBelow, countBelow, greatest, tabulate}
-use Rattle.study.specs.Problem.{centresAmong, centres, centreOf, choices, block, labels, allSufficient, assignments, assignable}
+use Rattle.study.specs.Problem.{centresAmong, centres, centreOf, blocksAt, choices, block, labels, allSufficient, assignments, assignable}
 use Rattle.study.specs.Problem.{candidates, radius, blocking, diameter, greatestDiameter}
 use Rattle.study.specs.Study.{noTide, tide, distance, meets, sufficient, problem, validMinima}
 use Rattle.study.specs.Refusals.{firstOf}
@@ -16,7 +16,7 @@ use Rattle.sheet_of_file.specs.Cases.{Sheets}
 pub sheets : Sheets
 unfolding sheetOf fileText readReasons headReasons tideReasons decoded minimaAt tideAt byteLength bitLength binary
     triangle violations distance tide noTide validMinima every sumBelow tabulate flatMap firstOf blockReasons figures blockRecord
-    centresAmong centres centreOf choices block labels allSufficient assignments assignable candidates radius blocking
+    centresAmong centres centreOf blocksAt choices block labels allSufficient assignments assignable candidates radius blocking
     diameter greatestDiameter meets sufficient problem countBelow greatest headD
     heading eachLine line closing refusedText decimal digits
 sheets = refl

@@ -1,23 +1,29 @@
 -- The blocking comes first in dictionary order of the tides' preferences, and a list that a search finds by asking only whether some
 -- assignment continues a given front is the blocking. Assumes nothing.
-use Prim.Native.Nat.{ℕ, _<_}
+use Prim.Native.Nat.{ℕ, suc, _<_}
 use native.Mathlib.Omega.{arith}
 use mathlib.Core.Path.{_≡_, subst}
 use mathlib.Core.Logic.{_⊎_, inl, inr, ⊎-elim}
 use mathlib.Core.List.{List, [], headD}
-use lib.Dec.{leb}
+use lib.Dec.{eqb}
 use lib.ListN.{length, getD}
 use Rattle.lists.specs.Lists.{_among_, tabulate, before}
 use Rattle.lists.proofs.Tables.{length-tabulate, getD-tabulate}
-use Rattle.lists.proofs.Tuples.{Earlier, first-tuple, before-less}
-use Rattle.study.specs.Problem.{Problem, centres, centreOf, choices, labels, allSufficient, assignments, radius, blocking}
+use Rattle.lists.proofs.Tuples.{Earlier, first-tuple, before-less, before-stage}
+use Rattle.study.specs.Problem.{Problem, centres, centreOf, blocksAt, choices, labels, allSufficient, assignments, radius, blocking}
 use Rattle.study.specs.Theorems.{Assignment, Prefers, Precedes, FirstAssignment}
-use Rattle.study.proofs.ProblemLaws.{mem-choices, assignment-tuple, assignable-by, first-assignment}
+use Rattle.study.proofs.ProblemLaws.{blocksAt-mem, mem-choices, assignment-tuple, assignable-by, first-assignment}
 
 -- a choice that comes before another is preferred to it. This is all that is used of the order of the choices
 choice-before : (P : Problem) (g : ℕ) (cs : List ℕ) (t x c : ℕ) → x among choices P g cs t → c among before x (choices P g cs t) → Prefers P cs t c x
-unfolding choices Prefers
-choice-before P g cs t x c m h = before-less (λ m. leb (P .dist (centreOf cs m) t) g) 1 (length cs) x c m h
+unfolding choices blocksAt Prefers
+choice-before P g cs t x c m h =
+    ⊎-elim inl (λ e. inr (e .0, before-less (λ m. eqb (far m) (far x)) 1 (length cs) x c (e .1) (e .2)))
+    (before-stage (blocksAt (P .dist) cs t) far (λ y m n. blocksAt-mem (P .dist) cs t y n .2) 0 (suc g) x c m h)
+  where
+    -- how far the centre of block m lies from the tide
+    far : ℕ → ℕ
+    far m = P .dist (centreOf cs m) t
 
 module _ (P : Problem) (g : ℕ) where
   -- the choices of each tide

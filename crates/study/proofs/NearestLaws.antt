@@ -5,15 +5,15 @@ use mathlib.Core.Path.{_≡_, sym, ap, _∙_, subst}
 use mathlib.Core.Bool.{Bool, true, false, cond}
 use mathlib.Core.List.{List, _∷_, map, headD}
 use mathlib.Core.List.{List·Memᴰ·head as here, List·Memᴰ·tail as there}
-use lib.Dec.{T, eqb, eqb→eq}
+use lib.Dec.{T, eqb}
 use lib.ListN.{length, getD}
 use Rattle.lists.specs.Lists.{_among_, iota, filter}
 use Rattle.lists.proofs.Tests.{eq→eqb}
-use Rattle.lists.proofs.Members.{no-member, filter-mem, mem-filter, first-mem, nonempty, getD-mem, place, mem-map, map-mem, range-mem, mem-range}
+use Rattle.lists.proofs.Members.{no-member, first-mem, nonempty, getD-mem, place, mem-map, map-mem, range-mem, mem-range}
 use Rattle.lists.proofs.Members.{least-mem, least-le}
 use Rattle.study.specs.Problem.{Problem, centres, centreOf, nearestDistance, blocksAt, nearestBlock}
 use Rattle.study.specs.Theorems.{Lawful, IsNearest}
-use Rattle.study.proofs.ProblemLaws.{cover}
+use Rattle.study.proofs.ProblemLaws.{cover, blocksAt-mem, mem-blocksAt}
 
 -- the first of k, k + 1, .. that passes p is at most any that does
 first-le : (p : ℕ → Bool) (k n : ℕ) {x : ℕ} → x among iota k n → T (p x) → headD (filter p (iota k n)) 0 ≤ x
@@ -63,23 +63,18 @@ module _ (dist : ℕ → ℕ → ℕ) (cs : List ℕ) (t : ℕ) where
   first-at-most m l h e = first-le asNear 1 (length cs) (mem-range 1 (length cs) m l (omega arith)) (eq→eqb (far m) nearest e)
 
   first-mem-at : 0 < length cs → nearestBlock dist cs t among blocksAt dist cs t nearest
-  unfolding nearestBlock blocksAt
-  first-mem-at l =
-      let m = attained l in
-      let in-range = mem-range 1 (length cs) (m .0) (m .1) (omega (arith, m .2)) in
-      first-mem 0 _ (nonempty _ (mem-filter asNear (iota 1 (length cs)) in-range (eq→eqb (far (m .0)) nearest (m .3))))
+  unfolding nearestBlock
+  first-mem-at l = let m = attained l in first-mem 0 _ (nonempty _ (mem-blocksAt dist cs t nearest (m .1) (m .2) (m .3)))
 
   -- the definition of the block is nearest
   pub nearest-block : 0 < length cs → (nearest ≡ far (nearestBlock dist cs t)) × IsNearest dist cs t (nearestBlock dist cs t)
-  unfolding blocksAt
   nearest-block l =
-      let r = filter-mem asNear (iota 1 (length cs)) (first-mem-at l) in
-      let q = range-mem 1 (length cs) (r .0) in
-      let e = eqb→eq (far (nearestBlock dist cs t)) nearest (r .1) in (
+      let b = blocksAt-mem dist cs t nearest (first-mem-at l) in
+      let e = b .2 in (
         sym e,
         record {
-          low = q .0;
-          high = omega (arith, q .1);
+          low = b .0;
+          high = b .1;
           no-nearer = λ k a b. omega (arith, nearest-le k a b, e);
           no-lower = λ k a b f. first-at-most k a b (f ∙ e);
         },

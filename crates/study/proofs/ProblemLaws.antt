@@ -7,17 +7,17 @@ use mathlib.Core.Logic.{_⊎_, inl, inr, ⊎-elim, _↔_}
 use mathlib.Core.Bool.{Bool, true, false, cond, _&&_, not}
 use mathlib.Core.List.{List, [], _∷_, _++_, headD, List·Memᴰ·append-cases, Memᴰ·append-left, Memᴰ·append-right, Memᴰ·cast, List·Memᴰ·eq-of-singleton}
 use mathlib.Core.List.{List·Memᴰ·head as here, List·Memᴰ·tail as there}
-use lib.Dec.{T, leb, ltb, eqb, leb→le, le→leb, ltb→lt, nltb→le, eqb→eq}
+use lib.Dec.{T, ltb, eqb, ltb→lt, nltb→le, eqb→eq}
 use lib.ListN.{length, getD, length-append, List·getD-append}
 use lib.Seq.{getD-append-seam}
 use Rattle.lists.specs.Lists.{_among_, iota, greatest, tabulate, allOf, filter, tuples}
 use Rattle.lists.proofs.Tests.{and-T, T-left, T-right, split, cond-yes, eq→eqb, every-at, every-of}
-use Rattle.lists.proofs.Members.{no-member, all-at, all-of, not-all, filter-mem, mem-filter, first-mem, nonempty, getD-mem, mem-flatMap, range-mem, mem-range}
-use Rattle.lists.proofs.Members.{least-mem, least-le, greatest-ge, greatest-le, greatest-is}
+use Rattle.lists.proofs.Members.{no-member, all-at, all-of, not-all, filter-mem, mem-filter, first-mem, nonempty, getD-mem, mem-flatMap, flatMap-mem}
+use Rattle.lists.proofs.Members.{range-mem, mem-range, least-mem, least-le, greatest-ge, greatest-le, greatest-is}
 use Rattle.lists.proofs.Tables.{length-tabulate, getD-tabulate, mem-tabulate}
 use Rattle.lists.proofs.Tuples.{Tuple, tuples-mem, mem-tuples}
-use Rattle.study.specs.Problem.{Problem, centresAmong, centres, centreOf, choices, block, labels, allSufficient, assignments, assignable, candidates}
-use Rattle.study.specs.Problem.{radius, diameter, greatestDiameter, Feasible, feasible}
+use Rattle.study.specs.Problem.{Problem, centresAmong, centres, centreOf, blocksAt, choices, block, labels, allSufficient, assignments}
+use Rattle.study.specs.Problem.{assignable, candidates, radius, diameter, greatestDiameter, Feasible, feasible}
 use Rattle.study.specs.Theorems.{Symmetric, Lawful, Assignment}
 
 -- ---- centres
@@ -207,6 +207,22 @@ module _ (P : Problem) (D E : ℕ → ℕ) where
   greatestDiameter-same e =
       greatest-same (P .size) _ _ (λ t l. greatest-same t _ _ (λ u k. ap₂ (λ a b. cond (eqb a b) (P .dist u t) 0) (e u (omega arith)) (e t l)))
 
+-- ---- the blocks at one distance
+
+module _ (dist : ℕ → ℕ → ℕ) (cs : List ℕ) (t x : ℕ) where
+  pub blocksAt-mem : {m : ℕ} → m among blocksAt dist cs t x → (1 ≤ m) × (m ≤ length cs) × (dist (centreOf cs m) t ≡ x)
+  unfolding blocksAt
+  blocksAt-mem {m} h =
+      let r = filter-mem (λ m. eqb (dist (centreOf cs m) t) x) (iota 1 (length cs)) h in
+      let q = range-mem 1 (length cs) (r .0) in
+      (q .0, omega (arith, q .1), eqb→eq (dist (centreOf cs m) t) x (r .1))
+
+  pub mem-blocksAt : {m : ℕ} → 1 ≤ m → m ≤ length cs → dist (centreOf cs m) t ≡ x → m among blocksAt dist cs t x
+  unfolding blocksAt
+  mem-blocksAt {m} low high e =
+      mem-filter (λ m. eqb (dist (centreOf cs m) t) x) (iota 1 (length cs)) (mem-range 1 (length cs) m low (omega arith))
+      (eq→eqb (dist (centreOf cs m) t) x e)
+
 -- ---- choices: the blocks whose centre is at most g away. All else that is used of them is `choice-before` (Dictionary.antt)
 
 pub record Choice (P : Problem) (g : ℕ) (cs : List ℕ) (t m : ℕ) : Type 0 where
@@ -217,15 +233,16 @@ pub record Choice (P : Problem) (g : ℕ) (cs : List ℕ) (t m : ℕ) : Type 0 w
 pub choices-mem : (P : Problem) (g : ℕ) (cs : List ℕ) (t m : ℕ) → m among choices P g cs t → Choice P g cs t m
 unfolding choices
 choices-mem P g cs t m h =
-    let r = filter-mem (λ m. leb (P .dist (centreOf cs m) t) g) (iota 1 (length cs)) h in
-    let q = range-mem 1 (length cs) (r .0) in
-    record { low = q .0; high = omega (arith, q .1); in-radius = leb→le (P .dist (centreOf cs m) t) g (r .1) }
+    let s = flatMap-mem (blocksAt (P .dist) cs t) (iota 0 (suc g)) h in
+    let b = blocksAt-mem (P .dist) cs t (s .0) (s .2) in
+    record { low = b .0; high = b .1; in-radius = omega (arith, b .2, range-mem 0 (suc g) (s .1)) }
 
 pub mem-choices : (P : Problem) (g : ℕ) (cs : List ℕ) (t m : ℕ) → Choice P g cs t m → m among choices P g cs t
 unfolding choices
 mem-choices P g cs t m c =
-    mem-filter (λ m. leb (P .dist (centreOf cs m) t) g) (iota 1 (length cs)) (mem-range 1 (length cs) m (c .low) (omega (arith, c .high)))
-    (le→leb (P .dist (centreOf cs m) t) g (c .in-radius))
+    let x = P .dist (centreOf cs m) t in
+    mem-flatMap (blocksAt (P .dist) cs t) (iota 0 (suc g)) (mem-range 0 (suc g) x zero-le (omega (arith, c .in-radius)))
+    (mem-blocksAt (P .dist) cs t x (c .low) (c .high) refl)
 
 -- ---- assignments
 

@@ -4,7 +4,7 @@
 use Prim.Native.Nat.{ℕ, zero, suc, _-_, _<_}
 use mathlib.Core.Bool.{Bool, cond, not, _&&_}
 use mathlib.Core.List.{List, [], _∷_, _++_, map, flatMap, headD}
-use lib.Dec.{T, leb, ltb, eqb}
+use lib.Dec.{T, ltb, eqb}
 use lib.ListN.{length, getD}
 use Rattle.lists.specs.Lists.{iota, every, greatest, tabulate, allOf, filter, isEmpty, least, tuples}
 
@@ -41,9 +41,10 @@ blocksAt dist cs t x = filter (λ m. eqb (dist (centreOf cs m) t) x) (iota 1 (le
 unfoldable pub nearestBlock : (ℕ → ℕ → ℕ) → List ℕ → ℕ → ℕ
 nearestBlock dist cs t = headD (blocksAt dist cs t (nearestDistance dist cs t)) 0
 
--- the blocks that tide t may go to, whose centre is at most g away, in the order in which t prefers them
+-- the blocks that tide t may go to, whose centre is at most g away, in the order in which t prefers them (document 02, 2.6): those whose
+-- centre is at 0, at 1, and so on to g, each time by number
 unfoldable pub choices : Problem → ℕ → List ℕ → ℕ → List ℕ
-choices P g cs t = filter (λ m. leb (P .dist (centreOf cs m) t) g) (iota 1 (length cs))
+choices P g cs t = flatMap (blocksAt (P .dist) cs t) (iota 0 (suc g))
 
 -- the tides of block m
 unfoldable pub block : (ℕ → ℕ) → ℕ → ℕ → Bool

@@ -50,9 +50,13 @@ pub record Assignment (P : Problem) (g : ℕ) (xs : List ℕ) : Type 0 where
   pub in-radius : (t : ℕ) → t < P .size → P .dist (centreOf (centres P g) (labels xs t)) t ≤ g
   pub enough : (m : ℕ) → 1 ≤ m → m ≤ length (centres P g) → T (P .enough (block (labels xs) m))
 
--- where the blocks belong to the centres cs, tide t prefers block m to block k: m has the lower number
+-- document 02, 2.6: where the blocks belong to the centres cs, tide t prefers block m to block k: its centre is nearer, or equally near and
+-- m is the lower number
 unfoldable pub Prefers : Problem → List ℕ → ℕ → ℕ → ℕ → Type 0
-Prefers P cs t m k = m < k
+Prefers P cs t m k =
+    let x = P .dist (centreOf cs m) t in
+    let y = P .dist (centreOf cs k) t in
+    (x < y) ⊎ ((x ≡ y) × (m < k))
 
 -- xs comes before ys in dictionary order: the first tide where they differ prefers its block in xs
 pub record Precedes (P : Problem) (g : ℕ) (xs ys : List ℕ) : Type 0 where

@@ -1,7 +1,7 @@
 -- The radius is the least, the assignment at it the first, and `number` turns it into the list. Assumes nothing.
 use native.Mathlib.Omega.{arith}
 use Rattle.blocking_core.proofs.CoreLaws.{assigned-core}
-use Rattle.radius_search.proofs.FrontLaws.{front-few}
+use Rattle.radius_search.proofs.FrontLaws.{front-few, centres-in, rows-of}
 use Prim.Native.Nat.{ℕ}
 use lib.ListN.{length-replicate}
 use Rattle.study.specs.Limits.{tableSize}
@@ -18,7 +18,7 @@ least-radius-requires c κs =
 
 first-assignment-requires : tie.Need-first-assignment-requires
 first-assignment-requires c κs =
-    let at-radius = c .before .before .before .before .before in
+    let at-radius = c .before .before .before .before .before .before in
     let pre = at-radius .before .before .before .before .before .before .before .pre in
     let least = at-radius .least-radius .ensures in
     let few = pre .0 .few in
@@ -30,13 +30,13 @@ first-assignment-requires c κs =
         list-long = omega (arith, least .1 .same-length, pre .1 .1 .2);
         able = pre .0 .able;
       },
-      least .0 .found,
+      (least .0 .found, record { rows = rows-of (pre .0); centres = centres-in few (least .0 .centres) }),
     )
 
 number-requires : tie.Need-number-requires
 number-requires c κs =
     let at-first = c .before .before .before .before in
-    let at-radius = at-first .before .before .before .before .before .before in
+    let at-radius = at-first .before .before .before .before .before .before .before in
     let pre = at-radius .before .before .before .before .before .before .before .pre in
     let least = at-radius .least-radius .ensures in
     let first = at-first .first-assignment .ensures in
@@ -49,7 +49,7 @@ returns : tie.Need-returns
 returns c =
     let at-number = c .before .before in
     let at-first = at-number .before .before .before .before .before in
-    let at-radius = at-first .before .before .before .before .before .before in
+    let at-radius = at-first .before .before .before .before .before .before .before in
     let pre = at-radius .before .before .before .before .before .before .before .pre in
     let least = at-radius .least-radius .ensures in
     let first = at-first .first-assignment .ensures in

@@ -12,26 +12,27 @@ use Rattle.blocking_core.proofs.first.first_assignment.Statement.{state
 use Rattle.blocking_core.proofs.first.first_assignment.Tie as tie
 
 abbrev Inv-loop : tie.InvT-loop
-Inv-loop n blocks minima settings allowed₀ list₀ t₀ allowed list t =
-    (t ≤ n) × TailKept n list₀ list × Fixed rank n blocks (meeting minima n settings) t allowed₀ allowed list
+Inv-loop distances n centres blocks minima settings allowed₀ list₀ t₀ allowed list t =
+    (t ≤ n) × TailKept n list₀ list × Fixed (rank distances centres) n blocks (meeting minima n settings) t allowed₀ allowed list
 
 abbrev μ-loop : tie.MeasureT-loop
-μ-loop n blocks minima settings allowed₀ list₀ t₀ allowed list t = n - t
+μ-loop distances n centres blocks minima settings allowed₀ list₀ t₀ allowed list t = n - t
 
 loop-holds : tie.Need-loop-holds Inv-loop μ-loop
-loop-holds c = (omega arith, tail-same _ _, fixed-start (c .before .before .before .pre .1))
+loop-holds c = (omega arith, tail-same _ _, fixed-start (c .before .before .before .before .pre .1 .0))
 
 choose-block-requires : tie.Need-choose-block-requires Inv-loop μ-loop
 choose-block-requires c κs =
     let at-loop = c .before .before .before in
     let now = at-loop .loop .inv in
-    let asked = at-loop .before .before .before .before .pre .0 in
-    (asked-on asked (now .2 .same-length) (now .1 .same-length), (now .2 .assigned, c .before .before .loop-test .taken))
+    let pre = at-loop .before .before .before .before .before .pre in
+    let asked = asked-on (pre .0) (now .2 .same-length) (now .1 .same-length) in
+    (asked, (now .2 .assigned, (pre .1 .1, c .before .before .loop-test .taken)))
 
 add-t : tie.Need-add-t Inv-loop μ-loop
 add-t c =
     let at-loop = c .before .before .before .before .before .before .before .before in
-    let few = at-loop .before .before .before .before .pre .0 .few-tides in
+    let few = at-loop .before .before .before .before .before .pre .0 .few-tides in
     omega arith
 
 loop-again : tie.Need-loop-again Inv-loop μ-loop
