@@ -135,8 +135,8 @@ public:
         return flow.flowValue() == need;
     }
 
-    // The first filling in dictionary order: each tide in turn keeps the least
-    // of its near blocks with which a filling still exists.
+    // The first filling: each tide in turn keeps the first of its near blocks, in
+    // the order given, with which a filling still exists.
     std::vector<int> first_list(const std::vector<std::vector<int>> &near) {
         std::vector<std::vector<Into>> of(tides);
         for (auto &x : into) of[x.tide].push_back(x);
@@ -194,10 +194,14 @@ int main() {
         if (blocks * s.b0 > s.n()) continue;
         Network network(s, centres, g);
         if (!network.filling_exists()) continue;
-        std::vector<std::vector<int>> near(s.n());
-        for (int t = 0; t < s.n(); t++)
+        std::vector<std::vector<int>> near(s.n()); // nearest first, then by number
+        for (int t = 0; t < s.n(); t++) {
             for (int m = 0; m < blocks; m++)
                 if (s.distance[centres[m]][t] <= g) near[t].push_back(m);
+            std::stable_sort(near[t].begin(), near[t].end(), [&](int x, int y) {
+                return s.distance[centres[x]][t] < s.distance[centres[y]][t];
+            });
+        }
         auto list = network.first_list(near);
         std::vector<int> size(blocks, 0), diameter(blocks, 0);
         for (int i = 0; i < s.n(); i++) {

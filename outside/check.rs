@@ -402,6 +402,7 @@ struct Seen {
     yes: u64,
     no: u64,
     enumerated: u64,
+    reordered: u64, // of these, with another list by block number alone
     lowered: u64,   // tables that were lowered
     untouched: u64, // tables that came back untouched
     raised: u64,    // minima that were taken with another b0
@@ -487,6 +488,7 @@ impl Seen {
             yes: 0,
             no: 0,
             enumerated: 0,
+            reordered: 0,
             lowered: 0,
             untouched: 0,
             raised: 0,
@@ -556,8 +558,9 @@ impl Seen {
             if w.n() <= 7 {
                 self.enumerated += 1;
                 let s = w.study().unwrap();
-                if let Err(what) = enumerate(&s, &c.list.places, &c.result.places) {
-                    fail(&what, &before_w, &before_call);
+                match enumerate(&s, &c.list.places, &c.result.places) {
+                    Ok(reordered) => self.reordered += reordered as u64,
+                    Err(what) => fail(&what, &before_w, &before_call),
                 }
             }
         }
@@ -695,30 +698,41 @@ fn fail(what: &str, w: &World, call: &Call) -> ! {
 
 // ---- full enumeration, up to seven tides ----
 
-/// Tries every list of every candidate in dictionary order, and every division.
-fn enumerate(s: &Study, list: &[u8], result: &[u32]) -> Result<(), String> {
+/// Tries every list of every candidate, and every division. Of the lists at the
+/// reach that meet the minima the first is the least by distance and block
+/// number of each tide in turn. Says whether by block number alone it is another.
+fn enumerate(s: &Study, list: &[u8], result: &[u32]) -> Result<bool, String> {
     let n = s.n();
     for g in plain::candidates(s) {
         let centres = plain::centres_at(s, g);
-        let near = plain::near(s, &centres, g);
-        let mut at = vec![0; n]; // an odometer over the blocks in reach, tide 1 slowest
-        loop {
-            let tried: Vec<usize> = (0..n).map(|t| near[t][at[t]]).collect();
-            if (0..centres.len()).all(|m| plain::meets(s, &tried, m)) {
-                let same = (0..n).all(|t| tried[t] + 1 == list[t] as usize);
-                if result[0] as usize != centres.len() || result[1] != g || !same {
-                    return Err(format!("enumeration finds reach {g}, blocks from 0 {tried:?}"));
-                }
-                return twice(s, result[2]);
-            }
-            let Some(t) = (0..n).rev().find(|t| at[*t] + 1 < near[*t].len()) else {
-                break;
-            };
-            at[t] += 1;
-            at[t + 1..].fill(0);
+        let good = all_good(s, centres.len(), &plain::near(s, &centres, g));
+        let away = |t: usize, m: usize| (s.distances[centres[m]][t], m);
+        let by_distance = |l: &&Vec<usize>| (0..n).map(|t| away(t, l[t])).collect::<Vec<_>>();
+        let Some(first) = good.iter().min_by_key(by_distance) else { continue };
+        let same = (0..n).all(|t| first[t] + 1 == list[t] as usize);
+        if result[0] as usize != centres.len() || result[1] != g || !same {
+            return Err(format!("enumeration finds reach {g}, blocks from 0 {first:?}"));
         }
+        twice(s, result[2])?;
+        return Ok(good.iter().min() != Some(first));
     }
     Err("enumeration finds no filling".to_string())
+}
+
+/// Every list of near blocks that meets the minima.
+fn all_good(s: &Study, blocks: usize, near: &[Vec<usize>]) -> Vec<Vec<usize>> {
+    let n = s.n();
+    let mut good = vec![];
+    let mut at = vec![0; n]; // an odometer over the blocks in reach
+    loop {
+        let tried: Vec<usize> = (0..n).map(|t| near[t][at[t]]).collect();
+        if (0..blocks).all(|m| plain::meets(s, &tried, m)) {
+            good.push(tried);
+        }
+        let Some(t) = (0..n).rev().find(|t| at[*t] + 1 < near[*t].len()) else { return good };
+        at[t] += 1;
+        at[t + 1..].fill(0);
+    }
 }
 
 /// No division that meets the minima is less than half as wide.
@@ -1865,10 +1879,11 @@ fn line(seen: &mut Seen, rng: &mut Rng, at: &[i32], settings: &[u8], k: u8) -> R
     run
 }
 
-/// The cases that document 01 works out, with its own numbers.
+/// The cases that document 01 works out, with its own numbers; and of document
+/// 02, 2.6, two lists that are others by block number alone.
 fn worked(seen: &mut Seen, rng: &mut Rng) {
     // positions, settings, k, minima; reach, list, diameters
-    let cases: [(&[i32], &[u8], u8, &[u8], u32, &[u8], &[u32]); 7] = [
+    let cases: [(&[i32], &[u8], u8, &[u8], u32, &[u8], &[u32]); 9] = [
         (&[2, 5, 0, 1, 3, 7], &[1; 6], 1, &[3], 2, &[1, 2, 1, 1, 2, 2], &[2, 4]),
         (&[0, 1, 10, 11], &[1, 2, 1, 2], 2, &[2, 1, 1], 1, &[1, 1, 2, 2], &[1, 1]),
         (&[2, 0, 2, 4], &[1; 4], 1, &[2], 2, &[1, 1, 1, 1], &[4]),
@@ -1876,6 +1891,9 @@ fn worked(seen: &mut Seen, rng: &mut Rng) {
         (&[0, 0, 0], &[1; 3], 1, &[1], 0, &[1, 1, 1], &[0]),
         (&[0, 5], &[1; 2], 1, &[1], 0, &[1, 2], &[0, 0]),
         (&[0, 5], &[1; 2], 1, &[2], 5, &[1, 1], &[5]),
+        // 2.6: tide 3 is at 1 from block 2's centre and at 40 from block 1's
+        (&[0, 41, 40, 40], &[1; 4], 1, &[2], 40, &[1, 2, 2, 1], &[40, 1]),
+        (&[0, 41, 40, 1, 40, 40], &[1; 6], 1, &[3], 40, &[1, 2, 2, 1, 2, 1], &[40, 1]),
     ];
     let put_minima = |seen: &mut Seen, rng: &mut Rng, run: &mut Run, given: &[u8]| {
         let mut m = [0; 9];
@@ -1896,7 +1914,7 @@ fn worked(seen: &mut Seen, rng: &mut Rng) {
                 || &c.diameters.places[..blocks] != diameters
                 || c.result.places[..3] != [blocks as u32, reach, widest]
             {
-                fail("a worked case of document 01", &run.w, &call);
+                fail("a worked case", &run.w, &call);
             }
         }
     }
@@ -2258,6 +2276,7 @@ fn main() {
         println!("{line}");
     }
     whole &= seen.yes > 0 && seen.no > 0;
+    whole &= seen.reordered > 0;
     whole &= seen.raised > 0;
     whole &= seen.lowered > 0 && seen.untouched > 0;
     whole &= seen.bills.reduced > 0 && seen.bills.halves > 0 && seen.bills.ties > 0;
@@ -2269,6 +2288,7 @@ fn main() {
         "{} blockings of up to 7 tides also by full enumeration, none wider than twice the least",
         seen.enumerated
     );
+    println!("{} of them with another list by block number alone", seen.reordered);
     println!("{} minima taken with b0 raised to the sum of the b's", seen.raised);
     println!("{} tables lowered, {} untouched", seen.lowered, seen.untouched);
     println!(

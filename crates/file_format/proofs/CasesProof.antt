@@ -14,7 +14,7 @@ use Rattle.file_format.specs.File.{tideFields, fields, fileOf, bitLength
 use Rattle.file_format.specs.File.{tideAt, minimaAt, decoded, headReasons, tideReasons, readReasons}
 use Rattle.file_format.proofs.AcceptedLaws.{accepted-valid}
 use Rattle.file_format.specs.Cases.{tideOn, line, plain, fresh, reply, case1, case2, case3, case4, case7, one-tide, cases, WorkedCases}
-use Rattle.file_format.specs.Cases.{studyIn, studies, ValidStudies, order, ReadInOrder}
+use Rattle.file_format.specs.Cases.{nearest, NearestFirst, studyIn, studies, ValidStudies, order, ReadInOrder}
 
 pub worked-cases : WorkedCases
 unfolding cases case1 case2 case3 case4 case7 one-tide plain line tideOn reply firstOf
@@ -24,6 +24,12 @@ unfolding cases case1 case2 case3 case4 case7 one-tide plain line tideOn reply f
     readReasons headReasons tideReasons decoded minimaAt tideAt byteLength bitLength fileOf fields tideFields packed pack allBits binary
     every sumBelow countBelow greatest tabulate flatMap headD
 worked-cases = refl
+
+pub nearest-first : NearestFirst
+unfolding nearest plain line tideOn reply firstOf blockReasons figures blockRecord
+    centresAmong centres centreOf blocksAt choices block labels allSufficient assignments assignable candidates radius blocking
+    diameter greatestDiameter tide distance meets sufficient problem every sumBelow countBelow greatest tabulate flatMap headD
+nearest-first = refl
 
 -- Read accepts the file of each study and gives the study back
 abbrev answer : Study → Verdict
@@ -38,13 +44,13 @@ all-valid (R ∷ Rs) e q S (here r) = subst Valid (cc) (accepted-valid (fileOf (
 all-valid (R ∷ Rs) e q S (there m) = all-valid Rs (cc) (cc) S m
 
 accepts : map answer studies ≡ map (λ (S : Study). accepted) studies
-unfolding studies studyIn cases case1 case2 case3 case4 case7 one-tide plain line tideOn opening opened firstOf
+unfolding studies studyIn cases nearest case1 case2 case3 case4 case7 one-tide plain line tideOn opening opened firstOf
     readReasons headReasons tideReasons decoded minimaAt tideAt byteLength bitLength fileOf fields tideFields packed pack allBits binary
     triangle violations distance tide validMinima every sumBelow tabulate flatMap
 accepts = refl
 
 gives-back : map back studies ≡ studies
-unfolding studies studyIn cases case1 case2 case3 case4 case7 one-tide plain line tideOn opening opened
+unfolding studies studyIn cases nearest case1 case2 case3 case4 case7 one-tide plain line tideOn opening opened
     decoded minimaAt tideAt bitLength fileOf fields tideFields packed pack allBits binary tabulate flatMap
 gives-back = refl
 

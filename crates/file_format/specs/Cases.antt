@@ -1,10 +1,10 @@
--- Document 01's "Tides on a line", the cases marked P, as one list of questions and replies; and the order of Read's reasons. The questions
--- ask the definitions that the contracts of the calls cite. There are no proofs here: `worked-cases`, `valid-studies` and `in-order` of
--- CasesProof.antt prove the three statements. Assumes nothing.
+-- Document 01's "Tides on a line", the cases marked P, as one list of questions and replies; cases of document 02, 2.6; and the order of
+-- Read's reasons. The questions ask the definitions that the contracts of the calls cite. There are no proofs here: `worked-cases`,
+-- `nearest-first`, `valid-studies` and `in-order` of CasesProof.antt prove the statements. Assumes nothing.
 use Prim.Native.Nat.{ℕ, _+_, _-_}
 use mathlib.Core.Path.{_≡_}
 use mathlib.Core.Bool.{Bool, true, false}
-use mathlib.Core.List.{List, [], _∷_, map, flatMap}
+use mathlib.Core.List.{List, [], _∷_, _++_, map, flatMap}
 use lib.ListN.{length, getD, take}
 use Rattle.lists.specs.Lists.{_among_, tabulate}
 use Rattle.study.specs.declared.BlockRecord.{BlockRecord}
@@ -162,6 +162,22 @@ cases =
 abbrev pub WorkedCases : Type 0
 WorkedCases = AsGiven cases
 
+-- ---- document 02, 2.6: lists that the order by block number alone would not give
+
+unfoldable pub nearest : List WorkedCase
+nearest =
+    -- tide 3 is at 1 from block 2's centre and at 40 from block 1's; by number alone it would be in block 1
+    (block-of (plain 2 (0 ∷ 41 ∷ 40 ∷ 40 ∷ []))
+    gives value (blocked (figuresOf 2 40 40) (1 ∷ 2 ∷ 2 ∷ 1 ∷ []) (recordOf 1 2 40 ∷ recordOf 2 2 1 ∷ [])))
+    -- of the three tides at 40 the last one goes to block 1, which lacks a tide; the one at 1 stays there
+    ∷ (block-of (plain 3 (0 ∷ 41 ∷ 40 ∷ 1 ∷ 40 ∷ 40 ∷ []))
+    gives value (blocked (figuresOf 2 40 40) (1 ∷ 2 ∷ 2 ∷ 1 ∷ 2 ∷ 1 ∷ []) (recordOf 1 3 40 ∷ recordOf 2 3 1 ∷ [])))
+    ∷ []
+
+-- the definitions give these lists
+abbrev pub NearestFirst : Type 0
+NearestFirst = AsGiven nearest
+
 -- ---- every study asked about is valid; so its minima have all eight b's and pass reason 3
 
 -- the study that a question asks about
@@ -175,7 +191,7 @@ studyIn (read s) = []
 
 -- the studies of all worked cases
 unfoldable pub studies : List Study
-studies = flatMap (λ (c : WorkedCase). studyIn (c .asked)) cases
+studies = flatMap (λ (c : WorkedCase). studyIn (c .asked)) (cases ++ nearest)
 
 -- each of them is valid
 abbrev pub ValidStudies : Type 0
