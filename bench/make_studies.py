@@ -187,6 +187,25 @@ def diagonal(n):
     return study_file(1, 3, [0], [1] * n, lambda t, e: table[t, e])
 
 
+def spare(n):
+    """Blocks of two, and as many tides to spare as there are blocks. Every tide
+    is nearest to the centre of the last block, next to that of the last but
+    one, and so on: each spare tide comes there one search at a time."""
+    R = 100_000
+    centres = n // 3
+    table = {}
+    for t in range(n):
+        for e in range(t):
+            if t < centres:
+                d = 2 * R
+            elif e < centres:
+                d = R + (centres - 1 - e) * 1000
+            else:
+                d = 2 * R - 1 - (t * e) % 1000
+            table[t, e] = d
+    return study_file(1, 2, [0], [1] * n, lambda t, e: table[t, e])
+
+
 def ties(n):
     """Two distances only; eight settings, each block just one tide of each
     where the blocks are full. The first list needs many trials."""
@@ -235,7 +254,7 @@ def spread(n):
 KINDS = [
     ("easy", line), ("easy", plane),
     ("hard", count), ("hard", settings), ("hard", moving), ("hard", chain),
-    ("hard", growing), ("hard", searched), ("hard", diagonal), ("hard", ties), ("hard", spread),
+    ("hard", growing), ("hard", searched), ("hard", diagonal), ("hard", spare), ("hard", ties), ("hard", spread),
 ]
 
 

@@ -120,7 +120,7 @@ pub record CanonicalBlock (S : Study) (F : Figures) (list₀ list : List ℕ) (r
   pub widest : F .widest ≡ greatestDiameter (problem S) (labels (blocking (problem S)))
   pub list-is : list ≡ over (blocking (problem S)) list₀
   pub records-are : records ≡ overwrite (F .blocks) (blockRecord S) records₀
-  -- an assignment at the radius, the first in dictionary order; no smaller candidate has one
+  -- an assignment at the radius, the first by the order in which the tides prefer blocks; no smaller candidate has one
   pub canonical : Canonical (problem S)
 
 -- after an accepted Open or Read the ledger begins with that file's tides, or none, and goes on with the calls since
