@@ -1,16 +1,18 @@
 // The first assignment by the order in which each tide ranks the blocks, through the promise of the matching search alone.
 use crate::column::fix;
 use crate::column::restrict;
+use crate::rank::least_ranked;
+use crate::rank::rank_blocks;
 use matching::search;
 use promise::table::first_allowed;
 use study::MAX_TIDES;
 use study::Minima;
 use study::wide;
 ghost use mathlib.Core.Path.{_≡_};
-ghost use Prim.Native.Nat.{_+_, _*_, _<_, _≤_};
+ghost use Prim.Native.Nat.{_<_, _≤_};
 ghost use lib.ListN.{length};
 ghost use Rattle.lists.specs.Lists.{at, overwrite, TailKept};
-ghost use Rattle.study.specs.Limits.{maxTides};
+ghost use Rattle.study.specs.Limits.{maxTides, tableSize};
 ghost use Rattle.study.specs.Problem.{labels};
 ghost use Rattle.promise.specs.Promise.{Assigned, Asked, meeting, Able};
 ghost use Rattle.blocking_core.specs.Column.{Restricted};
@@ -28,7 +30,8 @@ fn copy(from: &[u8], to: &mut [u8], n: usize)
     }
 }
 
-// Whether the table has an assignment, which is then written to list. On no, list stays.
+// Whether the table has an assignment, which is then written to list. On no, list stays. The search begins at list, with tide t at
+// block v.
 fn try_search(
     n: usize,
     blocks: usize,
@@ -36,18 +39,43 @@ fn try_search(
     settings: &[u8],
     allowed: &[u8],
     list: &mut [u8],
+    t: usize,
+    v: usize,
 ) -> bool
     requires { ⌜ Asked (Able minima n (now settings)) n blocks (now allowed) (now list) ⌝ }
+    requires { ⌜ (t < n) × (v < maxTides) ⌝ }
     ensures { λ r. ⌜ SearchTried n blocks (meeting minima n (now (settings .entry))) (now (allowed .entry))
         (now (list .entry)) (now (list .exit)) r ⌝ }
 {
     let mut trial: [u8; MAX_TIDES] = [0; MAX_TIDES];
     copy(list, &mut trial, n);
+    trial[t] = v as u8;
     if !search(n, blocks, minima, settings, allowed, &mut trial) {
         return false;
     }
     copy(&trial, list, n);
     true
+}
+
+// Where a search that takes tide t away from block v begins. With tides to spare, at the block that t ranks first: a tide that no
+// block needs stays where the search begins. Otherwise at v. It is a hint, and any block would do.
+fn begin_at(
+    n: usize,
+    blocks: usize,
+    b0: u8,
+    ranks: &[u64; MAX_TIDES],
+    allowed: &[u8],
+    t: usize,
+    v: usize,
+) -> usize
+    requires { ⌜ (blocks ≤ maxTides) × (t < maxTides) × (tableSize ≤ length (now allowed)) ⌝ }
+    requires { ⌜ v < maxTides ⌝ }
+    ensures { λ r. ⌜ r < maxTides ⌝ }
+{
+    if n <= blocks * wide(b0) {
+        return v;
+    }
+    least_ranked(allowed, blocks, ranks, t, v)
 }
 
 // Whether there is an assignment that gives tide t a block that ranks before v, which is then written to list. The other blocks
@@ -73,7 +101,8 @@ fn lower(
     if first_allowed(allowed, t, blocks) >= blocks {
         return false;
     }
-    try_search(n, blocks, minima, settings, allowed, list)
+    let hint = begin_at(n, blocks, minima.b0, ranks, allowed, t, v);
+    try_search(n, blocks, minima, settings, allowed, list, t, hint)
 }
 
 // Gives tide t the block of least rank that an assignment with the tides before it as they are gives it, and leaves it that block
@@ -100,34 +129,6 @@ fn choose(
         v = wide(list[t]);
     }
     fix(allowed, blocks, t, v);
-}
-
-// A block's rank, by how far its centre is and by its number.
-fn rank_of(distance: u32, m: usize) -> u64
-    requires { ⌜ m < maxTides ⌝ }
-    ensures { λ r. ⌜ r ≡ distance * maxTides + m ⌝ }
-{
-    (distance as u64) * (MAX_TIDES as u64) + (m as u64)
-}
-
-// What tide t ranks the blocks by.
-fn rank_blocks(
-    distances: &[u32],
-    n: usize,
-    centres: &[usize; MAX_TIDES],
-    blocks: usize,
-    t: usize,
-    ranks: &mut [u64; MAX_TIDES],
-)
-    requires { ⌜ Ranking (now distances) (now centres) n blocks ⌝ }
-    requires { ⌜ (t < n) × (length (now ranks) ≡ maxTides) ⌝ }
-    ensures { λ _. ⌜ now (ranks .exit) ≡ overwrite blocks (rank (now (distances .entry)) (now (centres .entry)) t) (now (ranks .entry)) ⌝ }
-{
-    let mut m = 0;
-    while m < blocks {
-        ranks[m] = rank_of(distances[centres[m] * MAX_TIDES + t], m);
-        m += 1;
-    }
 }
 
 // Chooses the block of tide t by its ranks of the blocks.

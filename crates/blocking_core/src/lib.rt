@@ -3,3 +3,4 @@ mod column;
 pub mod core;
 mod first;
 pub mod measure;
+mod rank;

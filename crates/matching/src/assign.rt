@@ -1,13 +1,30 @@
 // The list that a matching gives: the block of each tide.
 use promise::table::first_allowed;
 use study::MAX_TIDES;
+use study::wide;
 ghost use Prim.Native.Nat.{ℕ, _<_, _≤_};
 ghost use lib.ListN.{length};
 ghost use Rattle.study.specs.Limits.{maxTides, tableSize};
 ghost use Rattle.lists.specs.Lists.{at, TailKept};
+ghost use Rattle.promise.specs.Promise.{FirstAllowed};
 ghost use Rattle.matching.specs.Steps.{Owned, BlockOf, ListAnswer};
 
-// The block of the tide t: its slot's, or else the first allowed one; MAX_TIDES where there is none.
+// A block that the tide t may go to: the hinted one, or else the first; MAX_TIDES where there is none.
+fn free_block(allowed: &[u8], t: usize, blocks: usize, hint: usize) -> usize
+    requires { ⌜ blocks ≤ maxTides ⌝ }
+    requires { ⌜ t < maxTides ⌝ }
+    requires { ⌜ tableSize ≤ length (now allowed) ⌝ }
+    ensures { λ r. ⌜ FirstAllowed (now (allowed .entry)) t blocks r ⌝ }
+{
+    if hint < blocks {
+        if allowed[hint * MAX_TIDES + t] != 0 {
+            return hint;
+        }
+    }
+    first_allowed(allowed, t, blocks)
+}
+
+// The block of the tide t: its slot's, or else a free one; MAX_TIDES where there is none.
 fn block_of(
     allowed: &[u8],
     blocks: usize,
@@ -15,6 +32,7 @@ fn block_of(
     slots: usize,
     slot: &[usize; MAX_TIDES],
     t: usize,
+    hint: usize,
 ) -> usize
     requires { ⌜ blocks ≤ maxTides ⌝ }
     requires { ⌜ t < maxTides ⌝ }
@@ -27,10 +45,10 @@ fn block_of(
     if s < slots {
         return owner[s];
     }
-    first_allowed(allowed, t, blocks)
+    free_block(allowed, t, blocks, hint)
 }
 
-// Writes the block of each tide to the front of list. False where a tide may go to no block.
+// Writes the block of each tide to the front of list, which holds a hint for it. False where a tide may go to no block.
 pub fn write_list(
     allowed: &[u8],
     n: usize,
@@ -50,7 +68,7 @@ pub fn write_list(
 {
     let mut t = 0;
     while t < n {
-        let m = block_of(allowed, blocks, owner, slots, slot, t);
+        let m = block_of(allowed, blocks, owner, slots, slot, t, wide(list[t]));
         if m >= blocks {
             return false;
         }

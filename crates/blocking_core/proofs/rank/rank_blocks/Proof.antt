@@ -6,8 +6,8 @@ use Rattle.study.specs.Limits.{maxTides}
 use Rattle.lists.proofs.Tables.{overwrite-none, overwrite-step, overwrite-done}
 use mathlib.Core.Path.{_≡_}
 use Prim.Native.Nat.{_≤_, _<_, _-_}
-use Rattle.blocking_core.proofs.first.rank_blocks.Statement.{statement}
-use Rattle.blocking_core.proofs.first.rank_blocks.Tie as tie
+use Rattle.blocking_core.proofs.rank.rank_blocks.Statement.{statement}
+use Rattle.blocking_core.proofs.rank.rank_blocks.Tie as tie
 
 abbrev Inv-loop : tie.InvT-loop
 Inv-loop distances n centres blocks t ranks₀ m₀ ranks m = (m ≤ blocks) × (ranks ≡ overwrite m (rank distances centres t) ranks₀)
