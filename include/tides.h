@@ -61,9 +61,11 @@ uint32_t tides_centres(const uint16_t *record, size_t record_length, const uint3
                        uint16_t *count, size_t count_length);
 
 /*
- * Divides the tides into blocks. The list gets each tide's block number; for each block in order, centres, sizes and diameters get
- * its centre's tide number, its number of tides and its greatest distance. Each has at least n places. result gets 3 numbers: how
- * many blocks, the radius, the greatest diameter. Reasons: 1 (with result), 21, 24, 25, 1 (list, centres, sizes, diameters).
+ * Divides the tides into blocks. The list gets each tide's block number: tide after tide the block whose centre is nearest, of equal
+ * distances the lowest number, with which the tides after it can still meet the minima within the radius. For each block in order,
+ * centres, sizes and diameters get its centre's tide number, its number of tides and its greatest distance. Each has at least n
+ * places. result gets 3 numbers: how many blocks, the radius, the greatest diameter. Reasons: 1 (with result), 21, 24, 25, 1 (list,
+ * centres, sizes, diameters).
  */
 uint32_t tides_block(const uint16_t *record, size_t record_length, const uint32_t *distances, size_t distances_length,
                      const uint8_t *settings, size_t settings_length, uint8_t *list, size_t list_length, uint8_t *centres,

@@ -113,7 +113,7 @@ pub record Demand3 : Type 0 where
 
 -- ---- demand 2
 
--- the blocking that document 01 singles out: figures, list and records
+-- the blocking that documents 01 and 02 (2.6) single out: figures, list and records
 pub record CanonicalBlock (S : Study) (F : Figures) (list₀ list : List ℕ) (records₀ records : List BlockRecord) : Type 0 where
   pub radius : F .radius ≡ radius (problem S)
   pub blocks : F .blocks ≡ length (centres (problem S) (F .radius))
@@ -154,7 +154,7 @@ pub record Demand2 : Type 0 where
   pub too-few : (start : State) (calls : List Call) (S : Study) (list : List ℕ) (records : List BlockRecord)
       → studyAfter start calls ≡ some S → 0 < size S
       → (answer (run start calls) (call-ask (make-blocks list records)) ≡ refused (number 25)) ↔ ((D : ℕ → ℕ) → Feasible (problem S) D → ⊥)
-  -- an accepted Block's figures, list and records are those that document 01 singles out
+  -- an accepted Block's figures, list and records are those that documents 01 and 02 single out
   pub blocking : (start : State) (calls : List Call) (S : Study) (list₀ list : List ℕ) (records₀ records : List BlockRecord) (F : Figures)
       → studyAfter start calls ≡ some S
       → response (run start calls) (call-ask (make-blocks list₀ records₀)) ≡ blocked F list records

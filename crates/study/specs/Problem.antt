@@ -76,7 +76,7 @@ candidates P = 0 ∷ flatMap (λ t. tabulate t (λ u. P .dist u t)) (iota 0 (P .
 unfoldable pub radius : Problem → ℕ
 radius P = least (filter (assignable P) (candidates P))
 
--- document 01: the list, the filling that comes first
+-- document 01: the list, the filling that comes first in that order
 unfoldable pub blocking : Problem → List ℕ
 blocking P = headD (assignments P (radius P)) []
 

@@ -71,7 +71,7 @@ pub record FirstAssignment (P : Problem) (g : ℕ) (xs : List ℕ) : Type 0 wher
   pub foremost : (t : ℕ) → t < P .size → (ys : List ℕ) → Assignment P g ys → take t ys ≡ take t xs
       → Prefers P (centres P g) t (labels ys t) (labels xs t) → ⊥
 
--- the blocking is the one that document 01 singles out
+-- the blocking is the one that document 01 singles out, with the order of document 02, 2.6
 pub record Canonical (P : Problem) : Type 0 where
   pub assignment : Assignment P (radius P) (blocking P)
   pub candidate : radius P among candidates P
