@@ -9,6 +9,7 @@ use test_comparisons::given::is_list;
 use test_comparisons::judging::is_approved;
 use test_comparisons::judging::judged;
 use test_exhaustive::exhaustive;
+use test_exhaustive::exhaustive::Order;
 use test_exhaustive::small::Small;
 use test_exhaustive::small::table;
 use test_tools::answers::blocked_number;
@@ -78,7 +79,7 @@ fn refused(so_far: Tally, small: Small, number: u32) -> Tally {
 }
 
 fn has_assignment(small: Small, g: u32) -> bool {
-    let found = exhaustive::assignment(small, g);
+    let found = exhaustive::assignment(small, g, Order::Preference);
     found.found
 }
 

@@ -8,6 +8,7 @@ use study::wide;
 use test_exhaustive::centres;
 use test_exhaustive::centres::Centres;
 use test_exhaustive::exhaustive;
+use test_exhaustive::exhaustive::Order;
 use test_exhaustive::exhaustive::Plain;
 use test_exhaustive::partitions::diameter;
 use test_exhaustive::partitions::members;
@@ -71,8 +72,28 @@ pub fn agrees(small: Small, plain: Plain) -> bool {
         && right_records(records, small, list, centres)
 }
 
+fn same_list(a: [u8; 7], b: [u8; 7]) -> bool {
+    let mut t: usize = 0;
+    while t < 7 {
+        if a[t] != b[t] {
+            return false;
+        }
+        t += 1;
+    }
+    true
+}
+
+// Whether another list would come first at the plain blocker's radius if each tide took the blocks by number.
+fn other_by_number(small: Small, plain: Plain) -> bool {
+    let by_number = exhaustive::assignment(small, plain.radius, Order::Number);
+    let first = by_number.list;
+    let list = plain.list;
+    !same_list(first, list)
+}
+
 // Studies in which Block gives what the plain blocker gives, those of them that are refused 24 and 25, that have several blocks,
-// in which a candidate above the radius has no assignment, and in which Minima raises b0.
+// in which a candidate above the radius has no assignment, in which Minima raises b0, and in which the order by number would give
+// another list.
 pub struct Compared {
     agreed: Tally,
     no_tides: Tally,
@@ -80,6 +101,7 @@ pub struct Compared {
     several: Tally,
     gaps: Tally,
     raised: Tally,
+    by_number: Tally,
 }
 
 impl Compared {
@@ -95,6 +117,7 @@ impl Compared {
             gaps: self.gaps
                 .see(done && exhaustive::gap_above(small, plain.radius)),
             raised: self.raised.see(studies::is_below(small.minima)),
+            by_number: self.by_number.see(done && other_by_number(small, plain)),
         }
     }
 
@@ -106,6 +129,7 @@ impl Compared {
         self.gaps
             .print(b"with no assignment at a greater candidate");
         self.raised.print(b"with b0 below the sum of the b's");
+        self.by_number.print(b"with another list by number");
     }
 }
 
@@ -117,6 +141,7 @@ fn none() -> Compared {
         several: tally::new(),
         gaps: tally::new(),
         raised: tally::new(),
+        by_number: tally::new(),
     }
 }
 

@@ -65,6 +65,46 @@ impl Centres {
         self.away(small, t, block) <= g
     }
 
+    // Whether a tide prefers a block to another (document 02, 2.6): its centre is nearer, or equally near and its number lower.
+    fn prefers(self, small: Small, t: usize, block: u8, other: u8) -> bool {
+        let x = self.away(small, t, block);
+        let y = self.away(small, t, other);
+        if x == y {
+            return block < other;
+        }
+        x < y
+    }
+
+    // How many blocks a tide prefers to this one.
+    fn preferred(self, small: Small, t: usize, block: u8) -> u8 {
+        let count = self.count;
+        let mut sum: u8 = 0;
+        let mut m: u8 = 0;
+        while m < count {
+            m += 1;
+            if self.prefers(small, t, m, block) {
+                sum += 1;
+            }
+        }
+        sum
+    }
+
+    // A tide's choice at a place, from 1: the block to which it prefers exactly place - 1 others; 0 where there is none.
+    pub fn choice(self, small: Small, t: usize, place: u8) -> u8 {
+        if place < 1 {
+            return 0;
+        }
+        let count = self.count;
+        let mut m: u8 = 0;
+        while m < count {
+            m += 1;
+            if self.preferred(small, t, m) == place - 1 {
+                return m;
+            }
+        }
+        0
+    }
+
     // Whether no block's centre is nearer to a tide than this one's.
     fn none_nearer(self, small: Small, t: usize, block: u8) -> bool {
         let count = self.count;

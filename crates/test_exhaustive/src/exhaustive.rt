@@ -8,10 +8,38 @@ use crate::small::at;
 // Above every distance.
 const NONE: u32 = 4294967295;
 
-// A list of block numbers, where there is one.
+// The order in which each tide takes the blocks: by its preference (document 02, 2.6), or by their numbers, as it was before.
+pub enum Order {
+    Preference,
+    Number,
+}
+
+// A list of places or of blocks, where there is one.
 pub struct FoundList {
     pub found: bool,
     pub list: [u8; 7],
+}
+
+// The block that has a place, from 1, in tide t's order; past the n tides the place itself.
+fn block_at(small: Small, centres: Centres, order: Order, t: usize, place: u8) -> u8 {
+    if small.n <= t {
+        return place;
+    }
+    match order {
+        Order::Preference => centres.choice(small, t, place),
+        Order::Number => place,
+    }
+}
+
+// The list of blocks that a list of places stands for.
+fn blocks_at(small: Small, centres: Centres, order: Order, places: [u8; 7]) -> [u8; 7] {
+    let mut list = [0u8; 7];
+    let mut t: usize = 0;
+    while t < 7 {
+        list[t] = block_at(small, centres, order, t, places[t]);
+        t += 1;
+    }
+    list
 }
 
 // The first tide that is farther than g from its block's centre; n where there is none.
@@ -55,10 +83,10 @@ fn next_list(list: [u8; 7], n: usize, last: u8) -> FoundList {
     let mut i: usize = 7;
     while 0 < i {
         i -= 1;
-        let block = next[i];
+        let place = next[i];
         if i < n {
-            if block < last {
-                next[i] = block + 1;
+            if place < last {
+                next[i] = place + 1;
                 return FoundList {
                     found: true,
                     list: next,
@@ -73,9 +101,9 @@ fn next_list(list: [u8; 7], n: usize, last: u8) -> FoundList {
     }
 }
 
-// The first list in dictionary order that is an assignment at g. Of the lists, at most 7^7, those are passed over that begin as
-// one in which a tide is too far from its centre.
-pub fn assignment(small: Small, g: u32) -> FoundList {
+// The assignment at g whose list of places, each in its tide's order, is the first in dictionary order. Of the lists, at most 7^7, those
+// are passed over that begin as one in which a tide is too far from its centre.
+pub fn assignment(small: Small, g: u32, order: Order) -> FoundList {
     let n = small.n;
     let centres = centres::at_radius(small, g);
     let last = centres.count;
@@ -85,12 +113,13 @@ pub fn assignment(small: Small, g: u32) -> FoundList {
     };
     let mut tried: u32 = 0;
     while tried < 823543 {
-        let list = next.list;
+        let places = next.list;
+        let list = blocks_at(small, centres, order, places);
         let far = first_far(small, g, centres, list);
         if far == n && all_meet(small, list, last) {
-            return next;
+            return FoundList { found: true, list };
         }
-        next = next_list(last_after(list, far, last), n, last);
+        next = next_list(last_after(places, far, last), n, last);
         if !next.found {
             return next;
         }
@@ -152,7 +181,7 @@ pub fn block(small: Small) -> Plain {
     let mut radius: u32 = 0;
     let mut turn: u32 = 0;
     while turn < 22 {
-        let found = assignment(small, radius);
+        let found = assignment(small, radius, Order::Preference);
         if found.found {
             let list = found.list;
             return Plain {
@@ -178,7 +207,7 @@ pub fn gap_above(small: Small, g: u32) -> bool {
         if radius == NONE {
             return false;
         }
-        let found = assignment(small, radius);
+        let found = assignment(small, radius, Order::Preference);
         if !found.found {
             return true;
         }

@@ -5,10 +5,10 @@ use Rattle.test_exhaustive.proofs.exhaustive.assignment.Statement.{stat
 use Rattle.test_exhaustive.proofs.exhaustive.assignment.Tie as tie
 
 abbrev Inv-loop : tie.InvT-loop
-Inv-loop small g n centres last next₀ tried₀ next tried = tried ≤ 823543
+Inv-loop small g order n centres last next₀ tried₀ next tried = tried ≤ 823543
 
 abbrev μ-loop : tie.MeasureT-loop
-μ-loop small g n centres last next₀ tried₀ next tried = 823543 - tried
+μ-loop small g order n centres last next₀ tried₀ next tried = 823543 - tried
 
 pub assignment-spec : {M : Type 1} → statement M
 assignment-spec =
@@ -18,6 +18,7 @@ assignment-spec =
     μ-loop
     (λ c κs. search needs)
     (λ c. search needs)
+    (λ c κs. search needs)
     (λ c κs. search needs)
     (λ c κs. search needs)
     (λ c. search needs)
