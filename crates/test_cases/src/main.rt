@@ -1,4 +1,4 @@
-// Document 01's cases through the calls, and Block, Judge and Centres beside plain ones for up to seven tides.
+// Document 01's cases and studies for document 02, 2.6, through the calls; and Block, Judge and Centres beside plain ones for up to seven tides.
 // Each group prints how many of its answers and places came out as expected.
 use test_calls::calls;
 use test_calls::nearest;
@@ -17,6 +17,7 @@ fn print_cases() {
     cases::case_4(tally::new()).print(b"case 4");
     cases::case_5(tally::new()).print(b"case 5");
     cases::case_6(tally::new()).print(b"case 6");
+    cases::nearest_first(tally::new()).print(b"nearest first");
 }
 
 fn print_calls() {
