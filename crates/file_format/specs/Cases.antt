@@ -162,8 +162,9 @@ cases =
 abbrev pub WorkedCases : Type 0
 WorkedCases = AsGiven cases
 
--- ---- document 02, 2.6: lists that the order by block number alone would not give
+-- ---- document 02, 2.6
 
+-- lists that the order by block number alone would not give
 unfoldable pub nearest : List WorkedCase
 nearest =
     -- tide 3 is at 1 from block 2's centre and at 40 from block 1's; by number alone it would be in block 1
