@@ -59,12 +59,13 @@ module _ {d : List ℕ} {n : ℕ} {E : Test} (Q : ValidArrays d n E) {g count₁
       → rank d cs t (labels ys t - 1) < rank d cs t (labels list t)
   unfolding arrayProblem Prefers rank centreOf
   preferred-ranks t l ys A q =
-      let k : labels xs t - 1 ≡ labels list t = omega (arith, numbered-at n (labels list) t l) in
-      let y : labels ys t - 1 < count₁ = omega (arith, A .low t l, A .high t l, listed .long) in
-      let a = centre-dist Q g count₁ cs listed (labels ys t - 1) t y l in
-      let b = ap (λ z. P .dist (getD (centres P g) z 0) t) k ∙ centre-dist Q g count₁ cs listed (labels list t) t (F .assigned .below t l) l in
-      let c = front-few few (L .centres) in
-      ⊎-elim (λ h. omega arith) (λ h. omega (arith, h .0, h .1, A .low t l)) q
+      let other-below : labels ys t - 1 < count₁ = omega (arith, A .low t l, A .high t l, listed .long) in
+      let other-far = centre-dist Q g count₁ cs listed (labels ys t - 1) t other-below l in
+      let own : labels xs t - 1 ≡ labels list t = omega (arith, numbered-at n (labels list) t l) in
+      let own-below = F .assigned .below t l in
+      let own-far = ap (λ z. P .dist (getD (centres P g) z 0) t) own ∙ centre-dist Q g count₁ cs listed (labels list t) t own-below l in
+      let few-blocks = front-few few (L .centres) in
+      ⊎-elim (λ nearer. omega arith) (λ as-near. omega (arith, as-near .0, as-near .1, A .low t l)) q
 
   first : FirstAssignment P g xs
   unfolding arrayProblem
