@@ -1,23 +1,23 @@
 -- An accepted Open, Minima, Enter or Withdraw leaves valid contents: the triangle rule with the rest. Assumes nothing.
-use Prim.Native.Nat.{ℕ, zero, suc, _-_, _≤_, _<_}
+use Prim.Native.Nat.{ℕ, zero, suc, _+_, _-_, _≤_, _<_}
 use native.Mathlib.Nat.{not-suc-le-zero, le-of-suc-le-suc}
 use native.Mathlib.Omega.{arith}
 use mathlib.Core.Path.{_≡_, refl, sym, ap, ap₂, _∙_, subst}
 use mathlib.Core.Logic.{_⊎_, inl, inr, ⊎-elim}
 use mathlib.Core.Bool.{Bool, true, false, cond, not}
 use mathlib.Core.List.{List, [], _∷_}
-use lib.Dec.{T, leb, ltb, eqb, leb→le, nleb→lt, ltb→lt, lt→ltb, nltb→le, eqb→eq, leb·suc-suc}
+use lib.Dec.{T, leb, ltb, eqb, leb→le, nleb→lt, ltb→lt, lt→ltb, nltb→le, eqb→eq, leb·suc-suc, T-not}
 use lib.Arith.{le→nltb}
-use lib.ListN.{length, getD, length-append, length-map, List·getD-append, List·getD-map, getD-replicate}
-use lib.Seq.{getD-append-seam}
+use lib.ListN.{length, getD, length-append, length-map, length-set, List·getD-append, List·getD-map, getD-replicate}
+use lib.Seq.{getD-append-seam, getD-set-same, getD-set-other}
 use Rattle.lists.specs.Lists.{between, every, sumBelow, isEmpty}
-use Rattle.lists.proofs.Tests.{T-true, T-false, not-not, test, split, between-T, cond-yes, cond-no, every-at}
+use Rattle.lists.proofs.Tests.{T-true, T-false, not-not, test, split, between-T, cond-yes, cond-no, every-at, eq→eqb}
 use Rattle.study.specs.declared.Minima.{Minima}
-use Rattle.study.specs.Study.{Tide, Study, Contents, size, noTide, tide, distance, validMinima, TriangleInequality, Valid, MeasuredStudy}
+use Rattle.study.specs.Study.{Tide, Study, Contents, size, noTide, tide, distance, validMinima, TriangleInequality, Valid, MeasuredStudy, ValidCounts}
 use Rattle.study.specs.Refusals.{Numbered, Verdict, accepted, refused, value, refusal, replied, Reason, firstOf}
 use Rattle.study.specs.Calls.{openReasons, opened, opening, understood, minimaReasons, withMinima, settingMinima, violations}
 use Rattle.study.specs.Calls.{enterReasons, measuredReasons, entered, entering}
-use Rattle.study.specs.Calls.{withdrawReasons, removeAt, shortened, withdrawn, withdrawing, skip}
+use Rattle.study.specs.Calls.{countOf, withdrawReasons, removeAt, shortened, withdrawn, counted, withdrawing, skip}
 use Rattle.study.specs.Theorems.{ValidContents}
 use Rattle.study.proofs.StudyLaws.{validMinima-T, distance-both-ways, distance-itself}
 use Rattle.study.specs.Triangle.{Triangle}
@@ -75,7 +75,7 @@ opening-valid k e =
         distance-high = λ t u l m. absurd (not-suc-le-zero l);
         triangle = λ t u v l m n. absurd (not-suc-le-zero l);
       };
-      counted = omega arith;
+      counts = record { four = refl; high = λ i l. omega (arith, getD-replicate {A = ℕ} 4 i 0 0 l) };
     }
 
 -- ---- Minima
@@ -96,7 +96,7 @@ minima-valid M H ok e =
         distance-high = S .distance-high;
         triangle = S .triangle;
       };
-      counted = ok .counted;
+      counts = ok .counts;
     }
 
 -- ---- Enter: the tides before, and the new one
@@ -285,7 +285,7 @@ entered-valid s row S ok A =
 pub entering-valid : (s : ℕ) (row : List ℕ) (H : Contents) → ValidContents H → firstOf (enterReasons (H .study) s row) ≡ accepted
     → ValidContents (entering s row H)
 unfolding entering
-entering-valid s row H ok e = record { study = entered-valid s row (H .study) (ok .study) (enters (H .study) s row e); counted = ok .counted }
+entering-valid s row H ok e = record { study = entered-valid s row (H .study) (ok .study) (enters (H .study) s row e); counts = ok .counts }
 
 -- ---- Withdraw
 
@@ -388,21 +388,38 @@ module _ (i : ℕ) (S : Study) where
                 (ok .triangle (skip i t) (skip i u) (skip i v) (skip-inside t a) (skip-inside u b) (skip-inside v c));
           }
 
+-- one more of user u
+pub counted-valid : (u : ℕ) (ws : List ℕ) → ValidCounts ws → countOf ws u < 65535 → ValidCounts (counted u ws)
+unfolding counted
+counted-valid u ws ok h = record { four = length-set ws (u - 1) (countOf ws u + 1) ∙ ok .four; high = λ i l. high i l }
+  where
+    high : (i : ℕ) → i < 4 → getD (counted u ws) i 0 ≤ 65535
+    high i l =
+        ⊎-elim
+        (λ e. let q = eqb→eq i (u - 1) e in
+        subst (λ j. j < 4 → getD (counted u ws) j 0 ≤ 65535) (sym q)
+        (λ m. omega (arith, getD-set-same ws (u - 1) (countOf ws u + 1) 0 (omega (arith, ok .four)))) l)
+        (λ e. omega (arith, getD-set-other ws (u - 1) i (countOf ws u + 1) 0 (λ q. T-not (eqb i (u - 1)) e (eq→eqb i (u - 1) q)), ok .high i l))
+        (test (eqb i (u - 1)))
+
 -- what an accepted Withdraw tells
-pub record Withdraws (H : Contents) (t : ℕ) : Type 0 where
+pub record Withdraws (H : Contents) (u t : ℕ) : Type 0 where
   pub low : 1 ≤ t
   pub high : t ≤ size (H .study)
-  pub countable : H .withdrawals < 65535
+  pub countable : countOf (H .withdrawals) u < 65535
 
-pub withdraws : (H : Contents) (t : ℕ) → firstOf (withdrawReasons H t) ≡ accepted → Withdraws H t
+pub withdraws : (H : Contents) (u t : ℕ) → firstOf (withdrawReasons H u t) ≡ accepted → Withdraws H u t
 unfolding withdrawReasons
-withdraws H t e =
-    let h = none-holds (withdrawReasons H t) e in
+withdraws H u t e =
+    let h = none-holds (withdrawReasons H u t) e in
     let b = between-T 1 (size (H .study)) t .0 (not-not (between 1 (size (H .study)) t) (h .0)) in
-    record { low = b .0; high = b .1; countable = nleb→lt 65535 (H .withdrawals) (h .1 .0) }
+    record { low = b .0; high = b .1; countable = nleb→lt 65535 (countOf (H .withdrawals) u) (h .1 .0) }
 
-pub withdrawing-valid : (t : ℕ) (H : Contents) → ValidContents H → firstOf (withdrawReasons H t) ≡ accepted → ValidContents (withdrawing t H)
+pub withdrawing-valid : (u t : ℕ) (H : Contents) → ValidContents H → firstOf (withdrawReasons H u t) ≡ accepted → ValidContents (withdrawing u t H)
 unfolding withdrawing
-withdrawing-valid t H ok e =
-    let w = withdraws H t e in
-    record { study = withdrawn-valid (t - 1) (H .study) (omega (arith, w .low, w .high)) (ok .study); counted = omega (arith, w .countable) }
+withdrawing-valid u t H ok e =
+    let w = withdraws H u t e in
+    record {
+      study = withdrawn-valid (t - 1) (H .study) (omega (arith, w .low, w .high)) (ok .study);
+      counts = counted-valid u (H .withdrawals) (ok .counts) (w .countable);
+    }

@@ -1,12 +1,12 @@
--- What each call says of a study: its own reasons for a refusal, in document 01's order, and what an accepted call makes of the study
--- and the count of withdrawals, or finds in it. A tide's number in a call is from 1, in a study from 0. Assumes nothing.
+-- What each call says of a study: its own reasons for a refusal, in the documents' order, and what an accepted call makes of the study
+-- and the counts of withdrawals, or finds in it. A tide's number in a call is from 1, in a study from 0. Assumes nothing.
 use Prim.Native.Nat.{ℕ, zero, suc, _+_, _-_}
 use mathlib.Core.Bool.{Bool, true, cond, not, _&&_}
 use mathlib.Core.List.{List, [], _∷_, _++_, map, flatMap}
 use lib.Dec.{leb, eqb, ltb}
-use lib.ListN.{length, getD, replicate}
+use lib.ListN.{length, getD, set, replicate}
 use Rattle.lists.specs.Lists.{between, each, iota, every, sumBelow, countBelow, tabulate, over, filter, isEmpty}
-use Rattle.study.specs.Limits.{maxTides, maxSettings, maxDistance, maxWithdrawals}
+use Rattle.study.specs.Limits.{maxTides, maxSettings, maxDistance, maxUsers, maxWithdrawals}
 use Rattle.study.specs.declared.Minima.{Minima}
 use Rattle.study.specs.declared.BlockRecord.{BlockRecord}
 use Rattle.study.specs.declared.Blocked.{Blocked}
@@ -29,7 +29,7 @@ opened k = record { k = k; minima = record { b0 = 1; b = replicate maxSettings 0
 
 -- nothing withdrawn
 unfoldable pub opening : ℕ → Contents
-opening k = record { study = opened k; withdrawals = 0 }
+opening k = record { study = opened k; withdrawals = replicate maxUsers 0 }
 
 -- ---- Minima
 
@@ -49,7 +49,7 @@ minimaReasons S M = (not (validMinima (S .k) (understood M)) ⇒ number 3) ∷ [
 unfoldable pub withMinima : Minima → Study → Study
 withMinima M S = record { k = S .k; minima = M; tides = S .tides }
 
--- those understood; the count stays
+-- those understood; the counts stay
 unfoldable pub settingMinima : Minima → Contents → Contents
 settingMinima M H = withStudy (withMinima (understood M) (H .study)) H
 
@@ -99,17 +99,21 @@ measuredReasons S setting row =
 unfoldable pub entered : ℕ → List ℕ → Study → Study
 entered setting row S = withTides (S .tides ++ (record { setting = setting; row = row } ∷ [])) S
 
--- the count stays
+-- the counts stay
 unfoldable pub entering : ℕ → List ℕ → Contents → Contents
 entering setting row H = withStudy (entered setting row (H .study)) H
 
--- ---- Withdraw
+-- ---- Withdraw, by a user
 
--- 23 no tide of that number, 26 the count is at its limit
-unfoldable pub withdrawReasons : Contents → ℕ → List Reason
-withdrawReasons H t =
+-- the count of user u
+abbrev pub countOf : List ℕ → ℕ → ℕ
+countOf ws u = getD ws (u - 1) 0
+
+-- 23 no tide of that number, 26 this user's count is at its limit
+unfoldable pub withdrawReasons : Contents → ℕ → ℕ → List Reason
+withdrawReasons H u t =
     (not (between 1 (size (H .study)) t) ⇒ number 23)
-    ∷ (leb maxWithdrawals (H .withdrawals) ⇒ number 26)
+    ∷ (leb maxWithdrawals (countOf (H .withdrawals) u) ⇒ number 26)
     ∷ []
 
 -- the list without place i
@@ -126,9 +130,13 @@ shortened i x = record { setting = x .setting; row = removeAt i (x .row) }
 unfoldable pub withdrawn : ℕ → Study → Study
 withdrawn i S = withTides (map (shortened i) (removeAt i (S .tides))) S
 
--- and one withdrawal more is counted
-unfoldable pub withdrawing : ℕ → Contents → Contents
-withdrawing t H = record { study = withdrawn (t - 1) (H .study); withdrawals = H .withdrawals + 1 }
+-- one withdrawal more of user u; the other counts stay
+unfoldable pub counted : ℕ → List ℕ → List ℕ
+counted u ws = set ws (u - 1) (countOf ws u + 1)
+
+-- the tide goes, and the withdrawal is counted
+unfoldable pub withdrawing : ℕ → ℕ → Contents → Contents
+withdrawing u t H = record { study = withdrawn (t - 1) (H .study); withdrawals = counted u (H .withdrawals) }
 
 -- the old number of tide t once tide i is gone
 abbrev pub skip : ℕ → ℕ → ℕ

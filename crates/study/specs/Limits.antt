@@ -1,4 +1,4 @@
--- The limits that document 01 sets, each once, and tables in rows of as many places as there can be tides. Assumes nothing.
+-- The limits that documents 01 and 02 set, each once, and tables in rows of as many places as there can be tides. Assumes nothing.
 use Prim.Native.Nat.{ℕ, _+_, _*_}
 use mathlib.Core.List.{List}
 use lib.ListN.{getD}
@@ -18,6 +18,10 @@ maxSettings = 8
 -- the greatest distance
 abbrev pub maxDistance : ℕ
 maxDistance = 1048575
+
+-- the users (document 02: keepers); there is a count of withdrawals for each
+abbrev pub maxUsers : ℕ
+maxUsers = 4
 
 -- the greatest count of withdrawals
 abbrev pub maxWithdrawals : ℕ

@@ -2,6 +2,8 @@
 use Prim.Native.Nat.{ℕ}
 use mathlib.Core.Bool.{Bool, cond, not}
 use mathlib.Core.List.{List, [], _∷_}
+use Rattle.lists.specs.Lists.{between, allOf}
+use Rattle.study.specs.Limits.{maxUsers}
 use Rattle.study.specs.declared.Refusal.{Refusal}
 use Rattle.study.specs.declared.Refusal.the-variants as RefusalCase
 use Rattle.study.specs.declared.Answer.{Answer}
@@ -32,6 +34,7 @@ numbered RefusalCase.TideCount = number 10
 numbered RefusalCase.FillBits = number 11
 numbered RefusalCase.ListLength = number 12
 numbered RefusalCase.NotSymmetric = number 13
+numbered RefusalCase.NoSuchUser = number 14
 numbered RefusalCase.NotDataset = number 21
 numbered RefusalCase.Full = number 22
 numbered RefusalCase.NoSuchTide = number 23
@@ -74,12 +77,16 @@ unfoldable pub firstOf : List Reason → Verdict
 firstOf [] = accepted
 firstOf (r ∷ rs) = cond (r .holds) (refused (r .because)) (firstOf rs)
 
--- ---- the ladder of every call: the reasons that calls share, in document 01's order, and then the call's own
+-- ---- the ladder of every call: the reasons that calls share, in the documents' order, and then the call's own
 
 -- Open and Read: short memory (1) first
 unfoldable pub freshReasons : Bool → List Reason → List Reason
 freshReasons tooShort own = (tooShort ⇒ number 1) ∷ own
 
--- every other call: short memory (1), then what is no dataset (21)
-unfoldable pub heldReasons : Bool → Bool → List Reason → List Reason
-heldReasons tooShort good own = freshReasons tooShort ((not good ⇒ number 21) ∷ own)
+-- a user (document 02, 2.7: keeper) is 1 to 4
+abbrev pub isUser : ℕ → Bool
+isUser u = between 1 maxUsers u
+
+-- every other call, by the users that it names: short memory (1), a user who is none (14), then what is no dataset (21)
+unfoldable pub heldReasons : Bool → List ℕ → Bool → List Reason → List Reason
+heldReasons tooShort users good own = freshReasons tooShort ((not (allOf isUser users) ⇒ number 14) ∷ (not good ⇒ number 21) ∷ own)

@@ -7,7 +7,7 @@ use mathlib.Core.List.{List, [], _∷_}
 use lib.Dec.{T, leb, ltb, eqb}
 use lib.ListN.{length, getD}
 use Rattle.lists.specs.Lists.{between, each, every, sumBelow, countBelow}
-use Rattle.study.specs.Limits.{maxTides, maxDistance, maxSettings}
+use Rattle.study.specs.Limits.{maxTides, maxDistance, maxSettings, maxUsers, maxWithdrawals}
 use Rattle.study.specs.declared.Minima.{Minima}
 use Rattle.study.specs.Problem.{Problem}
 
@@ -22,16 +22,16 @@ pub record Study : Type 0 where
   pub minima : Minima
   pub tides : List Tide
 
--- what a study file carries: the study, and the withdrawals counted beside it
+-- what a study file carries: the study, and beside it the withdrawals of each user, user u's at place u - 1 (document 02, 2.7: keeper)
 pub record Contents : Type 0 where
   pub study : Study
-  pub withdrawals : ℕ
+  pub withdrawals : List ℕ
 
 -- the same k and minima, other tides
 abbrev pub withTides : List Tide → Study → Study
 withTides tides S = record { k = S .k; minima = S .minima; tides = tides }
 
--- the same count, another study
+-- the same counts, another study
 abbrev pub withStudy : Study → Contents → Contents
 withStudy S H = record { study = S; withdrawals = H .withdrawals }
 
@@ -101,6 +101,11 @@ pub record MeasuredStudy (S : Study) : Type 0 where
   pub setting-high : (t : ℕ) → t < size S → tide S t .setting ≤ S .k
   pub row-length : (t : ℕ) → t < size S → length (tide S t .row) ≡ t
   pub distance-high : (t u : ℕ) → t < size S → u < size S → distance S t u ≤ maxDistance
+
+-- document 02, 2.7: a count for each of the four users, 0 to 65,535
+pub record ValidCounts (ws : List ℕ) : Type 0 where
+  pub four : length ws ≡ maxUsers
+  pub high : (i : ℕ) → i < maxUsers → getD ws i 0 ≤ maxWithdrawals
 
 -- ---- the same tides in another order
 

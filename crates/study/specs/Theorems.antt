@@ -8,11 +8,11 @@ use mathlib.Core.List.{List}
 use lib.Dec.{T, eqb}
 use lib.ListN.{length, getD, take}
 use Rattle.lists.specs.Lists.{_among_, countBelow, greatest}
-use Rattle.study.specs.Limits.{maxWithdrawals, maxSettings}
+use Rattle.study.specs.Limits.{maxSettings}
 use Rattle.study.specs.declared.Minima.{Minima}
 use Rattle.study.specs.Problem.{Problem, centres, centreOf, nearestDistance, nearestBlock, block, labels, assignments, assignable}
 use Rattle.study.specs.Problem.{candidates, radius, blocking, diameter, greatestDiameter, Feasible, feasible}
-use Rattle.study.specs.Study.{Study, Contents, size, tide, problem, validMinima, Valid, Renumbered}
+use Rattle.study.specs.Study.{Study, Contents, size, tide, problem, validMinima, Valid, ValidCounts, Renumbered}
 use Rattle.study.specs.Refusals.{accepted, firstOf}
 use Rattle.study.specs.Calls.{openReasons, opening, sumOfParts, understood, minimaReasons, settingMinima, enterReasons, entering}
 use Rattle.study.specs.Calls.{withdrawReasons, withdrawing}
@@ -125,10 +125,10 @@ pub record ForStudy (S : Study) : Type 0 where
   -- refusal 25 is exact
   pub ample-exactly : 0 < size S → ((D : ℕ → ℕ) × Feasible (problem S) D) ↔ Ample S
 
--- a valid study, and a count of withdrawals that a dataset can hold
+-- a valid study, and counts of withdrawals that a dataset can hold
 pub record ValidContents (H : Contents) : Type 0 where
   pub study : Valid (H .study)
-  pub counted : H .withdrawals ≤ maxWithdrawals
+  pub counts : ValidCounts (H .withdrawals)
 
 -- an accepted call leaves valid contents
 pub record ForCalls : Type 0 where
@@ -136,7 +136,7 @@ pub record ForCalls : Type 0 where
   pub on-minima : (M : Minima) (H : Contents) → ValidContents H → firstOf (minimaReasons (H .study) M) ≡ accepted → ValidContents (settingMinima M H)
   pub on-enter : (setting : ℕ) (row : List ℕ) (H : Contents) → ValidContents H → firstOf (enterReasons (H .study) setting row) ≡ accepted
       → ValidContents (entering setting row H)
-  pub on-withdraw : (t : ℕ) (H : Contents) → ValidContents H → firstOf (withdrawReasons H t) ≡ accepted → ValidContents (withdrawing t H)
+  pub on-withdraw : (u t : ℕ) (H : Contents) → ValidContents H → firstOf (withdrawReasons H u t) ≡ accepted → ValidContents (withdrawing u t H)
 
 -- what Minima accepts (document 02, 2.2), for every study and record; `on-minima` above says that what is accepted makes a valid dataset
 pub record ForMinima (S : Study) (M : Minima) : Type 0 where

@@ -3,7 +3,7 @@ pub mod refusals;
 
 ghost use mathlib.Core.Path.{_≡_};
 
-// The limits that document 01 sets.
+// The limits that documents 01 and 02 set.
 
 // The most tides that a dataset holds.
 pub const MAX_TIDES: usize = 120;
@@ -22,6 +22,9 @@ pub const MAX_BLOCK_MINIMUM: u8 = 120;
 
 // The greatest distance.
 pub const MAX_DISTANCE: u32 = 1048575;
+
+// The users (document 02: keepers); there is a count of withdrawals for each.
+pub const MAX_USERS: usize = 4;
 
 // The greatest count of withdrawals.
 pub const MAX_WITHDRAWALS: u16 = 65535;
@@ -44,7 +47,8 @@ pub struct Dataset {
     pub k: u8,
     pub n: usize,
     pub minima: Minima,
-    pub withdrawn: u16,
+    // How many tides each user has withdrawn, user u at place u - 1.
+    pub withdrawn: [u16; MAX_USERS],
 }
 
 // Why a call is refused. `specs/Refusals.antt` gives each case its number in documents 01 and 02, and its values.
@@ -64,6 +68,8 @@ pub enum Refusal {
     ListLength,
     // A table that is not the same both ways, or in which a tide is not at 0 from itself (document 02).
     NotSymmetric,
+    // A user who is not 1 to 4 (document 02).
+    NoSuchUser,
     NotDataset,
     Full,
     NoSuchTide,

@@ -99,7 +99,7 @@ module _ (H : Contents) (ok : ValidContents H) (s : State) where
 
   pub stored-dataset : T (isDataset (stored H s))
   unfolding stored recordOf
-  stored-dataset = isDataset-T (stored H s) .1 (record { study = stored-is; counted = ok .counted })
+  stored-dataset = isDataset-T (stored H s) .1 (record { study = stored-is; counts = ok .counts })
 
   stored-tide : (t : ℕ) → t < size S → tideOf (stored H s) t ≡ tide S t
   unfolding tideOf stored distance

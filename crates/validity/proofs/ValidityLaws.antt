@@ -11,12 +11,12 @@ use lib.Arith.{le→nltb}
 use borrow.Author.Tests.{le-leb, eq-eqb}
 use lib.ListN.{length, getD}
 use Rattle.lists.specs.Lists.{between, each, every, sumBelow}
-use Rattle.lists.proofs.Tests.{and-T, T-left, T-right, test, between-T, Each, each-at, each-of, cond-yes, cond-no, every-at, every-of, eq→eqb}
+use Rattle.lists.proofs.Tests.{and-T, T-left, T-right, T-true, test, between-T, Each, each-at, each-of, cond-yes, cond-no, every-at, every-of, eq→eqb}
 use Rattle.lists.proofs.Tables.{length-tabulate, getD-tabulate}
 use Rattle.lists.proofs.Scans.{and-true, each-fails}
 use Rattle.study.specs.Limits.{cell}
 use Rattle.study.specs.declared.Minima.{Minima}
-use Rattle.study.specs.Study.{Tide, Valid, size, noTide, tide, distance, validMinima}
+use Rattle.study.specs.Study.{Tide, Valid, ValidCounts, size, noTide, tide, distance, validMinima}
 use Rattle.study.specs.Calls.{violations}
 use Rattle.study.specs.Theorems.{ValidContents}
 use Rattle.study.proofs.StudyLaws.{validMinima-T, distance-both-ways, distance-itself}
@@ -26,7 +26,7 @@ use Rattle.triangle.specs.declared.Violation.{Violation}
 use Rattle.triangle.specs.declared.Violation.the-variants as ViolationCase
 use Rattle.triangle.specs.Pairs.{violationOf}
 use Rattle.triangle.proofs.PairLaws.{found-nothing, found-pair, rowIn, part-found}
-use Rattle.validity.specs.Memory.{State, validSetting, validPlace, validRow, isStudy, validCount, isDataset, tideOf, studyOf, contentsOf}
+use Rattle.validity.specs.Memory.{State, validSetting, validPlace, validRow, isStudy, validCounts, isDataset, tideOf, studyOf, contentsOf}
 use Rattle.validity.specs.Validity.{IsStudy, IsDataset}
 
 -- ---- the study that is read off record and memory
@@ -96,6 +96,21 @@ not-both false b t = inl tt
 first-decides : (b : Bool) → b ≡ each (b ∷ true ∷ [])
 first-decides true = refl
 first-decides false = refl
+
+-- the test of the counts says exactly what the record says
+pub validCounts-T : (ws : List ℕ) → T (validCounts ws) ↔ ValidCounts ws
+unfolding validCounts
+validCounts-T ws = (
+  λ t. let p = each-at tests t in
+      record { four = eqb→eq (length ws) 4 (p .0); high = λ i l. leb→le (getD ws i 0) 65535 (every-at 4 in-range (p .1 .0) i l) },
+  λ C. each-of tests (eq→eqb (length ws) 4 (C .four), (every-of 4 in-range (λ i l. le→leb (getD ws i 0) 65535 (C .high i l)), tt)),
+)
+  where
+    in-range : ℕ → Bool
+    in-range i = leb (getD ws i 0) 65535
+
+    tests : List Bool
+    tests = eqb (length ws) 4 ∷ every 4 in-range ∷ []
 
 -- ---- the tests, one by one
 
@@ -266,21 +281,22 @@ module _ (s : State) where
   pub isStudy-T : T (isStudy s) ↔ IsStudy s
   isStudy-T = (told, tested)
 
-  -- a count of 16 bits is in range, so the study decides
-  pub study-decides : s .dataset .withdrawn ≤ 65535 → isStudy s ≡ isDataset s
-  unfolding isDataset validCount
-  study-decides c = rw (le-leb (s .dataset .withdrawn) 65535 c) (first-decides (isStudy s))
+  -- counts of 16 bits are in range, so the study decides
+  pub study-decides : ValidCounts (s .dataset .withdrawn) → isStudy s ≡ isDataset s
+  unfolding isDataset
+  study-decides c = rw (T-true (validCounts (s .dataset .withdrawn)) (validCounts-T (s .dataset .withdrawn) .1 c)) (first-decides (isStudy s))
 
   abbrev datasetTests : List Bool
-  datasetTests = isStudy s ∷ validCount (s .dataset .withdrawn) ∷ []
+  datasetTests = isStudy s ∷ validCounts (s .dataset .withdrawn) ∷ []
 
   -- the test of reason 21 says exactly what the record says
   pub isDataset-T : T (isDataset s) ↔ IsDataset s
-  unfolding isDataset validCount
-  isDataset-T = (
-    λ t. let p = each-at datasetTests t in record { study = told (p .0); counted = leb→le (s .dataset .withdrawn) 65535 (p .1 .0) },
-    λ D. each-of datasetTests (tested (D .study), (le→leb (s .dataset .withdrawn) 65535 (D .counted), tt)),
-  )
+  unfolding isDataset
+  isDataset-T =
+      let counts = validCounts-T (s .dataset .withdrawn) in (
+        λ t. let p = each-at datasetTests t in record { study = told (p .0); counts = counts .0 (p .1 .0) },
+        λ D. each-of datasetTests (tested (D .study), (counts .1 (D .counts), tt)),
+      )
 
 -- ---- the tests of reason 3
 
@@ -348,4 +364,4 @@ module _ (s : State) (D : IsStudy s) where
 
 pub valid-contents : (s : State) → IsDataset s → ValidContents (contentsOf s)
 unfolding contentsOf
-valid-contents s D = record { study = valid-study s (D .study); counted = D .counted }
+valid-contents s D = record { study = valid-study s (D .study); counts = D .counts }

@@ -8,7 +8,7 @@ use lib.ListN.{length, getD}
 use denote.Ref.{RefT, now}
 use denote.Triple.Both.{Both}
 use Rattle.lists.specs.Lists.{between, each, every, tabulate, overwrite, isEmpty}
-use Rattle.study.specs.Limits.{cell, maxTides, tableSize, maxDistance, maxWithdrawals, maxSettings}
+use Rattle.study.specs.Limits.{cell, maxTides, tableSize, maxDistance, maxUsers, maxWithdrawals, maxSettings}
 use Rattle.study.specs.declared.Minima.{Minima}
 use Rattle.study.specs.declared.Dataset.{Dataset}
 use Rattle.study.specs.Study.{Tide, Study, Contents, size, tide, distance, validMinima}
@@ -75,13 +75,13 @@ isStudy s =
     ∷ every n (validRow (s .distances))
     ∷ [])
 
--- a count of withdrawals that a dataset can hold
-unfoldable pub validCount : ℕ → Bool
-validCount w = leb w maxWithdrawals
+-- counts of withdrawals that a dataset can hold: one for each user
+unfoldable pub validCounts : List ℕ → Bool
+validCounts ws = each (eqb (length ws) maxUsers ∷ every maxUsers (λ i. leb (getD ws i 0) maxWithdrawals) ∷ [])
 
 -- reason 21: record and memory hold a study, and the record what is kept beside it
 unfoldable pub isDataset : State → Bool
-isDataset s = each (isStudy s ∷ validCount (s .dataset .withdrawn) ∷ [])
+isDataset s = each (isStudy s ∷ validCounts (s .dataset .withdrawn) ∷ [])
 
 -- ---- the contents of a dataset
 
@@ -93,7 +93,7 @@ tideOf s i = record { setting = getD (s .settings) i 0; row = tabulate i (cell (
 unfoldable pub studyOf : State → Study
 studyOf s = record { k = s .dataset .k; minima = s .dataset .minima; tides = tabulate (s .dataset .n) (tideOf s) }
 
--- its study and its count
+-- its study and its counts
 unfoldable pub contentsOf : State → Contents
 contentsOf s = record { study = studyOf s; withdrawals = s .dataset .withdrawn }
 
@@ -111,13 +111,13 @@ setSize n r = record { k = r .k; n = n; minima = r .minima; withdrawn = r .withd
 abbrev pub setMinima : Minima → Dataset → Dataset
 setMinima M r = record { k = r .k; n = r .n; minima = M; withdrawn = r .withdrawn }
 
--- with another count of withdrawals
-abbrev pub setCount : ℕ → Dataset → Dataset
-setCount w r = record { k = r .k; n = r .n; minima = r .minima; withdrawn = w }
+-- with other counts of withdrawals
+abbrev pub setCounts : List ℕ → Dataset → Dataset
+setCounts ws r = record { k = r .k; n = r .n; minima = r .minima; withdrawn = ws }
 
 -- the record with these contents; what else a record keeps stays
 unfoldable pub recordOf : Contents → Dataset → Dataset
-recordOf H r = let S = H .study in setK (S .k) (setSize (size S) (setMinima (S .minima) (setCount (H .withdrawals) r)))
+recordOf H r = let S = H .study in setK (S .k) (setSize (size S) (setMinima (S .minima) (setCounts (H .withdrawals) r)))
 
 -- the distances in rows of maxTides
 unfoldable pub distancesOf : Study → List ℕ → List ℕ

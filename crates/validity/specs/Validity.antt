@@ -4,7 +4,8 @@ use Prim.Native.Nat.{ℕ, _+_, _≤_, _<_}
 use mathlib.Core.Path.{_≡_}
 use mathlib.Core.Logic.{_⊎_}
 use lib.ListN.{length, getD}
-use Rattle.study.specs.Limits.{cell, maxTides, tableSize, maxDistance, maxWithdrawals, maxSettings}
+use Rattle.study.specs.Limits.{cell, maxTides, tableSize, maxDistance, maxSettings}
+use Rattle.study.specs.Study.{ValidCounts}
 use Rattle.validity.specs.Memory.{State}
 use Rattle.study.specs.Minima.{MinimaFit}
 
@@ -30,10 +31,10 @@ pub record IsStudy (s : State) : Type 0 where
   pub setting-beyond : (i : ℕ) → s .dataset .n ≤ i → i < maxTides → getD (s .settings) i 0 ≡ 0
   pub beyond : (i j : ℕ) → i < maxTides → j < maxTides → (s .dataset .n ≤ i) ⊎ (s .dataset .n ≤ j) → cell (s .distances) i j ≡ 0
 
--- document 01 on what a book is: these, and withdrawals counted, 0 to 65,535
+-- documents 01 and 02 (2.7) on what a book is: these, and withdrawals counted for each of four users, 0 to 65,535
 pub record IsDataset (s : State) : Type 0 where
   pub study : IsStudy s
-  pub counted : s .dataset .withdrawn ≤ maxWithdrawals
+  pub counts : ValidCounts (s .dataset .withdrawn)
 
 -- long enough for 14,400 distances and 120 settings
 pub record Long (s : State) : Type 0 where

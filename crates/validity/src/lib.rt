@@ -254,7 +254,7 @@ pub fn is_study(dataset: Dataset, distances: &[u32], settings: &[u8]) -> bool
     valid_rows(distances, n)
 }
 
-// Reason 21, of memory that is not short. A count of 16 bits is in range, so the study decides.
+// Reason 21, of memory that is not short. Counts of 16 bits are in range, so the study decides.
 pub fn is_dataset(dataset: Dataset, distances: &[u32], settings: &[u8]) -> bool
     requires { ⌜ tableSize ≤ length (now distances) ⌝ }
     requires { ⌜ maxTides ≤ length (now settings) ⌝ }
