@@ -4,7 +4,7 @@ use native.Mathlib.Omega.{arith}
 use native.Mathlib.Numerals.{add-one}
 use mathlib.Core.Path.{_≡_, refl, sym, ap, ap₂, _∙_, subst}
 use mathlib.Core.Bool.{Bool, true, false, _&&_}
-use mathlib.Core.List.{List, _++_}
+use mathlib.Core.List.{List, [], _++_}
 use lib.Dec.{T, leb, leb→le}
 use lib.ListN.{length, getD, drop}
 use borrow.Author.Tests.{le-leb, lt-leb}
@@ -100,7 +100,7 @@ module _ (s : State) (list room : ℕ) where
   unfolding blockAnswer contentsOf blockReasons
   block-accepted e f =
       let q : accepted ≡ blockAnswer s list room = sym (ap verdictOf e) ∙ f in
-      let h = accepted-held s (λ H. blockReasons (H .study) list room) (sym q) in
+      let h = accepted-held s [] (λ H. blockReasons (H .study) list room) (sym q) in
       let w = none-holds (blockReasons S list room) (h .reasons) in
       let fits = not-not (leb (size S) list && leb (size S) room) (w .1 .1 .0) in
       record {

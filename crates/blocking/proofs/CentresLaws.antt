@@ -81,7 +81,7 @@ module _ (s : State) (l : CentreLists) where
   unfolding centresAnswer contentsOf centresReasons
   centres-accepted e f =
       let q : accepted ≡ centresAnswer s l = sym (ap verdictOf e) ∙ f in
-      let h = accepted-held s (λ H. centresReasons (H .study) l) (sym q) in
+      let h = accepted-held s [] (λ H. centresReasons (H .study) l) (sym q) in
       let w = none-holds (centresReasons S l) (h .reasons) in
       let fits = each-at roomy (not-not (each roomy) (w .1 .0)) in
       record {

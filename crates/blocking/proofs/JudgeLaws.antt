@@ -3,7 +3,7 @@ use Prim.Native.Nat.{ℕ}
 use native.Mathlib.Omega.{arith}
 use mathlib.Core.Path.{_≡_, sym, ap, ap₂, _∙_}
 use mathlib.Core.Bool.{Bool, true, false, cond, _&&_}
-use mathlib.Core.List.{List}
+use mathlib.Core.List.{List, []}
 use lib.Dec.{eqb, eqb→eq}
 use lib.ListN.{length, getD}
 use borrow.Author.Tests.{eq-eqb, ne-eqb}
@@ -61,7 +61,7 @@ module _ (s : State) (list : List ℕ) where
   unfolding judgeAnswer contentsOf judgeReasons
   judge-accepted e f =
       let q : accepted ≡ judgeAnswer s list = sym (ap verdictOf e) ∙ f in
-      let h = accepted-held s (λ H. judgeReasons (H .study) list) (sym q) in
+      let h = accepted-held s [] (λ H. judgeReasons (H .study) list) (sym q) in
       let w = none-holds (judgeReasons S list) (h .reasons) in
       record {
         passed = passed-by s (h .not-short) (h .tested);

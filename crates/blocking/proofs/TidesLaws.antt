@@ -35,10 +35,10 @@ tide-there s h =
     ⊎-elim (λ k. k) (λ k. absurd (subst (λ b. T (not b)) (eq-eqb (size (studyOf s)) 0 (omega (arith, study-size s))) h)) (split 0 (s .dataset .n))
 
 module _ {s : State} where
-  pub tides-refused : {a : Answer} {x : Refusal} → a ≡ Refused x → verdictOf a ≡ heldAnswer s (λ _. []) → TidesChecked s a
+  pub tides-refused : {a : Answer} {x : Refusal} → a ≡ Refused x → verdictOf a ≡ heldAnswer s [] (λ _. []) → TidesChecked s a
   tides-refused e f =
       record {
-        refuses = λ _ _ own. held-refused s (λ H. noTides (H .study) ∷ own H) e f;
+        refuses = λ _ _ own. held-refused s [] (λ H. noTides (H .study) ∷ own H) e f;
         passed = not-both e;
         some-tide = not-both e;
       }

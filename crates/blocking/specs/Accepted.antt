@@ -2,7 +2,7 @@
 use Prim.Native.Nat.{ℕ, _≤_, _<_}
 use mathlib.Core.Path.{_≡_}
 use mathlib.Core.Bool.{true}
-use mathlib.Core.List.{List, _∷_}
+use mathlib.Core.List.{List, [], _∷_}
 use lib.Dec.{T, eqb}
 use lib.ListN.{length, getD}
 use Rattle.study.specs.Limits.{maxTides, maxSettings}
@@ -24,7 +24,7 @@ noTides S = eqb (size S) 0 ⇒ number 24
 -- what `check_tides` answers: a refusal is that of every call whose own reasons begin with noTides; Done tells that there is a dataset
 -- with a tide in it
 pub record TidesChecked (s : State) (r : Answer) : Type 0 where
-  pub refuses : (x : Refusal) → r ≡ Refused x → (own : Contents → List Reason) → verdictOf r ≡ heldAnswer s (λ H. noTides (H .study) ∷ own H)
+  pub refuses : (x : Refusal) → r ≡ Refused x → (own : Contents → List Reason) → verdictOf r ≡ heldAnswer s [] (λ H. noTides (H .study) ∷ own H)
   pub passed : r ≡ Done → Passed s
   pub some-tide : r ≡ Done → 1 ≤ s .dataset .n
 

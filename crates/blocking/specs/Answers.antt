@@ -30,7 +30,7 @@ exitLists l m d = centreLists (now (l .exit)) (now (m .exit)) (now (d .exit))
 
 -- accepted, or the refusal
 unfoldable pub centresAnswer : State → CentreLists → Verdict
-centresAnswer s l = heldAnswer s (λ H. centresReasons (H .study) l)
+centresAnswer s l = heldAnswer s [] (λ H. centresReasons (H .study) l)
 
 -- the filled front of the list of centres, empty on a refusal
 unfoldable pub centresFront : State → ℕ → CentreLists → List ℕ
@@ -44,7 +44,7 @@ centresLeaves s g l = settled (centresAnswer s l) (centresWritten (studyOf s) g 
 
 -- accepted, or the refusal
 unfoldable pub blockAnswer : State → ℕ → ℕ → Verdict
-blockAnswer s list records = heldAnswer s (λ H. blockReasons (H .study) list records)
+blockAnswer s list records = heldAnswer s [] (λ H. blockReasons (H .study) list records)
 
 -- block count, radius and greatest diameter, or the refusal
 unfoldable pub blockReply : State → ℕ → ℕ → Reply Figures
@@ -66,7 +66,7 @@ blockRecords s list records =
 
 -- accepted, or the refusal
 unfoldable pub judgeAnswer : State → List ℕ → Verdict
-judgeAnswer s list = heldAnswer s (λ H. judgeReasons (H .study) list)
+judgeAnswer s list = heldAnswer s [] (λ H. judgeReasons (H .study) list)
 
 -- yes with the greatest diameter, no, or the refusal
 unfoldable pub judgeReply : State → List ℕ → Reply Judgement

@@ -5,12 +5,13 @@ use native.Mathlib.Numerals.{add-one}
 use mathlib.Core.Path.{_≡_, refl, sym, ap, ap₂, _∙_}
 use mathlib.Core.Logic.{_⊎_, inl, inr, ⊎-elim}
 use mathlib.Core.Bool.{Bool, true, false, cond, not, true≢false}
-use mathlib.Core.List.{List, []}
-use lib.Dec.{leb, eqb}
+use mathlib.Core.List.{List, [], _∷_}
+use lib.Dec.{T, leb, eqb}
 use lib.ListN.{length, getD, set, replicate}
 use borrow.Author.Tests.{le-leb, lt-leb, eq-eqb, ne-eqb}
-use Rattle.lists.specs.Lists.{between, every, overwrite}
-use Rattle.lists.proofs.Tests.{true-T, split}
+use Rattle.lists.specs.Lists.{between, every, overwrite, allOf}
+use Rattle.lists.proofs.Tests.{T-true, T-left, true-T, split, between-T}
+use Rattle.lists.proofs.Scans.{test-passes, test-fails}
 use Rattle.study.specs.Limits.{cell}
 use Rattle.study.specs.declared.Minima.{Minima}
 use Rattle.study.specs.declared.Dataset.{Dataset}
@@ -18,13 +19,14 @@ use Rattle.study.specs.declared.Refusal.{Refusal}
 use Rattle.study.specs.declared.Answer.{Answer}
 use Rattle.study.specs.declared.Answer.the-variants.{Done, Refused}
 use Rattle.study.specs.Study.{Study, Contents, size, tide, distance, validMinima}
-use Rattle.study.specs.Refusals.{Numbered, number, seven, numbered, Verdict, accepted, refused, verdictOf, settled, Reason, firstOf, freshReasons, heldReasons}
+use Rattle.study.specs.Refusals.{Numbered, number, seven, numbered, Verdict, accepted, refused, verdictOf, settled, Reason, firstOf}
+use Rattle.study.specs.Refusals.{freshReasons, isUser, heldReasons}
 use Rattle.study.specs.Calls.{openReasons, opened, opening, sumOfParts, understood, minimaReasons, withMinima, settingMinima, Pair, violations}
-use Rattle.study.specs.Calls.{enterReasons, entered, entering, withdrawReasons, withdrawn, withdrawing}
+use Rattle.study.specs.Calls.{enterReasons, entered, entering, countOf, withdrawReasons, withdrawn, counted, withdrawing}
 use Rattle.study.specs.Theorems.{ValidContents}
 use Rattle.study.proofs.CallLaws.{enters, entered-size, withdraws, withdrawn-size}
 use Rattle.study.proofs.MinimaLaws.{understood-raised, too-much}
-use Rattle.validity.specs.Memory.{State, stateOf, short, isDataset, studyOf, contentsOf, setK, setSize, setMinima, setCount, recordOf, distancesOf}
+use Rattle.validity.specs.Memory.{State, stateOf, short, isDataset, studyOf, contentsOf, setK, setSize, setMinima, setCounts, recordOf, distancesOf}
 use Rattle.validity.specs.Memory.{settingsOf, stored}
 use Rattle.dataset.specs.Answers.{freshAnswer, freshLeaves, heldAnswer, heldLeaves, openAnswer, openLeaves, minimaAnswer, minimaLeaves, enterAnswer}
 use Rattle.dataset.specs.Answers.{enterLeaves, withdrawAnswer, withdrawLeaves}
@@ -54,55 +56,70 @@ module _ (s : State) where
       by true p h = absurd (let z : _≡_ {A = ℕ} 0 1 = cc in omega arith)
       by false p h = (p, h)
 
-  pub held-1 : (own : Contents → List Reason) → short s ≡ true → refused (number 1) ≡ heldAnswer s own
-  unfolding heldAnswer heldReasons freshReasons firstOf
-  held-1 own e = rw e
+  -- a call that names these users
+  module _ (users : List ℕ) (own : Contents → List Reason) where
+    pub held-1 : short s ≡ true → refused (number 1) ≡ heldAnswer s users own
+    unfolding heldAnswer heldReasons freshReasons firstOf
+    held-1 e = rw e
 
-  pub held-21 : (own : Contents → List Reason) → short s ≡ false → isDataset s ≡ false → refused (number 21) ≡ heldAnswer s own
-  unfolding heldAnswer heldReasons freshReasons firstOf
-  held-21 own e f = rw (e, f)
+    pub held-14 : short s ≡ false → allOf isUser users ≡ false → refused (number 14) ≡ heldAnswer s users own
+    unfolding heldAnswer heldReasons freshReasons firstOf
+    held-14 e u = rw (e, u)
 
-  pub held-own : (own : Contents → List Reason) → short s ≡ false → isDataset s ≡ true → firstOf (own (contentsOf s)) ≡ heldAnswer s own
-  unfolding heldAnswer heldReasons freshReasons firstOf
-  held-own own e f = rw (e, f)
+    pub held-21 : short s ≡ false → allOf isUser users ≡ true → isDataset s ≡ false → refused (number 21) ≡ heldAnswer s users own
+    unfolding heldAnswer heldReasons freshReasons firstOf
+    held-21 e u f = rw (e, u, f)
 
-  -- what an accepted call tells
-  pub record HeldAccepted (own : Contents → List Reason) : Type 0 where
-    pub not-short : short s ≡ false
-    pub tested : isDataset s ≡ true
-    pub reasons : firstOf (own (contentsOf s)) ≡ accepted
+    pub users-own : short s ≡ false → allOf isUser users ≡ true → isDataset s ≡ true → firstOf (own (contentsOf s)) ≡ heldAnswer s users own
+    unfolding heldAnswer heldReasons freshReasons firstOf
+    users-own e u f = rw (e, u, f)
 
-  pub accepted-held : (own : Contents → List Reason) → heldAnswer s own ≡ accepted → HeldAccepted own
-  unfolding heldAnswer heldReasons freshReasons firstOf
-  accepted-held own e = by (short s) (isDataset s) refl refl e
-    where
-      never : (r : Numbered) → refused r ≡ accepted → ⊥
-      never r q = let z : _≡_ {A = ℕ} 0 1 = cc in omega arith
+    -- what an accepted call tells
+    pub record HeldAccepted : Type 0 where
+      pub not-short : short s ≡ false
+      pub known : allOf isUser users ≡ true
+      pub tested : isDataset s ≡ true
+      pub reasons : firstOf (own (contentsOf s)) ≡ accepted
 
-      by : (a b : Bool) → short s ≡ a → isDataset s ≡ b
-          → cond a (refused (number 1)) (cond (not b) (refused (number 21)) (firstOf (own (contentsOf s)))) ≡ accepted → HeldAccepted own
-      by true b p q h = absurd (never (number 1) h)
-      by false true p q h = record { not-short = p; tested = q; reasons = h }
-      by false false p q h = absurd (never (number 21) h)
+    pub accepted-held : heldAnswer s users own ≡ accepted → HeldAccepted
+    unfolding heldAnswer heldReasons freshReasons firstOf
+    accepted-held e = by (short s) (allOf isUser users) (isDataset s) refl refl refl e
+      where
+        never : (r : Numbered) → refused r ≡ accepted → ⊥
+        never r q = let z : _≡_ {A = ℕ} 0 1 = cc in omega arith
 
-  -- what refuses before the call's own reasons refuses the call
-  pub held-refused : (own : Contents → List Reason) {a : Answer} {x : Refusal} → a ≡ Refused x → verdictOf a ≡ heldAnswer s (λ _. [])
-      → verdictOf a ≡ heldAnswer s own
-  unfolding heldAnswer heldReasons freshReasons firstOf
-  held-refused own {a} {x} e f = f ∙ by (short s) (isDataset s) (sym (ap verdictOf e) ∙ f)
-    where
-      by : (a b : Bool) → refused (numbered x) ≡ cond a (refused (number 1)) (cond (not b) (refused (number 21)) accepted)
-          → cond a (refused (number 1)) (cond (not b) (refused (number 21)) accepted)
-          ≡ cond a (refused (number 1)) (cond (not b) (refused (number 21)) (firstOf (own (contentsOf s))))
-      by true b h = refl
-      by false true h = let z : _≡_ {A = ℕ} 0 1 = cc in absurd (omega arith)
-      by false false h = refl
+        by : (a u b : Bool) → short s ≡ a → allOf isUser users ≡ u → isDataset s ≡ b
+            → cond a (refused (number 1)) (cond (not u) (refused (number 14)) (cond (not b) (refused (number 21)) (firstOf (own (contentsOf s)))))
+            ≡ accepted → HeldAccepted
+        by true u b p k q h = absurd (never (number 1) h)
+        by false true true p k q h = record { not-short = p; known = k; tested = q; reasons = h }
+        by false true false p k q h = absurd (never (number 21) h)
+        by false false b p k q h = absurd (never (number 14) h)
+
+    -- what refuses before the call's own reasons refuses the call
+    pub held-refused : {a : Answer} {x : Refusal} → a ≡ Refused x → verdictOf a ≡ heldAnswer s users (λ _. []) → verdictOf a ≡ heldAnswer s users own
+    unfolding heldAnswer heldReasons freshReasons firstOf
+    held-refused {a} {x} e f = f ∙ by (short s) (allOf isUser users) (isDataset s) (sym (ap verdictOf e) ∙ f)
+      where
+        -- the ladder, and then this
+        ladder : Bool → Bool → Bool → Verdict → Verdict
+        ladder a u b v = cond a (refused (number 1)) (cond (not u) (refused (number 14)) (cond (not b) (refused (number 21)) v))
+
+        by : (a u b : Bool) → refused (numbered x) ≡ ladder a u b accepted → ladder a u b accepted ≡ ladder a u b (firstOf (own (contentsOf s)))
+        by true u b h = refl
+        by false true true h = let z : _≡_ {A = ℕ} 0 1 = cc in absurd (omega arith)
+        by false true false h = refl
+        by false false b h = refl
+
+  -- one that names none
+  pub held-own : (own : Contents → List Reason) → short s ≡ false → isDataset s ≡ true → firstOf (own (contentsOf s)) ≡ heldAnswer s [] own
+  held-own own e f = users-own [] own e refl f
 
   pub passed-by : short s ≡ false → isDataset s ≡ true → Passed s
   passed-by e f = record { not-short = e; tested = f; study = isDataset-T s .0 (true-T (isDataset s) f) .study; long = long s e }
 
-  pub passed : {a : Answer} → a ≡ Done → verdictOf a ≡ heldAnswer s (λ _. []) → Passed s
-  passed e f = let h = accepted-held (λ _. []) (sym (sym (ap verdictOf e) ∙ f)) in passed-by (h .not-short) (h .tested)
+  pub passed : {a : Answer} (users : List ℕ) → a ≡ Done → verdictOf a ≡ heldAnswer s users (λ _. []) → Passed s
+  passed users e f = let h = accepted-held users (λ _. []) (sym (sym (ap verdictOf e) ∙ f)) in passed-by (h .not-short) (h .tested)
 
 -- so its contents are valid
 pub passed-valid : (s : State) → Passed s → ValidContents (contentsOf s)
@@ -126,7 +143,7 @@ module _ (s : State) (k : ℕ) where
 
     -- the record that Open makes, over cleared memory
     abbrev emptied : Dataset
-    emptied = setK k (setSize 0 (setMinima (record { b0 = 1; b = replicate 8 0 }) (setCount 0 (s .dataset))))
+    emptied = setK k (setSize 0 (setMinima (record { b0 = 1; b = replicate 8 0 }) (setCounts (replicate 4 0) (s .dataset))))
 
     pub opened-state : {d g : List ℕ} → between 1 8 k ≡ true → d ≡ overwrite 14400 (λ _. 0) (s .distances) → g ≡ overwrite 120 (λ _. 0) (s .settings)
         → (accepted ≡ openAnswer s k) × (stateOf emptied d g ≡ openLeaves s k)
@@ -146,9 +163,9 @@ module _ (s : State) {a : Answer} {x : Refusal} (e : a ≡ Refused x) where
   unfolding enterLeaves heldLeaves enterAnswer
   enter-stays setting row f = stays (stored (entering setting row (contentsOf s)) s) s e f
 
-  pub withdraw-stays : (t : ℕ) → verdictOf a ≡ withdrawAnswer s t → s ≡ withdrawLeaves s t
+  pub withdraw-stays : (u t : ℕ) → verdictOf a ≡ withdrawAnswer s u t → s ≡ withdrawLeaves s u t
   unfolding withdrawLeaves heldLeaves withdrawAnswer
-  withdraw-stays t f = stays (stored (withdrawing t (contentsOf s)) s) s e f
+  withdraw-stays u t f = stays (stored (withdrawing u t (contentsOf s)) s) s e f
 
 -- ---- Minima
 
@@ -276,7 +293,7 @@ module _ (s : State) (setting : ℕ) (row : List ℕ) where
   unfolding enterAnswer enterLeaves heldLeaves contentsOf
   enter-accepted e f =
       let q : accepted ≡ enterAnswer s setting row = sym (ap verdictOf e) ∙ f in
-      let h = accepted-held s (λ H. enterReasons (H .study) setting row) (sym q) in
+      let h = accepted-held s [] (λ H. enterReasons (H .study) setting row) (sym q) in
       let w = enters (studyOf s) setting row (h .reasons) in
       record {
         passed = passed-by s (h .not-short) (h .tested);
@@ -305,46 +322,79 @@ module _ (s : State) (setting : ℕ) (row : List ℕ) where
 
 -- ---- Withdraw
 
-module _ (s : State) (t : ℕ) where
-  module _ (P : Passed s) where
-    withdraw-own : (v : Verdict) → firstOf (withdrawReasons (contentsOf s) t) ≡ v → v ≡ withdrawAnswer s t
+one-user : (u : ℕ) → T (isUser u) → allOf isUser (u ∷ []) ≡ true
+one-user u k = rw (T-true (isUser u) k)
+
+user-known : (u : ℕ) → allOf isUser (u ∷ []) ≡ true → T (isUser u)
+user-known u e = T-left (isUser u) true (true-T (allOf isUser (u ∷ [])) e)
+
+-- as the code tests it
+pub user-by : (u : ℕ) {n : ℕ} → n ≡ u → 1 ≤ u → leb n 4 ≡ isUser u
+user-by u e l = rw (e, le-leb 1 u l)
+
+-- its place among the counts
+pub user-place : (u : ℕ) → T (isUser u) → (1 ≤ u) × (u ≤ 4)
+user-place u k = between-T 1 4 u .0 k
+
+-- what the tests before 21 answer of one user
+module _ (s : State) (u : ℕ) where
+  pub user-1 : short s ≡ true → refused (number 1) ≡ heldAnswer s (u ∷ []) (λ _. [])
+  user-1 e = held-1 s (u ∷ []) (λ _. []) e
+
+  pub user-14 : {r : Bool} → short s ≡ false → r ≡ isUser u → not r ≡ true → refused (number 14) ≡ heldAnswer s (u ∷ []) (λ _. [])
+  user-14 e p q = held-14 s (u ∷ []) (λ _. []) e (rw (test-fails p q))
+
+  -- a user changes nothing of what follows
+  pub user-passes : {r : Bool} → short s ≡ false → r ≡ isUser u → not r ≡ false → heldAnswer s [] (λ _. []) ≡ heldAnswer s (u ∷ []) (λ _. [])
+  unfolding heldAnswer heldReasons freshReasons firstOf
+  user-passes e p q = rw (e, test-passes p q)
+
+  pub known-user : {a : Answer} → a ≡ Done → verdictOf a ≡ heldAnswer s (u ∷ []) (λ _. []) → T (isUser u)
+  known-user e f = user-known u (accepted-held s (u ∷ []) (λ _. []) (sym (sym (ap verdictOf e) ∙ f)) .known)
+
+module _ (s : State) (u t : ℕ) where
+  module _ (P : Passed s × T (isUser u)) where
+    withdraw-own : (v : Verdict) → firstOf (withdrawReasons (contentsOf s) u t) ≡ v → v ≡ withdrawAnswer s u t
     unfolding withdrawAnswer
-    withdraw-own v q = sym q ∙ held-own s (λ H. withdrawReasons H t) (P .not-short) (P .tested)
+    withdraw-own v q = sym q ∙ users-own s (u ∷ []) (λ H. withdrawReasons H u t) (P .0 .not-short) (one-user u (P .1)) (P .0 .tested)
 
     numbers : (b : Bool) → between 1 (s .dataset .n) t ≡ b → between 1 (size (studyOf s)) t ≡ b
     numbers b e = ap (λ (z : ℕ). between 1 z t) (study-size s) ∙ e
 
-    pub withdraw-23 : between 1 (s .dataset .n) t ≡ false → refused (number 23) ≡ withdrawAnswer s t
+    pub withdraw-23 : between 1 (s .dataset .n) t ≡ false → refused (number 23) ≡ withdrawAnswer s u t
     unfolding withdrawReasons firstOf contentsOf
     withdraw-23 e = withdraw-own (refused (number 23)) (rw (numbers false e))
 
     module _ (held : between 1 (s .dataset .n) t ≡ true) where
-      pub withdraw-26 : 65535 ≤ s .dataset .withdrawn → refused (number 26) ≡ withdrawAnswer s t
+      pub withdraw-26 : 65535 ≤ countOf (s .dataset .withdrawn) u → refused (number 26) ≡ withdrawAnswer s u t
       unfolding withdrawReasons firstOf contentsOf
-      withdraw-26 h = withdraw-own (refused (number 26)) (rw (numbers true held, le-leb 65535 (s .dataset .withdrawn) h))
+      withdraw-26 h = withdraw-own (refused (number 26)) (rw (numbers true held, le-leb 65535 (countOf (s .dataset .withdrawn) u) h))
 
-      pub withdraw-done : s .dataset .withdrawn < 65535 → accepted ≡ withdrawAnswer s t
+      pub withdraw-done : countOf (s .dataset .withdrawn) u < 65535 → accepted ≡ withdrawAnswer s u t
       unfolding withdrawReasons firstOf contentsOf
-      withdraw-done h = withdraw-own accepted (rw (numbers true held, lt-leb 65535 (s .dataset .withdrawn) h))
+      withdraw-done h = withdraw-own accepted (rw (numbers true held, lt-leb 65535 (countOf (s .dataset .withdrawn) u) h))
 
-  pub withdraw-accepted : {a : Answer} → a ≡ Done → verdictOf a ≡ withdrawAnswer s t → WithdrawAccepted s t
+  pub withdraw-accepted : {a : Answer} → a ≡ Done → verdictOf a ≡ withdrawAnswer s u t → WithdrawAccepted s u t
   unfolding withdrawAnswer withdrawLeaves heldLeaves contentsOf
   withdraw-accepted e f =
-      let q : accepted ≡ withdrawAnswer s t = sym (ap verdictOf e) ∙ f in
-      let h = accepted-held s (λ H. withdrawReasons H t) (sym q) in
-      let w = withdraws (contentsOf s) t (h .reasons) in
+      let q : accepted ≡ withdrawAnswer s u t = sym (ap verdictOf e) ∙ f in
+      let h = accepted-held s (u ∷ []) (λ H. withdrawReasons H u t) (sym q) in
+      let w = withdraws (contentsOf s) u t (h .reasons) in
+      let k = user-place u (user-known u (h .known)) in
       record {
         passed = passed-by s (h .not-short) (h .tested);
+        user-low = k .0;
+        user-high = k .1;
         low = w .low;
         high = omega (arith, w .high, study-size s);
         countable = w .countable;
-        leaves = ap (λ v. settled v (stored (withdrawing t (contentsOf s)) s) s) q;
+        leaves = ap (λ v. settled v (stored (withdrawing u t (contentsOf s)) s) s) q;
       }
 
-  -- one tide fewer in the record and one withdrawal more, the later tides moved in memory
-  pub withdrawn-state : {d g : List ℕ} → WithdrawAccepted s t → d ≡ overwrite 14400 (movedDistance (s .distances) (t - 1)) (s .distances)
+  -- one tide fewer in the record and one withdrawal more of this user, the later tides moved in memory
+  pub withdrawn-state : {d g : List ℕ} → WithdrawAccepted s u t → d ≡ overwrite 14400 (movedDistance (s .distances) (t - 1)) (s .distances)
       → g ≡ overwrite 120 (movedSetting (s .settings) (t - 1)) (s .settings)
-      → stateOf (setSize (s .dataset .n - 1) (setCount (s .dataset .withdrawn + 1) (s .dataset))) d g ≡ withdrawLeaves s t
+      → stateOf (setSize (s .dataset .n - 1) (setCounts (counted u (s .dataset .withdrawn)) (s .dataset))) d g ≡ withdrawLeaves s u t
   unfolding stored recordOf contentsOf withdrawing withdrawn studyOf
   withdrawn-state {d} {g} A p q = laid ∙ A .leaves
     where
@@ -357,8 +407,8 @@ module _ (s : State) (t : ℕ) where
       held : g ≡ settingsOf (withdrawn (t - 1) (studyOf s)) (s .settings)
       held = q ∙ withdrawn-settings s (A .passed .study) (t - 1)
 
-      counted : Dataset
-      counted = setCount (s .dataset .withdrawn + 1) (s .dataset)
+      one-more : Dataset
+      one-more = setCounts (counted u (s .dataset .withdrawn)) (s .dataset)
 
-      laid : stateOf (setSize (s .dataset .n - 1) counted) d g ≡ stored (withdrawing t (contentsOf s)) s
-      laid = λ i. stateOf (setSize (count i) counted) (far i) (held i)
+      laid : stateOf (setSize (s .dataset .n - 1) one-more) d g ≡ stored (withdrawing u t (contentsOf s)) s
+      laid = λ i. stateOf (setSize (count i) one-more) (far i) (held i)

@@ -5,9 +5,9 @@ use mathlib.Core.Bool.{true, false, cond}
 use mathlib.Core.List.{List}
 use lib.Dec.{leb}
 use lib.ListN.{length}
-use Rattle.study.specs.Limits.{maxTides, maxWithdrawals}
+use Rattle.study.specs.Limits.{maxTides, maxUsers, maxWithdrawals}
 use Rattle.study.specs.declared.Minima.{Minima}
-use Rattle.study.specs.Calls.{sumOfParts, understood, entering, withdrawing}
+use Rattle.study.specs.Calls.{sumOfParts, understood, entering, countOf, withdrawing}
 use Rattle.validity.specs.Memory.{State, short, isDataset, contentsOf, stored}
 use Rattle.dataset.specs.Answers.{enterLeaves, withdrawLeaves}
 use Rattle.validity.specs.Validity.{IsStudy, Long}
@@ -30,10 +30,12 @@ pub record EnterAccepted (s : State) (setting : ℕ) (row : List ℕ) : Type 0 w
   pub length-is : length row ≡ s .dataset .n
   pub leaves : stored (entering setting row (contentsOf s)) s ≡ enterLeaves s setting row
 
--- what an accepted Withdraw tells
-pub record WithdrawAccepted (s : State) (t : ℕ) : Type 0 where
+-- what an accepted Withdraw by user u tells
+pub record WithdrawAccepted (s : State) (u t : ℕ) : Type 0 where
   pub passed : Passed s
+  pub user-low : 1 ≤ u
+  pub user-high : u ≤ maxUsers
   pub low : 1 ≤ t
   pub high : t ≤ s .dataset .n
-  pub countable : s .dataset .withdrawn < maxWithdrawals
-  pub leaves : stored (withdrawing t (contentsOf s)) s ≡ withdrawLeaves s t
+  pub countable : countOf (s .dataset .withdrawn) u < maxWithdrawals
+  pub leaves : stored (withdrawing u t (contentsOf s)) s ≡ withdrawLeaves s u t

@@ -4,6 +4,7 @@ use study::Dataset;
 use study::MAX_K;
 use study::MAX_SETTINGS;
 use study::MAX_TIDES;
+use study::MAX_USERS;
 use study::MAX_WITHDRAWALS;
 use study::Minima;
 use study::Outcome;
@@ -12,8 +13,9 @@ use study::wide;
 use triangle::Violation;
 use validity::is_short;
 ghost use mathlib.Core.Path.{_≡_};
-ghost use mathlib.Core.List.{[]};
-ghost use Rattle.study.specs.Refusals.{verdictOf};
+ghost use lib.Dec.{T};
+ghost use mathlib.Core.List.{[], _∷_};
+ghost use Rattle.study.specs.Refusals.{isUser, verdictOf};
 ghost use Rattle.validity.specs.Memory.{stateOf, entryState, exitState};
 ghost use Rattle.dataset.specs.Answers.{heldAnswer, openAnswer, openLeaves, minimaAnswer, minimaLeaves, enterAnswer, enterLeaves, withdrawAnswer};
 ghost use Rattle.dataset.specs.Answers.{withdrawLeaves};
@@ -52,16 +54,16 @@ pub fn open(dataset: Dataset, distances: &mut [u32], settings: &mut [u8], k: u8)
     next.k = k;
     next.n = 0;
     next.minima = minima;
-    next.withdrawn = 0;
+    next.withdrawn = [0; MAX_USERS];
     Outcome {
         answer: Answer::Done,
         dataset: next,
     }
 }
 
-// With what every call but Open and Read begins: short memory (1), then what is no dataset (21).
+// With what every call but Open and Read begins that names no user: short memory (1), then what is no dataset (21).
 pub fn check(dataset: Dataset, distances: &[u32], settings: &[u8]) -> Answer
-    ensures { λ r. ⌜ verdictOf r ≡ heldAnswer (entryState dataset distances settings) (λ _. []) ⌝ }
+    ensures { λ r. ⌜ verdictOf r ≡ heldAnswer (entryState dataset distances settings) [] (λ _. []) ⌝ }
 {
     if is_short(distances, settings) {
         return Answer::Refused(Refusal::ShortMemory);
@@ -70,6 +72,29 @@ pub fn check(dataset: Dataset, distances: &[u32], settings: &[u8]) -> Answer
         return Answer::Done;
     }
     Answer::Refused(Refusal::NotDataset)
+}
+
+// Whether this is a user (document 02, 2.7: keeper).
+fn is_user(user: u8) -> bool
+    ensures { λ r. ⌜ r ≡ isUser user ⌝ }
+{
+    if user < 1 {
+        return false;
+    }
+    wide(user) <= MAX_USERS
+}
+
+// With what a call begins that names a user: short memory (1), a user who is none (14), then what is no dataset (21).
+fn check_user(dataset: Dataset, distances: &[u32], settings: &[u8], user: u8) -> Answer
+    ensures { λ r. ⌜ verdictOf r ≡ heldAnswer (entryState dataset distances settings) (user ∷ []) (λ _. []) ⌝ }
+{
+    if is_short(distances, settings) {
+        return Answer::Refused(Refusal::ShortMemory);
+    }
+    if !is_user(user) {
+        return Answer::Refused(Refusal::NoSuchUser);
+    }
+    check(dataset, distances, settings)
 }
 
 // The record as Minima understands it (document 02, 2.2). One whose b's are together above 120 stays: it is refused as it is.
@@ -199,12 +224,18 @@ pub fn enter(
 }
 
 // The reasons that Withdraw has of its own. Tides are numbered from 1.
-fn withdraw_answer(dataset: Dataset, distances: &[u32], settings: &[u8], tide: u8) -> Answer
-    requires { ⌜ Passed (stateOf dataset (now distances) (now settings)) ⌝ }
-    ensures { λ r. ⌜ verdictOf r ≡ withdrawAnswer (entryState dataset distances settings) tide ⌝ }
+fn withdraw_answer(
+    dataset: Dataset,
+    distances: &[u32],
+    settings: &[u8],
+    user: u8,
+    tide: u8,
+) -> Answer
+    requires { ⌜ Passed (stateOf dataset (now distances) (now settings)) × T (isUser user) ⌝ }
+    ensures { λ r. ⌜ verdictOf r ≡ withdrawAnswer (entryState dataset distances settings) user tide ⌝ }
 {
     let n = dataset.n;
-    let count = dataset.withdrawn;
+    let counts = dataset.withdrawn;
     let number = tide as usize;
     if number < 1 {
         return Answer::Refused(Refusal::NoSuchTide);
@@ -212,43 +243,56 @@ fn withdraw_answer(dataset: Dataset, distances: &[u32], settings: &[u8], tide: u
     if n < number {
         return Answer::Refused(Refusal::NoSuchTide);
     }
-    if MAX_WITHDRAWALS <= count {
+    if MAX_WITHDRAWALS <= counts[user as usize - 1] {
         return Answer::Refused(Refusal::WithdrawalLimit);
     }
     Answer::Done
 }
 
 // What an accepted Withdraw makes of record and memory.
-fn remove_tide(dataset: Dataset, distances: &mut [u32], settings: &mut [u8], tide: u8) -> Dataset
-    requires { ⌜ WithdrawAccepted (stateOf dataset (now distances) (now settings)) tide ⌝ }
-    ensures { λ r. ⌜ exitState r distances settings ≡ withdrawLeaves (entryState dataset distances settings) tide ⌝ }
+fn remove_tide(
+    dataset: Dataset,
+    distances: &mut [u32],
+    settings: &mut [u8],
+    user: u8,
+    tide: u8,
+) -> Dataset
+    requires { ⌜ WithdrawAccepted (stateOf dataset (now distances) (now settings)) user tide ⌝ }
+    ensures { λ r. ⌜ exitState r distances settings ≡ withdrawLeaves (entryState dataset distances settings) user tide ⌝ }
 {
     let m = tide as usize - 1;
     storage::remove_row(distances, m);
     storage::remove_setting(settings, m);
     let mut next = dataset;
     next.n = dataset.n - 1;
-    next.withdrawn = dataset.withdrawn + 1;
+    let place = user as usize - 1;
+    next.withdrawn[place] = next.withdrawn[place] + 1;
     next
 }
 
-// The named tide goes, and later tides move down by one.
-pub fn withdraw(dataset: Dataset, distances: &mut [u32], settings: &mut [u8], tide: u8) -> Outcome
-    ensures answer { λ r. ⌜ verdictOf (r .answer) ≡ withdrawAnswer (entryState dataset distances settings) tide ⌝ }
-    ensures leaves { λ r. ⌜ exitState (r .dataset) distances settings ≡ withdrawLeaves (entryState dataset distances settings) tide ⌝ }
+// The named tide goes, and later tides move down by one; the user's count goes up by one.
+pub fn withdraw(
+    dataset: Dataset,
+    distances: &mut [u32],
+    settings: &mut [u8],
+    user: u8,
+    tide: u8,
+) -> Outcome
+    ensures answer { λ r. ⌜ verdictOf (r .answer) ≡ withdrawAnswer (entryState dataset distances settings) user tide ⌝ }
+    ensures leaves { λ r. ⌜ exitState (r .dataset) distances settings ≡ withdrawLeaves (entryState dataset distances settings) user tide ⌝ }
 {
-    let first = check(dataset, distances, settings);
+    let first = check_user(dataset, distances, settings, user);
     let Answer::Done = first else {
         return Outcome {
             answer: first,
             dataset,
         };
     };
-    let answer = withdraw_answer(dataset, distances, settings, tide);
+    let answer = withdraw_answer(dataset, distances, settings, user, tide);
     let Answer::Done = answer else {
         return Outcome { answer, dataset };
     };
-    let next = remove_tide(dataset, distances, settings, tide);
+    let next = remove_tide(dataset, distances, settings, user, tide);
     Outcome {
         answer,
         dataset: next,

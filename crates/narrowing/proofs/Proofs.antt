@@ -1,23 +1,24 @@
 -- `Unchanged` of Narrowing.antt, proved: no number above 254 is taken by a call, and none stands in a dataset. Assumes nothing.
 use Prim.Native.Nat.{ℕ, suc, _≤_, _<_}
 use native.Mathlib.Omega.{arith}
-use mathlib.Core.Path.{_≡_, refl, sym, ap, _∙_}
+use mathlib.Core.Path.{_≡_, refl, sym, ap, ap₂, _∙_}
 use mathlib.Core.Logic.{_⊎_, inl, inr, ⊎-elim}
 use mathlib.Core.Bool.{Bool, true, false, cond, not, true≢false}
-use mathlib.Core.List.{List, map}
+use mathlib.Core.List.{List, [], _∷_, map}
 use lib.Dec.{T}
 use lib.ListN.{length, getD, length-map, List·getD-map}
 use lib.Seq.{ext-getD}
 use borrow.Author.Tests.{lt-ltb, le-ltb}
-use Rattle.lists.specs.Lists.{between}
-use Rattle.lists.proofs.Tests.{true-T, not-not, split, between-T}
+use Rattle.lists.specs.Lists.{between, allOf}
+use Rattle.lists.proofs.Tests.{T-left, true-T, not-not, split, between-T}
 use Rattle.lists.proofs.Scans.{between-high}
 use Rattle.lists.proofs.Counts.{sum-suc}
 use Rattle.lists.proofs.Counting.{sum-front}
 use Rattle.study.specs.declared.Minima.{Minima}
 use Rattle.study.specs.Minima.{Acceptable}
 use Rattle.study.specs.Study.{Contents, size, validMinima}
-use Rattle.study.specs.Refusals.{number, Verdict, accepted, refused, settled, Reason, firstOf, freshReasons, heldReasons}
+use Rattle.study.specs.Refusals.{number, Verdict, accepted, refused, settled, Reason, firstOf, freshReasons}
+use Rattle.study.specs.Refusals.{isUser, heldReasons}
 use Rattle.study.specs.Calls.{openReasons, opening, understood, minimaReasons, settingMinima, enterReasons, entering, withdrawReasons, withdrawing}
 use Rattle.study.specs.Theorems.{ValidContents}
 use Rattle.study.proofs.CallLaws.{none-holds}
@@ -27,7 +28,7 @@ use Rattle.validity.specs.Validity.{IsStudy}
 use Rattle.validity.proofs.Proofs.{for-datasets}
 use Rattle.dataset.specs.Answers.{freshLeaves, heldAnswer, heldLeaves, openAnswer, openLeaves, minimaAnswer, minimaLeaves}
 use Rattle.dataset.specs.Answers.{enterAnswer, enterLeaves, withdrawAnswer, withdrawLeaves}
-use Rattle.dataset.proofs.AnswerLaws.{fresh-own, accepted-held}
+use Rattle.dataset.proofs.AnswerLaws.{fresh-own, accepted-held, user-place}
 use Rattle.narrowing.specs.Narrowing.{narrowed, narrowMinima, narrowDataset, narrowState, Unchanged}
 
 -- what either of two tests tells, or that neither passes
@@ -61,6 +62,14 @@ module _ (n x : ℕ) (few : n < 255) where
   -- a number that passes was not cut
   between-uncut : T (not (not (between 1 n x))) → narrowed x ≡ x
   between-uncut t = narrow-small x (omega (arith, between-T 1 n x .0 (not-not (between 1 n x) t) .1))
+
+-- a user
+module _ (u : ℕ) where
+  users-same : allOf isUser (narrowed u ∷ []) ≡ allOf isUser (u ∷ [])
+  users-same = rw (between-same 4 u (omega arith))
+
+  user-uncut : allOf isUser (u ∷ []) ≡ true → narrowed u ≡ u
+  user-uncut e = narrow-small u (omega (arith, user-place u (T-left (isUser u) true (true-T (allOf isUser (u ∷ [])) e)) .1))
 
 -- ---- minima
 
@@ -112,25 +121,34 @@ module _ (s : State) where
       by accepted g = ap (λ H. stored H s) (g refl)
       by (refused r) g = refl
 
-  module _ {own own′ : Contents → List Reason} {makes makes′ : Contents → Contents} (same : (H : Contents) → ValidContents H → own′ H ≡ own H)
-      (makes-same : (H : Contents) → ValidContents H → firstOf (own H) ≡ accepted → makes′ H ≡ makes H) where
-    valid : isDataset s ≡ true → ValidContents (contentsOf s)
-    valid e = for-datasets .valid s (true-T (isDataset s) e)
+  valid : isDataset s ≡ true → ValidContents (contentsOf s)
+  valid e = for-datasets .valid s (true-T (isDataset s) e)
 
-    answer-same : heldAnswer s own′ ≡ heldAnswer s own
+  -- of a user who is none nothing else matters
+  module _ (users users′ : List ℕ) (users-same : allOf isUser users′ ≡ allOf isUser users)
+      {own own′ : Contents → List Reason} {makes makes′ : Contents → Contents}
+      (same : (H : Contents) → ValidContents H → allOf isUser users ≡ true → own′ H ≡ own H)
+      (makes-same : (H : Contents) → ValidContents H → allOf isUser users ≡ true → firstOf (own H) ≡ accepted → makes′ H ≡ makes H) where
+    answer-same : heldAnswer s users′ own′ ≡ heldAnswer s users own
     unfolding heldAnswer heldReasons freshReasons firstOf
-    answer-same = ap (cond (short s) (refused (number 1))) (by (isDataset s) refl)
+    answer-same =
+        ap (cond (short s) (refused (number 1)))
+        (ap (λ k. past k (isDataset s) own′) users-same ∙ by (allOf isUser users) (isDataset s) refl refl)
       where
-        by : (b : Bool) → isDataset s ≡ b
-            → cond (not b) (refused (number 21)) (firstOf (own′ (contentsOf s))) ≡ cond (not b) (refused (number 21)) (firstOf (own (contentsOf s)))
-        by true e = ap firstOf (same (contentsOf s) (valid e))
-        by false e = refl
+        -- past short memory
+        past : Bool → Bool → (Contents → List Reason) → Verdict
+        past k b o = cond (not k) (refused (number 14)) (cond (not b) (refused (number 21)) (firstOf (o (contentsOf s))))
 
-    held-same : (heldAnswer s own′ ≡ heldAnswer s own)
-        × (settled (heldAnswer s own′) (stored (makes′ (contentsOf s)) s) s ≡ settled (heldAnswer s own) (stored (makes (contentsOf s)) s) s)
+        by : (k b : Bool) → allOf isUser users ≡ k → isDataset s ≡ b → past k b own′ ≡ past k b own
+        by true true f e = ap firstOf (same (contentsOf s) (valid e) f)
+        by true false f e = refl
+        by false b f e = refl
+
+    held-same : (heldAnswer s users′ own′ ≡ heldAnswer s users own)
+        × (settled (heldAnswer s users′ own′) (stored (makes′ (contentsOf s)) s) s ≡ settled (heldAnswer s users own) (stored (makes (contentsOf s)) s) s)
     held-same = (
       answer-same,
-      leaves-same answer-same (λ e. let A = accepted-held s own e in makes-same (contentsOf s) (valid (A .tested)) (A .reasons)),
+      leaves-same answer-same (λ e. let A = accepted-held s users own e in makes-same (contentsOf s) (valid (A .tested)) (A .known) (A .reasons)),
     )
 
   -- ---- the record itself
@@ -151,11 +169,12 @@ module _ (s : State) where
       record-uncut (narrow-below (s .dataset .k) (omega (arith, D .k-high)))
       (narrow-uncut (narrowed (s .dataset .k)) (s .dataset .minima) (fit-acceptable (D .minima)))
 
-  record-same : (own : Contents → List Reason) → (heldAnswer (narrowState s) own ≡ heldAnswer s own) × (heldAnswer s own ≡ accepted → narrowState s ≡ s)
+  record-same : (users : List ℕ) (own : Contents → List Reason)
+      → (heldAnswer (narrowState s) users own ≡ heldAnswer s users own) × (heldAnswer s users own ≡ accepted → narrowState s ≡ s)
   unfolding heldAnswer heldReasons freshReasons firstOf short
-  record-same own =
-      ⊎-elim (λ e. (ap (λ t. heldAnswer t own) e, λ a. e))
-      (λ n. (rw (n .0, n .1), λ a. absurd (true≢false (sym (accepted-held s own a .tested) ∙ n .1))))
+  record-same users own =
+      ⊎-elim (λ e. (ap (λ t. heldAnswer t users own) e, λ a. e))
+      (λ n. (rw (n .0, n .1), λ a. absurd (true≢false (sym (accepted-held s users own a .tested) ∙ n .1))))
       (either (isDataset (narrowState s)) (isDataset s) (λ t. narrow-dataset-uncut (for-datasets .exactly (narrowState s) .0 t .study))
       (λ t. dataset-uncut (for-datasets .exactly s .0 t .study)))
 
@@ -168,15 +187,17 @@ unchanged s =
           let e : openAnswer s (narrowed k) ≡ openAnswer s k = rw (between-same 8 k (omega arith)) in
           (e, leaves-same s e (λ a. ap opening (between-uncut 8 k (omega arith) (none-holds (openReasons k) (fresh-own s (openReasons k) a .1) .0))));
       on-minima = λ M.
-          held-same s (λ H ok. rw (valid-same (H .study .k) M))
-          (λ H ok a. ap (λ N. settingMinima N H) (valid-uncut (H .study .k) M (none-holds (minimaReasons (H .study) M) a .0)));
+          held-same s [] [] refl (λ H ok k. rw (valid-same (H .study .k) M))
+          (λ H ok k a. ap (λ N. settingMinima N H) (valid-uncut (H .study .k) M (none-holds (minimaReasons (H .study) M) a .0)));
       on-enter = λ x row.
-          held-same s (λ H ok. rw (between-same (H .study .k) x (omega (arith, ok .study .k-high))))
-          (λ H ok a. ap (λ y. entering y row H)
+          held-same s [] [] refl (λ H ok k. rw (between-same (H .study .k) x (omega (arith, ok .study .k-high))))
+          (λ H ok k a. ap (λ y. entering y row H)
           (between-uncut (H .study .k) x (omega (arith, ok .study .k-high)) (none-holds (enterReasons (H .study) x row) a .1 .1 .0)));
-      on-withdraw = λ t.
-          held-same s (λ H ok. rw (between-same (size (H .study)) t (omega (arith, ok .study .few))))
-          (λ H ok a. ap (λ x. withdrawing x H) (between-uncut (size (H .study)) t (omega (arith, ok .study .few)) (none-holds (withdrawReasons H t) a .0)));
+      on-withdraw = λ u t.
+          held-same s (u ∷ []) (narrowed u ∷ []) (users-same u)
+          (λ H ok k. rw (user-uncut u k, between-same (size (H .study)) t (omega (arith, ok .study .few))))
+          (λ H ok k a. ap₂ (λ v x. withdrawing v x H) (user-uncut u k)
+          (between-uncut (size (H .study)) t (omega (arith, ok .study .few)) (none-holds (withdrawReasons H u t) a .0)));
       on-record = record-same s;
     }
 

@@ -34,7 +34,8 @@ pub record Unchanged (s : State) : Type 0 where
   pub on-minima : (M : Minima) → (minimaAnswer s (narrowMinima M) ≡ minimaAnswer s M) × (minimaLeaves s (narrowMinima M) ≡ minimaLeaves s M)
   pub on-enter : (setting : ℕ) (row : List ℕ)
       → (enterAnswer s (narrowed setting) row ≡ enterAnswer s setting row) × (enterLeaves s (narrowed setting) row ≡ enterLeaves s setting row)
-  pub on-withdraw : (t : ℕ) → (withdrawAnswer s (narrowed t) ≡ withdrawAnswer s t) × (withdrawLeaves s (narrowed t) ≡ withdrawLeaves s t)
+  pub on-withdraw : (u t : ℕ) → (withdrawAnswer s (narrowed u) (narrowed t) ≡ withdrawAnswer s u t)
+      × (withdrawLeaves s (narrowed u) (narrowed t) ≡ withdrawLeaves s u t)
   -- any call on a dataset, of the record itself; where it is accepted, the record was within bytes
-  pub on-record : (own : Contents → List Reason)
-      → (heldAnswer (narrowState s) own ≡ heldAnswer s own) × (heldAnswer s own ≡ accepted → narrowState s ≡ s)
+  pub on-record : (users : List ℕ) (own : Contents → List Reason)
+      → (heldAnswer (narrowState s) users own ≡ heldAnswer s users own) × (heldAnswer s users own ≡ accepted → narrowState s ≡ s)

@@ -1,5 +1,6 @@
 -- `check` meets its contract: short memory, then the test of reason 21. Assumes nothing.
-use mathlib.Core.Path.{sym, _∙_}
+use mathlib.Core.Path.{refl, sym, _∙_}
+use mathlib.Core.List.{[]}
 use borrow.Author.Needs.{needs}
 use Rattle.study.specs.Refusals.{firstOf}
 use Rattle.validity.proofs.LayoutLaws.{short-test}
@@ -8,7 +9,7 @@ use Rattle.dataset.proofs.check.Statement.{statement}
 use Rattle.dataset.proofs.check.Tie as tie
 
 returns : tie.Need-returns
-returns c = held-1 _ _ (short-test _ (c .before .is-short .ensures .0) (c .if1 .taken))
+returns c = held-1 _ [] _ (short-test _ (c .before .is-short .ensures .0) (c .if1 .taken))
 
 is-dataset-requires : tie.Need-is-dataset-requires
 is-dataset-requires c κs = c .before .is-short .ensures .1 (c .if1 .left)
@@ -22,7 +23,7 @@ returns-2 c =
 returns-3 : tie.Need-returns-3
 returns-3 c =
     let fits = short-test _ (c .before .before .before .is-short .ensures .0) (c .before .before .if1 .left) in
-    held-21 _ _ fits (sym (c .before .is-dataset .ensures) ∙ c .if2 .left)
+    held-21 _ [] _ fits refl (sym (c .before .is-dataset .ensures) ∙ c .if2 .left)
 
 pub check-spec : {M : Type 1} → statement M
 check-spec = tie.close (tie.spec (λ c κs. search needs) returns is-dataset-requires returns-2 returns-3)

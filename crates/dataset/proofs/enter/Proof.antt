@@ -1,4 +1,5 @@
 -- `enter` meets its contract: a refused call leaves everything, an accepted one what `add_tide` ensures. Assumes nothing.
+use mathlib.Core.List.{[]}
 use borrow.Author.Needs.{needs}
 use Rattle.dataset.proofs.AnswerLaws.{held-refused, passed, enter-stays, enter-accepted}
 use Rattle.dataset.specs.Answers.{enterAnswer}
@@ -8,11 +9,11 @@ use Rattle.dataset.proofs.enter.Tie as tie
 returns : tie.Need-returns
 unfolding enterAnswer
 returns c =
-    let f = held-refused _ _ (c .enum-told2 .given .1) (c .before .before .check .ensures) in
+    let f = held-refused _ [] _ (c .enum-told2 .given .1) (c .before .before .check .ensures) in
     (f, enter-stays _ (c .enum-told2 .given .1) _ _ f)
 
 enter-answer-requires : tie.Need-enter-answer-requires
-enter-answer-requires c κs = passed _ (c .before .before .enum-told .given .1) (c .before .before .before .before .check .ensures)
+enter-answer-requires c κs = passed _ [] (c .before .before .enum-told .given .1) (c .before .before .before .before .check .ensures)
 
 returns-2 : tie.Need-returns-2
 returns-2 c = (c .before .before .enter-answer .ensures, enter-stays _ (c .enum-told4 .given .1) _ _ (c .before .before .enter-answer .ensures))

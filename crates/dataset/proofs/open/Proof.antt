@@ -30,7 +30,7 @@ clear-settings-requires c κs =
 
 returns-4 : tie.Need-returns-4
 returns-4 c =
-    let settings-cleared = c .before .before in
+    let settings-cleared = c .before .before .before in
     let distances-cleared = settings-cleared .before .before .before .before in
     let k-tested = distances-cleared .before .before in
     let tested = k-tested .before .before in

@@ -1,6 +1,7 @@
 -- `withdraw` meets its contract: a refused call leaves everything, an accepted one what `remove_tide` ensures. Assumes nothing.
+use mathlib.Core.List.{[], _∷_}
 use borrow.Author.Needs.{needs}
-use Rattle.dataset.proofs.AnswerLaws.{held-refused, passed, withdraw-stays, withdraw-accepted}
+use Rattle.dataset.proofs.AnswerLaws.{held-refused, passed, known-user, withdraw-stays, withdraw-accepted}
 use Rattle.dataset.specs.Answers.{withdrawAnswer}
 use Rattle.dataset.proofs.withdraw.Statement.{statement}
 use Rattle.dataset.proofs.withdraw.Tie as tie
@@ -8,17 +9,19 @@ use Rattle.dataset.proofs.withdraw.Tie as tie
 returns : tie.Need-returns
 unfolding withdrawAnswer
 returns c =
-    let f = held-refused _ _ (c .enum-told2 .given .1) (c .before .before .check .ensures) in
-    (f, withdraw-stays _ (c .enum-told2 .given .1) _ f)
+    let f = held-refused _ (_ ∷ []) _ (c .enum-told2 .given .1) (c .before .before .check-user .ensures) in
+    (f, withdraw-stays _ (c .enum-told2 .given .1) _ _ f)
 
 withdraw-answer-requires : tie.Need-withdraw-answer-requires
-withdraw-answer-requires c κs = passed _ (c .before .before .enum-told .given .1) (c .before .before .before .before .check .ensures)
+withdraw-answer-requires c κs =
+    let told = c .before .before .enum-told .given .1 in
+    let checked = c .before .before .before .before .check-user .ensures in (passed _ (_ ∷ []) told checked, known-user _ _ told checked)
 
 returns-2 : tie.Need-returns-2
-returns-2 c = (c .before .before .withdraw-answer .ensures, withdraw-stays _ (c .enum-told4 .given .1) _ (c .before .before .withdraw-answer .ensures))
+returns-2 c = (c .before .before .withdraw-answer .ensures, withdraw-stays _ (c .enum-told4 .given .1) _ _ (c .before .before .withdraw-answer .ensures))
 
 remove-tide-requires : tie.Need-remove-tide-requires
-remove-tide-requires c κs = withdraw-accepted _ _ (c .before .before .enum-told3 .given .1) (c .before .before .before .before .withdraw-answer .ensures)
+remove-tide-requires c κs = withdraw-accepted _ _ _ (c .before .before .enum-told3 .given .1) (c .before .before .before .before .withdraw-answer .ensures)
 
 returns-3 : tie.Need-returns-3
 returns-3 c = let e = c .before .before .before .before in (e .before .before .before .before .before .withdraw-answer .ensures, e .remove-tide .ensures)
