@@ -10,18 +10,19 @@ use Rattle.study.specs.Refusals.{Verdict, accepted, firstOf}
 use Rattle.study.specs.Calls.{opened, opening, triangle, violations, enterReasons, entered, entering}
 use Rattle.study.specs.Calls.{blockReasons, figures, blockRecord, judgeReasons, approved, judgement}
 use Rattle.file_format.specs.Bits.{binary, allBits, pack, packed}
-use Rattle.file_format.specs.File.{tideFields, fields, fileOf, bitLength, byteLength}
+use Rattle.file_format.specs.File.{tideFields, fields, fileWith, fileOf, bitLength, byteLength, countsUnder, countsAt}
 use Rattle.file_format.specs.File.{tideAt, minimaAt, decoded, headReasons, tideReasons, readReasons}
 use Rattle.file_format.proofs.AcceptedLaws.{accepted-valid}
 use Rattle.file_format.specs.Cases.{tideOn, line, plain, fresh, reply, case1, case2, case3, case4, case7, one-tide, cases, WorkedCases}
-use Rattle.file_format.specs.Cases.{nearest, NearestFirst, studyIn, studies, ValidStudies, order, ReadInOrder}
+use Rattle.file_format.specs.Cases.{nearest, NearestFirst, old, OldRead, studyIn, studies, ValidStudies, order, ReadInOrder}
 
 pub worked-cases : WorkedCases
 unfolding cases case1 case2 case3 case4 case7 one-tide plain line tideOn reply firstOf
     blockReasons figures blockRecord enterReasons entering entered judgeReasons judgement approved opening opened triangle violations
     centresAmong centres centreOf blocksAt choices block labels allSufficient assignments assignable candidates radius blocking
     diameter greatestDiameter feasible tide distance meets sufficient problem validMinima
-    readReasons headReasons tideReasons decoded minimaAt tideAt byteLength bitLength fileOf fields tideFields packed pack allBits binary
+    readReasons headReasons tideReasons decoded minimaAt tideAt byteLength bitLength countsUnder countsAt
+    fileOf fileWith fields tideFields packed pack allBits binary
     every sumBelow countBelow greatest tabulate flatMap headD
 worked-cases = refl
 
@@ -45,13 +46,14 @@ all-valid (R ∷ Rs) e q S (there m) = all-valid Rs (cc) (cc) S m
 
 accepts : map answer studies ≡ map (λ (S : Study). accepted) studies
 unfolding studies studyIn cases nearest case1 case2 case3 case4 case7 one-tide plain line tideOn opening opened firstOf
-    readReasons headReasons tideReasons decoded minimaAt tideAt byteLength bitLength fileOf fields tideFields packed pack allBits binary
+    readReasons headReasons tideReasons decoded minimaAt tideAt byteLength bitLength countsUnder countsAt
+    fileOf fileWith fields tideFields packed pack allBits binary
     triangle violations distance tide validMinima every sumBelow tabulate flatMap
 accepts = refl
 
 gives-back : map back studies ≡ studies
 unfolding studies studyIn cases nearest case1 case2 case3 case4 case7 one-tide plain line tideOn opening opened
-    decoded minimaAt tideAt bitLength fileOf fields tideFields packed pack allBits binary tabulate flatMap
+    decoded minimaAt tideAt bitLength countsUnder countsAt fileOf fileWith fields tideFields packed pack allBits binary tabulate flatMap
 gives-back = refl
 
 pub valid-studies : ValidStudies
@@ -59,6 +61,12 @@ valid-studies = all-valid studies accepts gives-back
 
 pub in-order : ReadInOrder
 unfolding order reply firstOf
-    readReasons headReasons tideReasons decoded minimaAt tideAt byteLength bitLength binary
+    readReasons headReasons tideReasons decoded minimaAt tideAt countsAt countsUnder byteLength bitLength binary
     triangle violations distance tide validMinima every sumBelow tabulate flatMap
 in-order = refl
+
+pub old-read : OldRead
+unfolding old one-tide plain line tideOn opening opened reply firstOf
+    readReasons headReasons tideReasons decoded minimaAt tideAt countsAt countsUnder byteLength bitLength binary
+    triangle violations distance tide validMinima every sumBelow tabulate flatMap
+old-read = refl

@@ -2,10 +2,10 @@
 use Prim.Native.Nat.{ℕ, _+_, _-_, _*_, _≤_, _<_}
 use native.Mathlib.Omega.{arith}
 use mathlib.Core.Path.{_≡_, _∙_, subst}
-use mathlib.Core.Logic.{⊎-elim, _↔_}
-use mathlib.Core.Bool.{Bool, true, false, not}
+use mathlib.Core.Logic.{_⊎_, inl, inr, ⊎-elim, _↔_}
+use mathlib.Core.Bool.{Bool, true, false, not, _&&_, _||_}
 use mathlib.Core.List.{List, flatMap}
-use lib.Dec.{T, eqb, nltb→le, eqb→eq, not-T}
+use lib.Dec.{T, ltb, eqb, nltb→le, eqb→eq, not-T}
 use lib.Arith.{le→nltb}
 use lib.ListN.{length}
 use Rattle.lists.specs.Lists.{between, iota, isEmpty}
@@ -15,7 +15,8 @@ use Rattle.study.specs.Refusals.{Numbered, number, accepted, refused, Reason, f
 use Rattle.study.specs.Calls.{Pair, violations, firstViolation}
 use Rattle.study.proofs.CallLaws.{none-holds}
 use Rattle.file_format.specs.Bits.{bitsAt}
-use Rattle.file_format.specs.File.{bitLength, byteLength, minimaAt, decoded, headReasons, tideReasons, readReasons}
+use Rattle.file_format.specs.File.{newMark, oldMark, bitLength, byteLength, markOf, countsIn, minimaAt, decoded, headReasons}
+use Rattle.file_format.specs.File.{tideReasons, readReasons}
 use Rattle.file_format.proofs.DecodedLaws.{decoded-setting}
 use Rattle.file_format.proofs.ReasonLaws.{firstOf-later, firstOf-sooner, firstOf-both, holds-none, refused-at, none-of-runs, first-of-runs}
 use Rattle.file_format.specs.Head.{Head, Clear}
@@ -26,40 +27,61 @@ not-not-of : (b : Bool) → T b → T (not (not b))
 not-not-of true t = tt
 not-not-of false t = t
 
+-- one of two numbers
+pub either-T : (x a b : ℕ) → T (eqb x a || eqb x b) ↔ ((x ≡ a) ⊎ (x ≡ b))
+either-T x a b = (
+  told (eqb x a) (eqb x b) (eqb→eq x a) (eqb→eq x b),
+  ⊎-elim (λ e. or-left (eqb x a) (eqb x b) (eq→eqb x a e)) (λ e. or-right (eqb x a) (eqb x b) (eq→eqb x b e)),
+)
+  where
+    told : (p q : Bool) → (T p → x ≡ a) → (T q → x ≡ b) → T (p || q) → (x ≡ a) ⊎ (x ≡ b)
+    told true q f g t = inl (f tt)
+    told false q f g t = inr (g t)
+
+    or-left : (p q : Bool) → T p → T (p || q)
+    or-left true q t = tt
+
+    or-right : (p q : Bool) → T q → T (p || q)
+    or-right true q t = tt
+    or-right false q t = t
+
+-- where x is a, n is not below b
+pub unless-T : (x a n b : ℕ) → T (not (eqb x a && ltb n b)) ↔ (x ≡ a → b ≤ n)
+unless-T x a n b = (λ t e. told (eqb x a) (eq→eqb x a e) t, λ f. tested (eqb x a) (λ t. f (eqb→eq x a t)))
+  where
+    told : (p : Bool) → T p → T (not (p && ltb n b)) → b ≤ n
+    told true p t = nltb→le n b t
+
+    tested : (p : Bool) → (T p → b ≤ n) → T (not (p && ltb n b))
+    tested true f = le→nltb n b (f tt)
+    tested false f = tt
+
 pub head-T : (s : List ℕ) → (firstOf (headReasons s) ≡ accepted) ↔ Head s
 unfolding headReasons
 head-T s = (
   λ e. let h = none-holds (headReasons s) e in
-      let b = between-T 1 8 k .0 (not-not (between 1 8 k) (h .1 .1 .1 .0)) in
+      let after = h .1 .1 .1 in
+      let b = between-T 1 8 k .0 (not-not (between 1 8 k) (after .1 .0)) in
+      let last = after .1 .1 in
       record {
         six = nltb→le (length s) 6 (h .0);
-        mark = eqb→eq (bitsAt s 0 8) 0x54 (not-not (eqb (bitsAt s 0 8) 0x54) (h .1 .0));
-        few = nltb→le 120 n (h .1 .1 .0);
+        mark = either-T (markOf s) newMark oldMark .0 (not-not (eqb (markOf s) newMark || eqb (markOf s) oldMark) (h .1 .0));
+        twelve = unless-T (markOf s) newMark (length s) 12 .0 (h .1 .1 .0);
+        few = nltb→le 120 n (after .0);
         k-low = b .0;
         k-high = b .1;
-        long = eqb→eq (length s) (byteLength k n) (not-not (eqb (length s) (byteLength k n)) (h .1 .1 .1 .1 .0));
-        minima = not-not (validMinima k (minimaAt s k)) (h .1 .1 .1 .1 .1 .0);
-        filled = eqb→eq fill 0 (not-not (eqb fill 0) (h .1 .1 .1 .1 .1 .1 .0));
+        long = eqb→eq (length s) bytes (not-not (eqb (length s) bytes) (last .0));
+        minima = not-not (validMinima k (minimaAt s k)) (last .1 .0);
+        filled = eqb→eq fill 0 (not-not (eqb fill 0) (last .1 .1 .0));
       },
-  λ h. holds-none (headReasons s) (
-    le→nltb (length s) 6 (h .six),
-    (
-      not-not-of (eqb (bitsAt s 0 8) 0x54) (eq→eqb (bitsAt s 0 8) 0x54 (h .mark)),
-      (
-        le→nltb 120 n (h .few),
-        (
-          not-not-of (between 1 8 k) (between-T 1 8 k .1 (h .k-low, h .k-high)),
-          (
-            not-not-of (eqb (length s) (byteLength k n)) (eq→eqb (length s) (byteLength k n) (h .long)),
-            (
-              not-not-of (validMinima k (minimaAt s k)) (h .minima),
-              (not-not-of (eqb fill 0) (eq→eqb fill 0 (h .filled)), tt),
-            ),
-          ),
-        ),
-      ),
-    ),
-  ),
+  λ h. let marked = not-not-of (eqb (markOf s) newMark || eqb (markOf s) oldMark) (either-T (markOf s) newMark oldMark .1 (h .mark)) in
+      let twelve = unless-T (markOf s) newMark (length s) 12 .1 (h .twelve) in
+      let few = le→nltb 120 n (h .few) in
+      let settings = not-not-of (between 1 8 k) (between-T 1 8 k .1 (h .k-low, h .k-high)) in
+      let long = not-not-of (eqb (length s) bytes) (eq→eqb (length s) bytes (h .long)) in
+      let minima = not-not-of (validMinima k (minimaAt s k)) (h .minima) in
+      let filled = not-not-of (eqb fill 0) (eq→eqb fill 0 (h .filled)) in
+      holds-none (headReasons s) (le→nltb (length s) 6 (h .six), (marked, (twelve, (few, (settings, (long, (minima, (filled, tt)))))))),
 )
   where
     n : ℕ
@@ -68,8 +90,12 @@ head-T s = (
     k : ℕ
     k = bitsAt s 15 4
 
+    bytes : ℕ
+    bytes = byteLength (countsIn s) (bitsAt s 15 4) (bitsAt s 8 7)
+
     fill : ℕ
-    fill = bitsAt s (bitLength k n) (8 * length s - bitLength k n)
+    fill =
+        let end = bitLength (countsIn s) (bitsAt s 15 4) (bitsAt s 8 7) in bitsAt s end (8 * length s - end)
 
 -- the pairs of earlier tides that violate the triangle inequality with tide t
 abbrev pub violationsAt : Study → ℕ → List Pair

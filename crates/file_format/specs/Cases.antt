@@ -1,17 +1,19 @@
--- Document 01's "Tides on a line", the cases marked P, as one list of questions and replies; cases of document 02, 2.6; and the order of
--- Read's reasons. The questions ask the definitions that the contracts of the calls cite. There are no proofs here: `worked-cases`,
--- `nearest-first`, `valid-studies` and `in-order` of CasesProof.antt prove the statements. Assumes nothing.
+-- Document 01's "Tides on a line", the cases marked P, as one list of questions and replies; cases of document 02, 2.6 and 2.7; and the
+-- order of Read's reasons. The questions ask the definitions that the contracts of the calls cite. There are no proofs here: `worked-cases`,
+-- `nearest-first`, `old-read`, `valid-studies` and `in-order` of CasesProof.antt prove the statements. Assumes nothing.
 use Prim.Native.Nat.{ℕ, _+_, _-_}
 use mathlib.Core.Path.{_≡_}
 use mathlib.Core.Bool.{Bool, true, false}
 use mathlib.Core.List.{List, [], _∷_, _++_, map, flatMap}
-use lib.ListN.{length, getD, take}
+use lib.ListN.{length, getD, take, replicate}
 use Rattle.lists.specs.Lists.{_among_, tabulate}
+use Rattle.study.specs.Limits.{maxUsers}
 use Rattle.study.specs.declared.BlockRecord.{BlockRecord}
 use Rattle.study.specs.Problem.{assignable, blocking}
 use Rattle.study.specs.Study.{Tide, Study, Contents, size, problem, Valid}
 use Rattle.study.specs.Refusals.{number, seven, Reply, value, refusal, replied, firstOf}
-use Rattle.study.specs.Calls.{opening, enterReasons, entering, blockReasons, Figures, figures, blockRecord, judgeReasons, Judgement, approval, judgement}
+use Rattle.study.specs.Calls.{opened, opening, enterReasons, entering, blockReasons, Figures, figures, blockRecord}
+use Rattle.study.specs.Calls.{judgeReasons, Judgement, approval, judgement}
 use Rattle.file_format.specs.File.{fileOf, decoded, readReasons}
 
 -- ---- studies
@@ -37,7 +39,7 @@ plain b0 positions = line 1 b0 [] [] positions
 
 -- nothing withdrawn
 abbrev pub fresh : Study → Contents
-fresh S = record { study = S; withdrawals = 0 }
+fresh S = record { study = S; withdrawals = replicate maxUsers 0 }
 
 -- ---- questions and replies
 
@@ -149,13 +151,13 @@ cases =
     ∷ (enter case7 1 (1 ∷ 4 ∷ []) gives value (holds (fresh (plain 1 (1 ∷ 4 ∷ 0 ∷ [])))))
     ∷ (enter case7 1 (1 ∷ 1 ∷ []) gives refusal (seven 1 2))
     ∷ (enter case7 1 (1 ∷ 5 ∷ []) gives refusal (seven 1 2))
-    -- 8: the empty book with k = 1
-    ∷ (write (opening 1) gives value (file (0x54 ∷ 0x00 ∷ 0x20 ∷ 0x40 ∷ 0x00 ∷ 0x00 ∷ 0x00 ∷ [])))
-    ∷ (read (0x54 ∷ 0x00 ∷ 0x20 ∷ 0x40 ∷ 0x00 ∷ 0x00 ∷ 0x00 ∷ []) gives value (holds (opening 1)))
-    ∷ (read (0x54 ∷ 0x00 ∷ 0x20 ∷ 0x40 ∷ 0x00 ∷ 0x00 ∷ 0x01 ∷ []) gives refusal (number 11))
-    ∷ (read (0x54 ∷ 0x00 ∷ 0x20 ∷ 0x40 ∷ 0x00 ∷ 0x00 ∷ []) gives refusal (number 8))
-    -- the file of the printed sheet
-    ∷ (write (fresh one-tide) gives value (file (0x54 ∷ 0x02 ∷ 0x20 ∷ 0x40 ∷ 0x00 ∷ 0x00 ∷ 0x00 ∷ [])))
+    -- 8, written anew by document 02, 2.7: the empty book with k = 1
+    ∷ (write (opening 1) gives value (file (0x55 ∷ 0x00 ∷ 0x20 ∷ 0x40 ∷ replicate 9 0)))
+    ∷ (read (0x55 ∷ 0x00 ∷ 0x20 ∷ 0x40 ∷ replicate 9 0) gives value (holds (opening 1)))
+    ∷ (read (0x55 ∷ 0x00 ∷ 0x20 ∷ 0x40 ∷ (replicate 8 0 ++ (0x01 ∷ []))) gives refusal (number 11))
+    ∷ (read (0x55 ∷ 0x00 ∷ 0x20 ∷ 0x40 ∷ 0x00 ∷ 0x00 ∷ []) gives refusal (number 8))
+    -- the file of the printed sheet, anew
+    ∷ (write (fresh one-tide) gives value (file (0x55 ∷ 0x02 ∷ 0x20 ∷ 0x40 ∷ replicate 9 0)))
     ∷ []
 
 -- the definitions give what document 01 gives
@@ -178,6 +180,26 @@ nearest =
 -- the definitions give these lists
 abbrev pub NearestFirst : Type 0
 NearestFirst = AsGiven nearest
+
+-- ---- document 02, 2.7: files of mark 54
+
+-- they are still read: case 8 as document 01 has it, the file of its sheet, and one after 65,535 withdrawals, which are user 1's
+unfoldable pub old : List WorkedCase
+old =
+    (read (0x54 ∷ 0x00 ∷ 0x20 ∷ 0x40 ∷ 0x00 ∷ 0x00 ∷ 0x00 ∷ []) gives value (holds (opening 1)))
+    ∷ (read (0x54 ∷ 0x00 ∷ 0x20 ∷ 0x40 ∷ 0x00 ∷ 0x00 ∷ 0x01 ∷ []) gives refusal (number 11))
+    ∷ (read (0x54 ∷ 0x00 ∷ 0x20 ∷ 0x40 ∷ 0x00 ∷ 0x00 ∷ []) gives refusal (number 8))
+    ∷ (read (0x54 ∷ 0x02 ∷ 0x20 ∷ 0x40 ∷ 0x00 ∷ 0x00 ∷ 0x00 ∷ []) gives value (holds (fresh one-tide)))
+    ∷ (read (0x54 ∷ 0x00 ∷ 0x20 ∷ 0x7f ∷ 0xff ∷ 0xc0 ∷ 0x00 ∷ [])
+    gives value (holds (record { study = opened 1; withdrawals = 65535 ∷ 0 ∷ 0 ∷ 0 ∷ [] })))
+    -- and the same of mark 55: 65,535, 1, 2 and 3
+    ∷ (read (0x55 ∷ 0x00 ∷ 0x20 ∷ 0x7f ∷ 0xff ∷ 0xc0 ∷ 0x00 ∷ 0x40 ∷ 0x00 ∷ 0x80 ∷ 0x00 ∷ 0xc0 ∷ 0x00 ∷ [])
+    gives value (holds (record { study = opened 1; withdrawals = 65535 ∷ 1 ∷ 2 ∷ 3 ∷ [] })))
+    ∷ []
+
+-- the definitions give these contents
+abbrev pub OldRead : Type 0
+OldRead = AsGiven old
 
 -- ---- every study asked about is valid; so its minima have all eight b's and pass reason 3
 
@@ -205,6 +227,18 @@ unfoldable pub order : List WorkedCase
 order =
     -- 8, not 9: one byte, mark wrong
     (read (0x00 ∷ []) gives refusal (number 8))
+    -- 9, not 8: a mark beside 55, 11 bytes
+    ∷ (read (0x56 ∷ 0x00 ∷ 0x20 ∷ 0x40 ∷ replicate 7 0) gives refusal (number 9))
+    -- 8, not 10: mark 55 with 11 bytes, n = 127; 10 with 12 bytes, not 8 for a byte too few
+    ∷ (read (0x55 ∷ 0xfe ∷ 0x20 ∷ 0x40 ∷ replicate 7 0) gives refusal (number 8))
+    ∷ (read (0x55 ∷ 0xfe ∷ 0x20 ∷ 0x40 ∷ replicate 8 0) gives refusal (number 10))
+    -- 8, not 2: mark 55 with 11 bytes, k = 0; 2 with 12 bytes
+    ∷ (read (0x55 ∷ 0x00 ∷ 0x00 ∷ 0x40 ∷ replicate 7 0) gives refusal (number 8))
+    ∷ (read (0x55 ∷ 0x00 ∷ 0x00 ∷ 0x40 ∷ replicate 8 0) gives refusal (number 2))
+    -- 8: mark 55 with the length of mark 54
+    ∷ (read (0x55 ∷ 0x00 ∷ 0x20 ∷ 0x40 ∷ 0x00 ∷ 0x00 ∷ 0x00 ∷ []) gives refusal (number 8))
+    -- 8: mark 54 with the length of mark 55
+    ∷ (read (0x54 ∷ 0x00 ∷ 0x20 ∷ 0x40 ∷ replicate 9 0) gives refusal (number 8))
     -- 9, not 10: mark wrong, n = 127
     ∷ (read (0x00 ∷ 0xfe ∷ 0x20 ∷ 0x40 ∷ 0x00 ∷ 0x00 ∷ []) gives refusal (number 9))
     -- 10, not 2: n = 127, k = 0
