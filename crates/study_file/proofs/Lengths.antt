@@ -9,17 +9,17 @@ use Rattle.file_format.specs.File.{bitLength}
 use Rattle.file_format.proofs.FileLaws.{bitLength-suc}
 
 -- 3n + 10n(n - 1) without the difference n - 1
-pub record Sum (k n : ℕ) : Type 0 where
-  pub is : 42 + 7 * k + 10 * (n * n) - 7 * n ≡ bitLength k n
+pub record Sum (c k n : ℕ) : Type 0 where
+  pub is : 26 + 16 * c + 7 * k + 10 * (n * n) - 7 * n ≡ bitLength c k n
   pub square : n * n ≤ 14400
-  pub enough : 7 * n ≤ 42 + 7 * k + 10 * (n * n)
-  pub most : bitLength k n ≤ 143258
-  pub first : 42 + 7 * k ≤ bitLength k n
+  pub enough : 7 * n ≤ 26 + 16 * c + 7 * k + 10 * (n * n)
+  pub most : bitLength c k n ≤ 143306
+  pub first : 26 + 16 * c + 7 * k ≤ bitLength c k n
 
-pub length-sum : (k n : ℕ) → k ≤ 8 → n ≤ 120 → Sum k n
+pub length-sum : (c k n : ℕ) → c ≤ 4 → k ≤ 8 → n ≤ 120 → Sum c k n
 unfolding bitLength
-length-sum k zero a l = record { is = omega arith; square = omega arith; enough = omega arith; most = omega arith; first = omega arith }
-length-sum k (suc m) a l =
+length-sum c k zero few a l = record { is = omega arith; square = omega arith; enough = omega arith; most = omega arith; first = omega arith }
+length-sum c k (suc m) few a l =
     let e : suc m * (suc m - 1) ≡ suc m * m = ap (λ x. suc m * x) (less m) in
     let d : suc m * suc m ≡ suc m * m + suc m = mul-suc (suc m) m in
     let q : suc m * suc m ≤ 120 * 120 = mul-le-mul l l in
@@ -31,10 +31,10 @@ length-sum k (suc m) a l =
     less x = omega arith
 
 -- the bits of tide t end where those of n tides end, or before
-pub bitLength-up : (k t n : ℕ) → t < n → bitLength k t + (3 + 20 * t) ≤ bitLength k n
-bitLength-up k t zero l = absurd (not-suc-le-zero l)
-bitLength-up k t (suc n) l =
+pub bitLength-up : (c k t n : ℕ) → t < n → bitLength c k t + (3 + 20 * t) ≤ bitLength c k n
+bitLength-up c k t zero l = absurd (not-suc-le-zero l)
+bitLength-up c k t (suc n) l =
     ⊎-elim
-    (λ m. omega (arith, bitLength-up k t n m, bitLength-suc k n))
-    (λ m. let q : t ≡ n = omega arith in let r : bitLength k t ≡ bitLength k n = ap (bitLength k) q in omega (arith, bitLength-suc k n))
+    (λ m. omega (arith, bitLength-up c k t n m, bitLength-suc c k n))
+    (λ m. let q : t ≡ n = omega arith in let r : bitLength c k t ≡ bitLength c k n = ap (bitLength c k) q in omega (arith, bitLength-suc c k n))
     (split t n)

@@ -5,6 +5,7 @@ pub mod PuttingLaws
 pub mod WriteCallLaws
 pub mod LoadingLaws
 pub mod AdvanceLaws
+pub mod TakingLaws
 pub mod HeadLaws
 pub mod RowLaws
 pub mod ReadCallLaws

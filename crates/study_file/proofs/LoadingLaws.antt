@@ -20,7 +20,7 @@ use Rattle.study.specs.Refusals.{number, accepted, refused, verdictOf, numbered
 use Rattle.study.specs.Calls.{Pair, violations, firstViolation, entered}
 use Rattle.study.specs.Theorems.{ValidContents}
 use Rattle.file_format.specs.Bits.{bitsAt}
-use Rattle.file_format.specs.File.{bitLength, tideAt, minimaAt, decoded, headReasons, readReasons}
+use Rattle.file_format.specs.File.{bitLength, countsIn, countsAt, tideAt, minimaAt, decoded, headReasons, readReasons}
 use Rattle.file_format.proofs.BitLaws.{bitsAt-small}
 use Rattle.file_format.proofs.AcceptedLaws.{contents-valid}
 use Rattle.file_format.proofs.DecodedLaws.{decoded-size, decoded-tide, decoded-setting, decoded-length, decoded-row}
@@ -159,12 +159,12 @@ module _ (s : List ℕ) where
         high u l = subst (λ z. tide S u .setting ≤ z) decoded-k (fits u l .high)
 
         small : (u i : ℕ) → u < size (P t) → i < u → getD (tide S u .row) i 0 ≤ 1048575
-        small u i l m = omega (arith, decoded-row s u (inside u l) i m, bitsAt-small s (bitLength k u + 3 + 20 * i) 20)
+        small u i l m = omega (arith, decoded-row s u (inside u l) i m, bitsAt-small s (bitLength (countsIn s) k u + 3 + 20 * i) 20)
 
   -- ---- memory that holds them is a dataset
 
   abbrev recordAt : ℕ → Dataset
-  recordAt t = record { k = bitsAt s 15 4; n = t; minima = minimaAt s (bitsAt s 15 4); withdrawn = bitsAt s 26 16 }
+  recordAt t = record { k = bitsAt s 15 4; n = t; minima = minimaAt s (bitsAt s 15 4); withdrawn = countsAt s }
 
   -- memory with t tides
   abbrev σ : ℕ → List ℕ → List ℕ → State
@@ -178,7 +178,7 @@ module _ (s : List ℕ) where
     unfolding stored recordOf part
     laid =
         λ i. record {
-          dataset = record { k = k; n = part-size t i; minima = minimaAt s k; withdrawn = bitsAt s 26 16 };
+          dataset = record { k = k; n = part-size t i; minima = minimaAt s k; withdrawn = countsAt s };
           distances = sym (L .distances) i;
           settings = sym (L .settings) i;
         }
@@ -206,7 +206,7 @@ module _ (s : List ℕ) where
       ∙ ap (λ (ts : List Tide). record { k = k; minima = minimaAt s k; tides = ts })
       (sym (tabulate-suc t (tideAt s k)) ∙ ap (λ m. tabulate m (tideAt s k)) (sym (add-one t)))
 
-  setting-next : (t : ℕ) → t < n → tideAt s k t .setting ≡ bitsAt s (bitLength k t) 3 + 1
+  setting-next : (t : ℕ) → t < n → tideAt s k t .setting ≡ bitsAt s (bitLength (countsIn s) k t) 3 + 1
   unfolding tideAt
   setting-next t l = refl
 
@@ -254,7 +254,7 @@ module _ (s : List ℕ) where
 
     -- ---- the ways on
 
-    module _ (less : ℕ) (read : less ≡ bitsAt s (bitLength (bitsAt s 15 4) t) 3) where
+    module _ (less : ℕ) (read : less ≡ bitsAt s (bitLength (countsIn s) (bitsAt s 15 4) t) 3) where
       pub turn-five : bitsAt s 15 4 ≤ less → firstOf (readReasons s) ≡ refused (number 5)
       turn-five h = refused-five s t (L .clear) in-file (omega (arith, decoded-setting s t in-file, decoded-k))
 

@@ -7,8 +7,8 @@ use mathlib.Core.List.{List}
 use lib.Dec.{T}
 use Rattle.study.specs.Refusals.{number, Verdict, accepted, refused, settled, firstOf, freshReasons}
 use Rattle.study.specs.Theorems.{ValidContents}
-use Rattle.file_format.specs.File.{fileOf, decoded, readReasons}
-use Rattle.file_format.specs.Theorems.{Bytes}
+use Rattle.file_format.specs.File.{newMark, oldMark, fileOf, markOf, decoded, readReasons}
+use Rattle.file_format.specs.Theorems.{Bytes, OldFile}
 use Rattle.file_format.proofs.Proofs.{files}
 use Rattle.validity.specs.Memory.{State, short, isDataset, contentsOf, stored}
 use Rattle.dataset.specs.Answers.{freshAnswer, freshLeaves}
@@ -48,11 +48,15 @@ module _ (over : State) (bytes : List ℕ) (e : readAnswer over bytes ≡ accept
   dataset : T (isDataset (readLeaves over bytes))
   dataset = subst (λ z. T (isDataset z)) (sym (leaves over bytes e)) (for-datasets .laid-out (decoded bytes) over held)
 
-  only : Bytes bytes → fileOf (contentsOf (readLeaves over bytes)) ≡ bytes
-  only b =
-      ap (λ z. fileOf (contentsOf z)) (leaves over bytes e)
-      ∙ ap fileOf (for-datasets .read-back (decoded bytes) over held)
-      ∙ files .only bytes b (own over bytes e)
+  -- the dataset holds what the bytes hold
+  holds : contentsOf (readLeaves over bytes) ≡ decoded bytes
+  holds = ap contentsOf (leaves over bytes e) ∙ for-datasets .read-back (decoded bytes) over held
+
+  only : Bytes bytes → markOf bytes ≡ newMark → fileOf (contentsOf (readLeaves over bytes)) ≡ bytes
+  only b m = ap fileOf holds ∙ files .only bytes b (own over bytes e) m
+
+  old-only : Bytes bytes → markOf bytes ≡ oldMark → OldFile bytes (contentsOf (readLeaves over bytes))
+  old-only b m = subst (OldFile bytes) (sym holds) (files .old-only bytes b (own over bytes e) m)
 
 pub for-files : ForFiles
 for-files =
@@ -61,5 +65,7 @@ for-files =
       gives = gives;
       again = λ s t e. gives s s t e ∙ for-datasets .own-layout s e t;
       dataset = dataset;
+      marked = λ over bytes e. files .marked bytes (own over bytes e);
       only = λ over bytes b e. only over bytes e b;
+      old-only = λ over bytes b e. old-only over bytes e b;
     }

@@ -2,8 +2,8 @@
 use Prim.Native.Nat.{ℕ, _+_, _-_, _*_, _≤_, _<_}
 use native.Mathlib.Omega.{arith}
 use native.Mathlib.Numerals.{add-one}
-use mathlib.Core.Path.{_≡_, refl, sym, ap, ap₂, _∙_, subst}
-use mathlib.Core.List.{List, [], _∷_, _++_, map, flatMap, map-append, append-nil, append-assoc}
+use mathlib.Core.Path.{_≡_, refl, sym, ap, _∙_, subst}
+use mathlib.Core.List.{List, [], _∷_, _++_, map, flatMap, map-append}
 use lib.Dec.{lit≤}
 use lib.ListN.{length, getD, take}
 use lib.Seq.{length-take-le, getD-take}
@@ -14,7 +14,7 @@ use Rattle.study.specs.Limits.{cell}
 use Rattle.study.specs.declared.Dataset.{Dataset}
 use Rattle.study.specs.Study.{Contents, noTide}
 use Rattle.file_format.specs.Bits.{Field, field, bitsOf, allBits, pack, packed}
-use Rattle.file_format.specs.File.{tideFields, fields, fileOf, bitLength}
+use Rattle.file_format.specs.File.{newMark, tideFields, fields, fileWith, fileOf, bitLength}
 use Rattle.file_format.proofs.BitLaws.{total, length-allBits}
 use Rattle.file_format.proofs.RunLaws.{runs-total, values-total}
 use Rattle.file_format.proofs.FileLaws.{bitLength-suc}
@@ -22,23 +22,26 @@ use Rattle.validity.specs.Memory.{State, tideOf, contentsOf, studyOf}
 use Rattle.study_file.proofs.Lengths.{Sum, length-sum, bitLength-up}
 use Rattle.study_file.specs.Writing.{Adds}
 use Rattle.study_file.proofs.WritingLaws.{adds-none, adds-then}
-use Rattle.study_file.specs.Putting.{Writable, TideInside, PutFields, headFields}
+use Rattle.study_file.specs.Putting.{Writable, TideInside, PutFields, headFields, fileFields}
 
 -- ---- room
 
 module _ {σ : State} {file : List ℕ} (W : Writable σ file) where
-  sum : (t : ℕ) → t ≤ 120 → Sum (σ .dataset .k) t
-  sum t l = length-sum (σ .dataset .k) t (W .study .k-high) l
+  sum : (t : ℕ) → t ≤ 120 → Sum 4 (σ .dataset .k) t
+  sum t l = length-sum 4 (σ .dataset .k) t (lit≤ tt) (W .study .k-high) l
 
-  pub head-room : (6 ≤ length file) × (σ .dataset .n ≤ 120)
+  pub head-room : (12 ≤ length file) × (σ .dataset .n ≤ 120)
   head-room = let s = sum (σ .dataset .n) (W .study .few) in (omega (arith, s .first, W .room, W .study .k-low), W .study .few)
 
   -- in what the file has become
   module _ {at : ℕ} {bs new : List ℕ} (a : Adds file at bs new) where
-    pub minima-room : (σ .dataset .k ≤ 8) × (42 + 7 * σ .dataset .k ≤ 8 * length new)
-    minima-room = let s = sum (σ .dataset .n) (W .study .few) in (W .study .k-high, omega (arith, s .first, W .room, a .same))
+    pub counts-room : 12 ≤ length new
+    counts-room = omega (arith, head-room .0, a .same)
 
-    pub tide-room : (t : ℕ) {start : ℕ} → t < σ .dataset .n → start ≡ bitLength (σ .dataset .k) t
+    pub minima-room : {p : ℕ} {cs next : List ℕ} → Adds new p cs next → (σ .dataset .k ≤ 8) × (90 + 7 * σ .dataset .k ≤ 8 * length next)
+    minima-room b = let s = sum (σ .dataset .n) (W .study .few) in (W .study .k-high, omega (arith, s .first, W .room, a .same, b .same))
+
+    pub tide-room : (t : ℕ) {start : ℕ} → t < σ .dataset .n → start ≡ bitLength 4 (σ .dataset .k) t
         → TideInside new (σ .distances) (σ .settings) start t
     tide-room t {start} l e =
         let few = W .study .few in
@@ -48,7 +51,7 @@ module _ {σ : State} {file : List ℕ} (W : Writable σ file) where
           long = W .long .distances;
           held = omega (arith, W .long .settings);
           set = W .study .setting-low t l;
-          inside = omega (arith, bitLength-up (σ .dataset .k) t (σ .dataset .n) l, W .room, a .same);
+          inside = omega (arith, bitLength-up 4 (σ .dataset .k) t (σ .dataset .n) l, W .room, a .same);
           low = omega (arith, s .most);
         }
 
@@ -114,21 +117,21 @@ module _ (σ : State) where
   unfolding tideFields tideOf
   tide-total t = omega (arith, values-total 20 (tabulate t (cell (σ .distances) t)), length-tabulate t (cell (σ .distances) t))
 
-  tides-total : (k t : ℕ) → bitLength k t ≡ bitLength k 0 + total (upTo t)
-  tides-total k t =
-      ap (bitLength k) (sym (length-tabulate t (tideOf σ))) ∙ sym (runs-total tideFields noTide (bitLength k) (tabulate t (tideOf σ)) (λ i l.
+  tides-total : (c k t : ℕ) → bitLength c k t ≡ bitLength c k 0 + total (upTo t)
+  tides-total c k t =
+      ap (bitLength c k) (sym (length-tabulate t (tideOf σ))) ∙ sym (runs-total tideFields noTide (bitLength c k) (tabulate t (tideOf σ)) (λ i l.
       let h : i < t = omega (arith, length-tabulate t (tideOf σ)) in
-      bitLength-suc k i ∙ ap (λ x. bitLength k i + x) (sym (ap (λ y. total (tideFields y)) (getD-tabulate t (tideOf σ) i noTide h) ∙ tide-total i))))
+      bitLength-suc c k i ∙ ap (λ x. bitLength c k i + x) (sym (ap (λ y. total (tideFields y)) (getD-tabulate t (tideOf σ) i noTide h) ∙ tide-total i))))
 
   pub tides-none : {s : List ℕ} {p : ℕ} → PutFields s p (flatMap tideFields (tabulate 0 (tideOf σ))) s
   unfolding tabulate flatMap
   tides-none = puts-none
 
-  pub tides-more : {s : List ℕ} (k t : ℕ) {p : ℕ} {u w : List ℕ} → PutFields s (bitLength k 0) (flatMap tideFields (tabulate t (tideOf σ))) u
-      → p ≡ bitLength k t → PutFields u p (tideFields (tideOf σ t)) w
-      → PutFields s (bitLength k 0) (flatMap tideFields (tabulate (t + 1) (tideOf σ))) w
-  tides-more {s} k t {w = w} a e b =
-      subst (λ fs. PutFields s (bitLength k 0) fs w) more (puts-then (upTo t) (tideFields (tideOf σ t)) a (e ∙ tides-total k t) b)
+  pub tides-more : {s : List ℕ} (c k t : ℕ) {p : ℕ} {u w : List ℕ} → PutFields s (bitLength c k 0) (flatMap tideFields (tabulate t (tideOf σ))) u
+      → p ≡ bitLength c k t → PutFields u p (tideFields (tideOf σ t)) w
+      → PutFields s (bitLength c k 0) (flatMap tideFields (tabulate (t + 1) (tideOf σ))) w
+  tides-more {s} c k t {w = w} a e b =
+      subst (λ fs. PutFields s (bitLength c k 0) fs w) more (puts-then (upTo t) (tideFields (tideOf σ t)) a (e ∙ tides-total c k t) b)
     where
       more : upTo t ++ tideFields (tideOf σ t) ≡ upTo (t + 1)
       more =
@@ -142,27 +145,30 @@ module _ (σ : State) where
 
 -- ---- the whole file
 
-pub head-put : (r : Dataset) {s a b c d e : List ℕ} → PutFields s 0 (field 8 0x54 ∷ []) a → PutFields a 8 (field 7 (r .n) ∷ []) b
-    → PutFields b 15 (field 4 (r .k) ∷ []) c → PutFields c 19 (field 7 (r .minima .b0) ∷ []) d → PutFields d 26 (field 16 (r .withdrawn) ∷ []) e
-    → PutFields s 0 (headFields r) e
+pub head-put : (r : Dataset) {s a b c d : List ℕ} → PutFields s 0 (field 8 newMark ∷ []) a → PutFields a 8 (field 7 (r .n) ∷ []) b
+    → PutFields b 15 (field 4 (r .k) ∷ []) c → PutFields c 19 (field 7 (r .minima .b0) ∷ []) d → PutFields s 0 (headFields r) d
 unfolding headFields
-head-put r p q u v w =
-    puts-then (field 8 0x54 ∷ field 7 (r .n) ∷ field 4 (r .k) ∷ field 7 (r .minima .b0) ∷ []) (field 16 (r .withdrawn) ∷ [])
-    (puts-then (field 8 0x54 ∷ field 7 (r .n) ∷ field 4 (r .k) ∷ []) (field 7 (r .minima .b0) ∷ [])
-    (puts-then (field 8 0x54 ∷ field 7 (r .n) ∷ []) (field 4 (r .k) ∷ [])
-    (puts-then (field 8 0x54 ∷ []) (field 7 (r .n) ∷ []) p refl q) refl u) refl v) refl w
+head-put r p q u v =
+    puts-then (field 8 newMark ∷ field 7 (r .n) ∷ field 4 (r .k) ∷ []) (field 7 (r .minima .b0) ∷ [])
+    (puts-then (field 8 newMark ∷ field 7 (r .n) ∷ []) (field 4 (r .k) ∷ [])
+    (puts-then (field 8 newMark ∷ []) (field 7 (r .n) ∷ []) p refl q) refl u) refl v
 
--- head, minima and tides, one after the other
-pub parts-put : {σ : State} {s t u w : List ℕ} → Writable σ s → PutFields s 0 (headFields (σ .dataset)) t
-    → PutFields t 42 (map (field 7) (tabulate (σ .dataset .k) (λ j. getD (σ .dataset .minima .b) j 0))) u
-    → PutFields u (bitLength (σ .dataset .k) 0) (flatMap tideFields (tabulate (σ .dataset .n) (tideOf σ))) w → PutFields s 0 (fields (contentsOf σ)) w
+-- head, counts, minima and tides, one after the other
+pub parts-put : {σ : State} {s t u v w : List ℕ} → Writable σ s → length (σ .dataset .withdrawn) ≡ 4 → PutFields s 0 (headFields (σ .dataset)) t
+    → PutFields t 26 (map (field 16) (tabulate 4 (λ i. getD (σ .dataset .withdrawn) i 0))) u
+    → PutFields u 90 (map (field 7) (tabulate (σ .dataset .k) (λ j. getD (σ .dataset .minima .b) j 0))) v
+    → PutFields v (bitLength 4 (σ .dataset .k) 0) (flatMap tideFields (tabulate (σ .dataset .n) (tideOf σ))) w → PutFields s 0 (fileFields (contentsOf σ)) w
 unfolding fields contentsOf studyOf headFields bitLength
-parts-put {σ} {s} {t} {u} {w} W a b c =
+parts-put {σ} {s} {w = w} W four a b c d =
     subst (λ fs. PutFields s 0 fs w) all
-    (puts-then (headFields r) (small ++ tides) a refl (puts-then small tides b place c))
+    (puts-then (headFields r) (counts ++ (small ++ tides)) a refl
+    (puts-then counts (small ++ tides) b minima-place (puts-then small tides c tides-place d)))
   where
     r : Dataset
     r = σ .dataset
+
+    counts : List Field
+    counts = map (field 16) (tabulate 4 (λ i. getD (σ .dataset .withdrawn) i 0))
 
     small : List Field
     small = map (field 7) (tabulate (σ .dataset .k) (λ j. getD (σ .dataset .minima .b) j 0))
@@ -170,8 +176,15 @@ parts-put {σ} {s} {t} {u} {w} W a b c =
     tides : List Field
     tides = flatMap tideFields (tabulate (σ .dataset .n) (tideOf σ))
 
-    place : bitLength (r .k) 0 ≡ 42 + total small
-    place = omega (arith, values-total 7 (tabulate (r .k) (λ j. getD (r .minima .b) j 0)), length-tabulate (r .k) (λ j. getD (r .minima .b) j 0))
+    minima-place : 90 ≡ 26 + total counts
+    minima-place =
+        omega (arith, values-total 16 (tabulate 4 (λ i. getD (r .withdrawn) i 0)), length-tabulate 4 (λ i. getD (r .withdrawn) i 0))
+
+    tides-place : bitLength 4 (r .k) 0 ≡ 90 + total small
+    tides-place = omega (arith, values-total 7 (tabulate (r .k) (λ j. getD (r .minima .b) j 0)), length-tabulate (r .k) (λ j. getD (r .minima .b) j 0))
+
+    each-count : tabulate 4 (λ i. getD (r .withdrawn) i 0) ≡ r .withdrawn
+    each-count = tabulate-is 4 (λ i. getD (r .withdrawn) i 0) 0 (r .withdrawn) four (λ i l. refl)
 
     held : tabulate (r .k) (λ j. getD (r .minima .b) j 0) ≡ take (r .k) (r .minima .b)
     held =
@@ -179,16 +192,15 @@ parts-put {σ} {s} {t} {u} {w} W a b c =
         tabulate-is (r .k) (λ j. getD (r .minima .b) j 0) 0 (take (r .k) (r .minima .b)) (length-take-le (r .k) (r .minima .b) eight)
         (λ j m. sym (getD-take (r .k) (r .minima .b) j 0 m))
 
-    all : headFields r ++ (small ++ tides) ≡ fields (contentsOf σ)
-    all =
-        ap₂ (λ (n : ℕ) (bs : List ℕ).
-        field 8 0x54 ∷ field 7 n ∷ field 4 (r .k) ∷ field 7 (r .minima .b0) ∷ field 16 (r .withdrawn) ∷ (map (field 7) bs ++ tides))
-        (sym (length-tabulate (r .n) (tideOf σ))) held
+    all : headFields r ++ (counts ++ (small ++ tides)) ≡ fileFields (contentsOf σ)
+    all = λ i.
+        field 8 newMark ∷ field 7 (sym (length-tabulate (r .n) (tideOf σ)) i) ∷ field 4 (r .k) ∷ field 7 (r .minima .b0)
+        ∷ (map (field 16) (each-count i) ++ (map (field 7) (held i) ++ tides))
 
 over-none : (s : List ℕ) → s ≡ over (packed []) s
 unfolding packed pack tabulate
 over-none s = refl
 
-pub file-written : (H : Contents) {s t : List ℕ} → PutFields s 0 (fields H) t → t ≡ over (fileOf H) s
-unfolding fileOf
+pub file-written : (H : Contents) {s t : List ℕ} → PutFields s 0 (fileFields H) t → t ≡ over (fileOf H) s
+unfolding fileOf fileWith
 file-written H {s} a = a .next s [] (record { is = over-none s; place = refl; bits = λ p. lit≤ tt; room = omega arith }) .is

@@ -14,7 +14,7 @@ use Rattle.study.specs.declared.Answer.the-variants.{Done, Refused}
 use Rattle.study.specs.Refusals.{seven, accepted, refused, verdictOf}
 use Rattle.study.specs.Calls.{Pair, violations}
 use Rattle.file_format.specs.Bits.{bitsAt}
-use Rattle.file_format.specs.File.{bitLength, byteLength, tideAt}
+use Rattle.file_format.specs.File.{bitLength, byteLength, countsIn, tideAt}
 use Rattle.bit_reader.specs.declared.Place.{Place}
 use Rattle.bit_reader.specs.Fields.{BitsRead, FieldGot}
 use Rattle.bit_reader.proofs.FieldLaws.{bits-same}
@@ -23,6 +23,7 @@ use Rattle.triangle.specs.declared.Violation.the-variants as ViolationCase
 use Rattle.triangle.specs.Pairs.{violationOf}
 use Rattle.triangle.proofs.PairLaws.{rowIn, part-found}
 use Rattle.file_format.proofs.FileLaws.{bitLength-suc}
+use Rattle.file_format.proofs.DecodedLaws.{counts-few}
 use Rattle.storage.specs.Places.{withRow}
 use Rattle.storage.proofs.PlaceLaws.{row-more}
 use Rattle.study_file.proofs.Lengths.{length-sum, bitLength-up}
@@ -79,8 +80,8 @@ pub record AtTide (s : List ℕ) (k t : ℕ) (p : Place) (matrix vector : List �
   pub read : TidesRead s t p matrix vector
   pub k-is : k ≡ bitsAt s 15 4
   pub more : t < bitsAt s 8 7
-  pub setting : bitLength (bitsAt s 15 4) t + 3 ≤ 8 * length s
-  pub low : bitLength (bitsAt s 15 4) t ≤ 143258
+  pub setting : bitLength (countsIn s) (bitsAt s 15 4) t + 3 ≤ 8 * length s
+  pub low : bitLength (countsIn s) (bitsAt s 15 4) t ≤ 143306
   pub row : RowInside s matrix (rowStart s t) t
 
 pub at-tide : {s : List ℕ} {k t : ℕ} {p : Place} {matrix vector : List ℕ}
@@ -88,9 +89,9 @@ pub at-tide : {s : List ℕ} {k t : ℕ} {p : Place} {matrix vector : List ℕ}
 unfolding byteLength
 at-tide {s} {k} {t} pre =
     let h = pre .2 .loaded .head in
-    let up = bitLength-up (bitsAt s 15 4) t (bitsAt s 8 7) (pre .1) in
+    let up = bitLength-up (countsIn s) (bitsAt s 15 4) t (bitsAt s 8 7) (pre .1) in
     let few : t ≤ 120 = omega (arith, h .few, pre .1) in
-    let sum = length-sum (bitsAt s 15 4) t (h .k-high) few in
+    let sum = length-sum (countsIn s) (bitsAt s 15 4) t (counts-few s .1) (h .k-high) few in
     record {
       read = pre .2;
       k-is = pre .0;
@@ -106,7 +107,7 @@ at-tide {s} {k} {t} pre =
     }
 
 module _ {s : List ℕ} {k t : ℕ} {p : Place} {matrix vector : List ℕ} (A : AtTide s k t p matrix vector) {less : ℕ} {next : Place}
-    (g : FieldGot s (bitLength (bitsAt s 15 4) t) 3 less next) where
+    (g : FieldGot s (bitLength (countsIn s) (bitsAt s 15 4) t) 3 less next) where
   abbrev loaded : Loaded s t matrix vector
   loaded = A .read .loaded
 
@@ -140,13 +141,13 @@ module _ {s : List ℕ} {k t : ℕ} {p : Place} {matrix vector : List ℕ} (A : 
     tide-goes {q} e =
         record {
           reading = reached (turn-next s t (A .more) matrix vector loaded less (g .is) small new laid (answerOf r) (row .verdict) (ap answerOf e));
-          past = λ f. subst (λ x. BitsRead x (bitLength (bitsAt s 15 4) (t + 1))) (same-place f) next-tide;
+          past = λ f. subst (λ x. BitsRead x (bitLength (countsIn s) (bitsAt s 15 4) (t + 1))) (same-place f) next-tide;
         }
       where
-        next-tide : BitsRead q (bitLength (bitsAt s 15 4) (t + 1))
+        next-tide : BitsRead q (bitLength (countsIn s) (bitsAt s 15 4) (t + 1))
         next-tide =
-            let one-more : bitLength (bitsAt s 15 4) (t + 1) ≡ bitLength (bitsAt s 15 4) t + (3 + 20 * t) =
-            ap (bitLength (bitsAt s 15 4)) (add-one t) ∙ bitLength-suc (bitsAt s 15 4) t in
+            let one-more : bitLength (countsIn s) (bitsAt s 15 4) (t + 1) ≡ bitLength (countsIn s) (bitsAt s 15 4) t + (3 + 20 * t) =
+            ap (bitLength (countsIn s) (bitsAt s 15 4)) (add-one t) ∙ bitLength-suc (countsIn s) (bitsAt s 15 4) t in
             bits-same (row .past e) (omega arith)
 
 -- ---- all tides

@@ -30,7 +30,7 @@ writeReasons H room = (ltb room (length (fileOf H)) ⇒ number 1) ∷ []
 
 -- what Write answers: why there is no dataset, or its own reason
 unfoldable pub writeAnswer : State → ℕ → Verdict
-writeAnswer s room = heldAnswer s (λ H. writeReasons H room)
+writeAnswer s room = heldAnswer s [] (λ H. writeReasons H room)
 
 -- the byte length of the file that was written, or the refusal
 unfoldable pub writeReply : State → ℕ → Reply ℕ

@@ -8,7 +8,7 @@ use Rattle.study.specs.Limits.{maxTides, tableSize}
 use Rattle.study.specs.Study.{Contents}
 use Rattle.study.specs.Refusals.{Verdict, accepted, refused, firstOf, numbered}
 use Rattle.file_format.specs.Bits.{bitsAt}
-use Rattle.file_format.specs.File.{bitLength, minimaAt, tideAt, readReasons}
+use Rattle.file_format.specs.File.{bitLength, countsIn, countsAt, minimaAt, tideAt, readReasons}
 use Rattle.file_format.specs.Head.{Head, Clear}
 use Rattle.validity.specs.Memory.{distancesOf, settingsOf}
 use Rattle.study.specs.declared.Refusal.{Refusal}
@@ -25,7 +25,7 @@ use Rattle.study_file.specs.Advance.{answerOf}
 unfoldable pub part : List ℕ → ℕ → Contents
 part s t =
     let k = bitsAt s 15 4 in
-    record { study = record { k = k; minima = minimaAt s k; tides = tabulate t (tideAt s k) }; withdrawals = bitsAt s 26 16 }
+    record { study = record { k = k; minima = minimaAt s k; tides = tabulate t (tideAt s k) }; withdrawals = countsAt s }
 
 -- memory that holds the first t tides, where no reason for a refusal was met
 pub record Loaded (s : List ℕ) (t : ℕ) (matrix vector : List ℕ) : Type 0 where
@@ -44,12 +44,12 @@ pub record Reading (s : List ℕ) (t : ℕ) (a : Answer) (matrix vector : List �
 -- the first t tides are read: memory holds them, and tide t would begin at p
 pub record TidesRead (s : List ℕ) (t : ℕ) (p : Place) (matrix vector : List ℕ) : Type 0 where
   pub loaded : Loaded s t matrix vector
-  pub here : BitsRead p (bitLength (bitsAt s 15 4) t)
+  pub here : BitsRead p (bitLength (countsIn s) (bitsAt s 15 4) t)
 
 -- the progress of a tide: an answer on the way, and the place past the first t tides
 pub record TideRead (s : List ℕ) (t : ℕ) (r : Progress) (matrix vector : List ℕ) : Type 0 where
   pub reading : Reading s t (answerOf r) matrix vector
-  pub past : {p : Place} → r ≡ ProgressCase.To p → BitsRead p (bitLength (bitsAt s 15 4) t)
+  pub past : {p : Place} → r ≡ ProgressCase.To p → BitsRead p (bitLength (countsIn s) (bitsAt s 15 4) t)
 
 -- the answer of a row, by the pairs that violate the triangle inequality with it
 abbrev pub violationVerdict : List Pair → Verdict

@@ -8,7 +8,7 @@ use Rattle.study.specs.Limits.{cell, maxTides, tableSize}
 use Rattle.study.specs.Refusals.{verdictOf}
 use Rattle.study.specs.Calls.{violations}
 use Rattle.file_format.specs.Bits.{bitsAt}
-use Rattle.file_format.specs.File.{bitLength}
+use Rattle.file_format.specs.File.{bitLength, countsIn}
 use Rattle.bit_reader.specs.declared.Place.{Place}
 use Rattle.bit_reader.specs.Fields.{BitsRead}
 use Rattle.study_file.specs.declared.progress.Progress.{Progress}
@@ -30,7 +30,7 @@ rowAt s start t = tabulate t (λ (i : ℕ). bitsAt s (start + 20 * i) 20)
 
 -- where the distances of tide t begin: past its setting
 abbrev pub rowStart : List ℕ → ℕ → ℕ
-rowStart s t = bitLength (bitsAt s 15 4) t + 3
+rowStart s t = bitLength (countsIn s) (bitsAt s 15 4) t + 3
 
 -- they begin at p and are inside the file, and the table has all its places
 pub record RowBegins (s d : List ℕ) (t : ℕ) (p : Place) : Type 0 where

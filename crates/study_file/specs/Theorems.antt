@@ -2,12 +2,13 @@
 -- `for-files` of Proofs.antt proves the record. Assumes nothing.
 use Prim.Native.Nat.{ℕ}
 use mathlib.Core.Path.{_≡_}
+use mathlib.Core.Logic.{_⊎_}
 use mathlib.Core.Bool.{false}
 use mathlib.Core.List.{List}
 use lib.Dec.{T}
 use Rattle.study.specs.Refusals.{accepted}
-use Rattle.file_format.specs.File.{fileOf}
-use Rattle.file_format.specs.Theorems.{Bytes}
+use Rattle.file_format.specs.File.{newMark, oldMark, fileOf, markOf}
+use Rattle.file_format.specs.Theorems.{Bytes, OldFile}
 use Rattle.validity.specs.Memory.{State, short, isDataset, contentsOf, stored}
 use Rattle.study_file.specs.Answers.{readAnswer, readLeaves}
 
@@ -18,6 +19,10 @@ pub record ForFiles : Type 0 where
   pub gives : (s over : State) → T (isDataset s) → short over ≡ false → readLeaves over (fileOf (contentsOf s)) ≡ stored (contentsOf s) over
   -- over its own memory, nothing changes
   pub again : (s : State) → T (isDataset s) → short s ≡ false → readLeaves s (fileOf (contentsOf s)) ≡ s
-  -- what Read accepts gives a dataset, whose file is exactly those bytes
+  -- what Read accepts gives a dataset; bytes of mark 55 are then exactly its file, bytes of mark 54 an old file of the same
   pub dataset : (over : State) (bytes : List ℕ) → readAnswer over bytes ≡ accepted → T (isDataset (readLeaves over bytes))
-  pub only : (over : State) (bytes : List ℕ) → Bytes bytes → readAnswer over bytes ≡ accepted → fileOf (contentsOf (readLeaves over bytes)) ≡ bytes
+  pub marked : (over : State) (bytes : List ℕ) → readAnswer over bytes ≡ accepted → (markOf bytes ≡ newMark) ⊎ (markOf bytes ≡ oldMark)
+  pub only : (over : State) (bytes : List ℕ) → Bytes bytes → readAnswer over bytes ≡ accepted → markOf bytes ≡ newMark
+      → fileOf (contentsOf (readLeaves over bytes)) ≡ bytes
+  pub old-only : (over : State) (bytes : List ℕ) → Bytes bytes → readAnswer over bytes ≡ accepted → markOf bytes ≡ oldMark
+      → OldFile bytes (contentsOf (readLeaves over bytes))

@@ -9,6 +9,7 @@ use study::Answer;
 use study::Dataset;
 use study::MAX_SETTINGS;
 use study::MAX_TIDES;
+use study::MAX_USERS;
 use study::Minima;
 use study::Refusal;
 use validity::valid_minima;
@@ -19,13 +20,15 @@ ghost use lib.ListN.{length};
 ghost use Rattle.lists.specs.Lists.{overwrite};
 ghost use Rattle.study.specs.declared.Answer.the-variants.{Done, Refused};
 ghost use Rattle.file_format.specs.Bits.{bitsAt};
+ghost use Rattle.file_format.specs.File.{countsEnd};
 ghost use Rattle.bit_reader.specs.Fields.{BitsRead};
 ghost use Rattle.study_file.specs.Advance.{ReadTo};
-ghost use Rattle.study_file.specs.Heading.{Marked, Begun, StartGot, MinimaBegin, minimumAt, RecordBegins, HeadRecord, HeadGot};
+ghost use Rattle.study_file.specs.Heading.{Marked, Begun, StartGot, CountsBegin, countAt, minimaStart, MinimaBegin, minimumAt, RecordBegins};
+ghost use Rattle.study_file.specs.Heading.{HeadRecord, HeadGot};
 
-// The number of tides, k and the place past them, or why Read refuses them.
+// How many counts of withdrawals the file carries, the number of tides, k and the place past them, or why Read refuses them.
 pub enum Start {
-    Fields(usize, usize, Place),
+    Fields(usize, usize, usize, Place),
     Refused(Refusal),
 }
 
@@ -37,8 +40,8 @@ pub struct HeadRead {
 }
 
 // The number of tides and k: reasons 10, 2.
-fn read_counts(file: &[u8], place: Place) -> Start
-    requires { ⌜ Marked (now file) place ⌝ }
+fn read_counts(file: &[u8], place: Place, counts: usize) -> Start
+    requires { ⌜ Marked (now file) counts place ⌝ }
     ensures { λ r. ⌜ StartGot (now (file .entry)) r ⌝ }
 {
     let FieldValue::Value(tides, past_tides) = read_field(file, place, 7) else {
@@ -58,10 +61,10 @@ fn read_counts(file: &[u8], place: Place) -> Start
     if MAX_SETTINGS < k {
         return Start::Refused(Refusal::SettingCount);
     }
-    Start::Fields(n, k, past_settings)
+    Start::Fields(counts, n, k, past_settings)
 }
 
-// The mark, the number of tides and k: reasons 8, 9, 10, 2.
+// The mark, the number of tides and k: reasons 8, 9, 8 again of a file that carries a count for each user, 10, 2.
 fn read_start(file: &[u8]) -> Start
     ensures { λ r. ⌜ StartGot (now (file .entry)) r ⌝ }
 {
@@ -72,16 +75,40 @@ fn read_start(file: &[u8]) -> Start
     let FieldValue::Value(mark, past_mark) = read_field(file, first, 8) else {
         return Start::Refused(Refusal::FileLength);
     };
-    if mark != 0x54 {
+    if mark == 0x54 {
+        return read_counts(file, past_mark, 1);
+    }
+    if mark != 0x55 {
         return Start::Refused(Refusal::Mark);
     }
-    read_counts(file, past_mark)
+    if file.len() < 12 {
+        return Start::Refused(Refusal::FileLength);
+    }
+    read_counts(file, past_mark, MAX_USERS)
+}
+
+// The counts of withdrawals, into memory of their own.
+fn take_counts(file: &[u8], place: Place, withdrawn: &mut [u16], counts: usize) -> Progress
+    requires { ⌜ CountsBegin (now file) (now withdrawn) counts place ⌝ }
+    ensures { λ r. ⌜ ReadTo (countsEnd counts) r × (now (withdrawn .exit) ≡ overwrite counts (countAt (now (file .entry))) (now (withdrawn .entry))) ⌝ }
+{
+    let mut next = place;
+    let mut i: usize = 0;
+    while i < counts {
+        let FieldValue::Value(count, past) = read_field(file, next, 16) else {
+            return Progress::Refused(Refusal::FileLength);
+        };
+        withdrawn[i] = count as u16;
+        next = past;
+        i += 1;
+    }
+    Progress::To(next)
 }
 
 // The k minima, into memory of their own.
 fn take_minima(file: &[u8], place: Place, b: &mut [u8], k: usize) -> Progress
     requires { ⌜ MinimaBegin (now file) (now b) k place ⌝ }
-    ensures { λ r. ⌜ ReadTo (42 + 7 * k) r × (now (b .exit) ≡ overwrite k (minimumAt (now (file .entry))) (now (b .entry))) ⌝ }
+    ensures { λ r. ⌜ ReadTo (minimaStart (now (file .entry)) + 7 * k) r × (now (b .exit) ≡ overwrite k (minimumAt (now (file .entry))) (now (b .entry))) ⌝ }
 {
     let mut next = place;
     let mut j: usize = 0;
@@ -107,19 +134,28 @@ fn refused(why: Refusal, dataset: Dataset) -> HeadRead
     }
 }
 
-// The record with what the file gives: beside n and k, b0, the withdrawals and the minima, those above k being 0.
-fn read_record(dataset: Dataset, file: &[u8], n: usize, k: usize, place: Place) -> HeadRead
-    requires { ⌜ RecordBegins (now file) k n place ⌝ }
+// The record with what the file gives: beside n and k, b0, the withdrawals, those of users that the file does not count being 0, and the
+// minima, those above k being 0.
+fn read_record(
+    dataset: Dataset,
+    file: &[u8],
+    counts: usize,
+    n: usize,
+    k: usize,
+    place: Place,
+) -> HeadRead
+    requires { ⌜ RecordBegins (now file) counts k n place ⌝ }
     ensures { λ r. ⌜ (r .answer ≡ Done) × HeadRecord (now (file .entry)) dataset (r .dataset) (r .place) ⌝ }
 {
     let FieldValue::Value(b0, past_b0) = read_field(file, place, 7) else {
         return refused(Refusal::FileLength, dataset);
     };
-    let FieldValue::Value(withdrawn, past_withdrawn) = read_field(file, past_b0, 16) else {
+    let mut withdrawn = [0u16; MAX_USERS];
+    let Progress::To(past_counts) = take_counts(file, past_b0, &mut withdrawn, counts) else {
         return refused(Refusal::FileLength, dataset);
     };
     let mut b = [0u8; MAX_SETTINGS];
-    let Progress::To(first_tide) = take_minima(file, past_withdrawn, &mut b, k) else {
+    let Progress::To(first_tide) = take_minima(file, past_counts, &mut b, k) else {
         return refused(Refusal::FileLength, dataset);
     };
     let minima = Minima { b0: b0 as u8, b };
@@ -127,7 +163,7 @@ fn read_record(dataset: Dataset, file: &[u8], n: usize, k: usize, place: Place) 
     next.k = k as u8;
     next.n = n;
     next.minima = minima;
-    next.withdrawn = withdrawn as u16;
+    next.withdrawn = withdrawn;
     HeadRead {
         answer: Answer::Done,
         dataset: next,
@@ -137,7 +173,7 @@ fn read_record(dataset: Dataset, file: &[u8], n: usize, k: usize, place: Place) 
 
 // Whether the bits from `end` on, which fill the last byte, are zero.
 fn filled(file: &[u8], end: usize) -> bool
-    requires { ⌜ (end ≤ 8 * length (now file)) × (8 * length (now file) < end + 8) × (end ≤ 143258) ⌝ }
+    requires { ⌜ (end ≤ 8 * length (now file)) × (8 * length (now file) < end + 8) × (end ≤ 143306) ⌝ }
     ensures { λ r. ⌜ r ≡ eqb (bitsAt (now (file .entry)) end (8 * length (now (file .entry)) - end)) 0 ⌝ }
 {
     let width = 8 * file.len() - end;
@@ -155,15 +191,22 @@ fn filled(file: &[u8], end: usize) -> bool
 }
 
 // The length, the minima and the last byte: reasons 8, 3, 11.
-fn read_rest(dataset: Dataset, file: &[u8], n: usize, k: usize, place: Place) -> HeadRead
-    requires { ⌜ Begun (now file) k n × BitsRead place 19 ⌝ }
+fn read_rest(
+    dataset: Dataset,
+    file: &[u8],
+    counts: usize,
+    n: usize,
+    k: usize,
+    place: Place,
+) -> HeadRead
+    requires { ⌜ Begun (now file) counts k n × BitsRead place 19 ⌝ }
     ensures { λ r. ⌜ HeadGot (now (file .entry)) dataset r ⌝ }
 {
-    let bits = bit_length(k, n);
+    let bits = bit_length(counts, k, n);
     if !has_length(file.len(), bits) {
         return refused(Refusal::FileLength, dataset);
     }
-    let head = read_record(dataset, file, n, k, place);
+    let head = read_record(dataset, file, counts, n, k, place);
     let answer = head.answer;
     let Answer::Done = answer else {
         return head;
@@ -185,6 +228,6 @@ pub fn read_head(dataset: Dataset, file: &[u8]) -> HeadRead
     let start = read_start(file);
     match start {
         Start::Refused(why) => refused(why, dataset),
-        Start::Fields(n, k, place) => read_rest(dataset, file, n, k, place),
+        Start::Fields(counts, n, k, place) => read_rest(dataset, file, counts, n, k, place),
     }
 }

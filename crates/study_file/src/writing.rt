@@ -4,6 +4,7 @@ use bit_reader::wide;
 use study::Dataset;
 use study::MAX_SETTINGS;
 use study::MAX_TIDES;
+use study::MAX_USERS;
 ghost use mathlib.Core.Path.{_≡_};
 ghost use mathlib.Core.Bool.{cond};
 ghost use mathlib.Core.List.{[], _∷_, map, flatMap};
@@ -11,20 +12,20 @@ ghost use Prim.Native.Nat.{ℕ, _+_, _*_, _%_, _^_, _≤_, _<_};
 ghost use lib.Dec.{eqb};
 ghost use lib.ListN.{length, getD};
 ghost use Rattle.lists.specs.Lists.{tabulate};
-ghost use Rattle.study.specs.Limits.{maxTides, cell, maxSettings};
+ghost use Rattle.study.specs.Limits.{maxTides, cell, maxSettings, maxUsers};
 ghost use Rattle.file_format.specs.Bits.{field, bitsOf};
-ghost use Rattle.file_format.specs.File.{tideFields, fields, bitLength, byteLength};
+ghost use Rattle.file_format.specs.File.{tideFields, countsEnd, bitLength, byteLength};
 ghost use Rattle.validity.specs.Memory.{stateOf, entryState, tideOf, contentsOf};
 ghost use Rattle.study_file.specs.Writing.{InByte, Adds};
 ghost use Rattle.study_file.specs.Rows.{RowInside};
-ghost use Rattle.study_file.specs.Putting.{PutFields, Writable, TideInside, headFields};
+ghost use Rattle.study_file.specs.Putting.{PutFields, Writable, TideInside, headFields, fileFields};
 
 // The bytes of a file of n tides, the last one filled with zero bits.
 pub fn byte_length(k: usize, n: usize) -> usize
     requires { ⌜ (k ≤ maxSettings) × (n ≤ maxTides) ⌝ }
-    ensures { λ r. ⌜ (r ≡ byteLength k n) × (r ≤ 17908) ⌝ }
+    ensures { λ r. ⌜ (r ≡ byteLength maxUsers k n) × (r ≤ 17914) ⌝ }
 {
-    (bit_length(k, n) + 7) / 8
+    (bit_length(MAX_USERS, k, n) + 7) / 8
 }
 
 // What a byte keeps when its bits from j on are written.
@@ -77,27 +78,45 @@ fn put_field(file: &mut [u8], at: usize, width: usize, value: u32)
     }
 }
 
-// The fields before the minima.
+// The fields before the counts.
 fn put_head(file: &mut [u8], dataset: Dataset)
-    requires { ⌜ (6 ≤ length (now file)) × (dataset .n ≤ maxTides) ⌝ }
+    requires { ⌜ (12 ≤ length (now file)) × (dataset .n ≤ maxTides) ⌝ }
     ensures { λ _. ⌜ PutFields (now (file .entry)) 0 (headFields dataset) (now (file .exit)) ⌝ }
 {
     let minima = dataset.minima;
-    put_field(file, 0, 8, 0x54);
+    put_field(file, 0, 8, 0x55);
     put_field(file, 8, 7, dataset.n as u32);
     put_field(file, 15, 4, dataset.k as u32);
     put_field(file, 19, 7, minima.b0 as u32);
-    put_field(file, 26, 16, dataset.withdrawn as u32);
+}
+
+// A count of 16 bits as a number that can stand in a field.
+fn wide_count(x: u16) -> u32
+    ensures { λ r. ⌜ r ≡ x ⌝ }
+{
+    x as u32
+}
+
+// The count of each user.
+fn put_counts(file: &mut [u8], withdrawn: [u16; MAX_USERS])
+    requires { ⌜ 12 ≤ length (now file) ⌝ }
+    ensures { λ _. ⌜ PutFields (now (file .entry)) 26 (map (field 16) (tabulate maxUsers (λ (i : ℕ). getD withdrawn i 0))) (now (file .exit)) ⌝ }
+{
+    let mut i: usize = 0;
+    while i < MAX_USERS {
+        put_field(file, 26 + 16 * i, 16, wide_count(withdrawn[i]));
+        i += 1;
+    }
 }
 
 // The b's of the settings 1 to k.
 fn put_minima(file: &mut [u8], k: usize, b: [u8; MAX_SETTINGS])
-    requires { ⌜ (k ≤ maxSettings) × (42 + 7 * k ≤ 8 * length (now file)) ⌝ }
-    ensures { λ _. ⌜ PutFields (now (file .entry)) 42 (map (field 7) (tabulate k (λ (j : ℕ). getD b j 0))) (now (file .exit)) ⌝ }
+    requires { ⌜ (k ≤ maxSettings) × (countsEnd maxUsers + 7 * k ≤ 8 * length (now file)) ⌝ }
+    ensures { λ _. ⌜ PutFields (now (file .entry)) (countsEnd maxUsers) (map (field 7) (tabulate k (λ (j : ℕ). getD b j 0))) (now (file .exit)) ⌝ }
 {
     let mut j: usize = 0;
     while j < k {
-        put_field(file, 42 + 7 * j, 7, wide(b[j]));
+        put_field(file, 90 + 7 * j, 7, wide(b[j]));
         j += 1;
     }
 }
@@ -133,14 +152,14 @@ fn put_tide(
 // All tides.
 fn put_tides(file: &mut [u8], dataset: Dataset, distances: &[u32], settings: &[u8])
     requires { ⌜ Writable (stateOf dataset (now distances) (now settings)) (now file) ⌝ }
-    ensures { λ _. ⌜ PutFields (now (file .entry)) (bitLength (dataset .k) 0)
+    ensures { λ _. ⌜ PutFields (now (file .entry)) (bitLength maxUsers (dataset .k) 0)
         (flatMap tideFields (tabulate (dataset .n) (tideOf (entryState dataset distances settings)))) (now (file .exit)) ⌝ }
 {
     let k = dataset.k as usize;
     let n = dataset.n;
     let mut t: usize = 0;
     while t < n {
-        let start = bit_length(k, t);
+        let start = bit_length(MAX_USERS, k, t);
         put_tide(file, start, dataset, distances, settings, t);
         t += 1;
     }
@@ -149,12 +168,14 @@ fn put_tides(file: &mut [u8], dataset: Dataset, distances: &[u32], settings: &[u
 // All fields of the file.
 pub fn put_fields(file: &mut [u8], dataset: Dataset, distances: &[u32], settings: &[u8])
     requires { ⌜ Writable (stateOf dataset (now distances) (now settings)) (now file) ⌝ }
-    ensures { λ _. ⌜ PutFields (now (file .entry)) 0 (fields (contentsOf (entryState dataset distances settings))) (now (file .exit)) ⌝ }
+    ensures { λ _. ⌜ PutFields (now (file .entry)) 0 (fileFields (contentsOf (entryState dataset distances settings))) (now (file .exit)) ⌝ }
 {
     let k = dataset.k as usize;
     let minima = dataset.minima;
     let b = minima.b;
+    let withdrawn = dataset.withdrawn;
     put_head(file, dataset);
+    put_counts(file, withdrawn);
     put_minima(file, k, b);
     put_tides(file, dataset, distances, settings);
 }

@@ -49,9 +49,9 @@ module _ {s t : State} {a : Answer} where
   unfolding openAnswer openLeaves freshLeaves freshAnswer freshReasons firstOf
   open-answers k e did = record { not-short = e; verdict = rw e at (did .0); leaves = rw e at (did .1); valid = opening-valid k }
 
-  -- a call on a dataset
+  -- a call on a dataset that names no user
   held-answers : (own : Contents → List Reason) (new : Contents) → Passed s
-      → (verdictOf a ≡ heldAnswer s own) × (t ≡ settled (heldAnswer s own) (stored new s) s)
+      → (verdictOf a ≡ heldAnswer s [] own) × (t ≡ settled (heldAnswer s [] own) (stored new s) s)
       → (firstOf (own (contentsOf s)) ≡ accepted → ValidContents new) → Answers s a t (firstOf (own (contentsOf s))) new
   held-answers own new P (v, l) ok =
       let e = sym (held-own s own (P .not-short) (P .tested)) in

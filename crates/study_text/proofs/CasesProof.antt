@@ -7,7 +7,7 @@ use Rattle.study.specs.Refusals.{firstOf}
 use Rattle.study.specs.Calls.{openReasons, opened, opening, understood, minimaReasons, withMinima, settingMinima}
 use Rattle.study.specs.Calls.{triangle, violations, enterReasons, entered, entering}
 use Rattle.file_format.specs.Bits.{binary, allBits, pack, packed}
-use Rattle.file_format.specs.File.{tideFields, fields, fileOf}
+use Rattle.file_format.specs.File.{tideFields, fields, fileWith, fileOf}
 use Rattle.text_words.specs.Words.{newlines, endsWord, begins, commentAfter, past, startOf, wordOf}
 use Rattle.text_words.specs.Words.{digit, withDigit, valueFrom, numeralOf, wordAt, nextOf}
 use Rattle.study_text.specs.Packing.{numberOf, numbersOf, minimaFrom, openingOf, minimaOf, headOf, tideOf}
@@ -19,7 +19,7 @@ unfolding cases packAnswer textOf turnsOf turnOf tideOf headOf minimaOf openingO
     nextOf wordAt numeralOf valueFrom withDigit digit wordOf startOf past commentAfter begins endsWord newlines
     openReasons opening opened understood minimaReasons settingMinima withMinima validMinima enterReasons entering entered
     violations triangle distance tide noTide firstOf every sumBelow tabulate flatMap
-    fileOf fields tideFields packed pack allBits binary
+    fileOf fileWith fields tideFields packed pack allBits binary
 worked-cases = refl
 
 pub one-tide : OneTideFile
@@ -27,7 +27,7 @@ unfolding packLeaves textOf turnsOf turnOf tideOf headOf minimaOf openingOf mini
     nextOf wordAt numeralOf valueFrom withDigit digit wordOf startOf past commentAfter begins endsWord newlines
     openReasons opening opened understood minimaReasons settingMinima withMinima validMinima enterReasons entering entered
     violations triangle distance tide noTide firstOf every sumBelow tabulate flatMap
-    fileOf fields tideFields packed pack allBits binary
+    fileOf fileWith fields tideFields packed pack allBits binary
 one-tide = refl
 
 pub raised-file : RaisedFile
@@ -35,5 +35,5 @@ unfolding packLeaves textOf turnsOf turnOf tideOf headOf minimaOf openingOf mini
     nextOf wordAt numeralOf valueFrom withDigit digit wordOf startOf past commentAfter begins endsWord newlines
     openReasons opening opened understood minimaReasons settingMinima withMinima validMinima enterReasons entering entered
     violations triangle distance tide noTide firstOf every sumBelow tabulate flatMap
-    fileOf fields tideFields packed pack allBits binary
+    fileOf fileWith fields tideFields packed pack allBits binary
 raised-file = refl

@@ -1,7 +1,7 @@
 -- Texts and what is said of them. There are no proofs here: CasesProof.antt proves the three statements, by computation. Assumes nothing.
 use Prim.Native.String.{String}
 use mathlib.Core.Path.{_≡_}
-use mathlib.Core.List.{List, [], _∷_, map}
+use mathlib.Core.List.{List, [], _∷_, _++_, map}
 use lib.ListN.{replicate}
 use Rattle.study.specs.Refusals.{number, seven}
 use Rattle.sheet_text.specs.Text.{ascii}
@@ -17,12 +17,12 @@ infix 10 _gives_
 abbrev pub _gives_ : String → Report → TextCase
 t gives a = record { text = t; report = a }
 
--- lent 8 bytes
+-- lent 14 bytes
 unfoldable pub cases : List TextCase
 cases =
     -- no tide, and one
-    ("1\n1 0\n" gives done 7)
-    ∷ ("1 # settings\n1 0\t#\r\n1#" gives done 7)
+    ("1\n1 0\n" gives done 13)
+    ∷ ("1 # settings\n1 0\t#\r\n1#" gives done 13)
     -- what is no number, too large, missing
     ∷ ("1\n1 0\n1\n1 x\n" gives notNumber 4)
     ∷ ("1\n1 0\n1\n1 4294967296x\n" gives notNumber 4)
@@ -32,7 +32,7 @@ cases =
     ∷ ("1\n1" gives missing 2)
     ∷ ("1\n1 0\n1\n1\n" gives missing 5)
     -- b's together 120 make b0 so, 121 and b0 = 0 are refused
-    ∷ ("1\n2 120" gives done 7)
+    ∷ ("1\n2 120" gives done 13)
     ∷ ("1\n2 121" gives refusedAt 2 (number 3))
     ∷ ("1\n0 1" gives refusedAt 2 (number 3))
     -- refused; numbers above 255 too
@@ -48,12 +48,12 @@ cases =
 
 -- of each text is said what stands beside it
 abbrev pub TextCases : Type 0
-TextCases = map (λ (c : TextCase). packAnswer (ascii (c .text)) 8) cases ≡ map (λ (c : TextCase). c .report) cases
+TextCases = map (λ (c : TextCase). packAnswer (ascii (c .text)) 14) cases ≡ map (λ (c : TextCase). c .report) cases
 
 -- the file of one tide, and a byte past it
 abbrev pub OneTideFile : Type 0
-OneTideFile = packLeaves (ascii "1 1 0 1\n") (replicate 8 170) ≡ 0x54 ∷ 0x02 ∷ 0x20 ∷ 0x40 ∷ 0x00 ∷ 0x00 ∷ 0x00 ∷ 170 ∷ []
+OneTideFile = packLeaves (ascii "1 1 0 1\n") (replicate 14 170) ≡ 0x55 ∷ 0x02 ∷ 0x20 ∷ 0x40 ∷ (replicate 9 0 ++ (170 ∷ []))
 
 -- b0 = 2 and three settings at 1 (document 02, 2.2): the file has b0 = 3
 abbrev pub RaisedFile : Type 0
-RaisedFile = packLeaves (ascii "3 2 1 1 1\n") (replicate 9 170) ≡ 0x54 ∷ 0x00 ∷ 0x60 ∷ 0xC0 ∷ 0x00 ∷ 0x00 ∷ 0x81 ∷ 0x02 ∷ 170 ∷ []
+RaisedFile = packLeaves (ascii "3 2 1 1 1\n") (replicate 15 170) ≡ 0x55 ∷ 0x00 ∷ 0x60 ∷ 0xc0 ∷ (replicate 8 0 ++ (0x81 ∷ 0x02 ∷ 170 ∷ []))

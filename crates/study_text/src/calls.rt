@@ -14,6 +14,7 @@ use study::Answer;
 use study::Dataset;
 use study::MAX_SETTINGS;
 use study::MAX_TIDES;
+use study::MAX_USERS;
 use study::Minima;
 use study::Outcome;
 use text_words::Cursor;
@@ -98,7 +99,7 @@ fn read_open(text: &[u8], distances: &mut [u32], settings: &mut [u8], from: Curs
         k: 1,
         n: 0,
         minima,
-        withdrawn: 0,
+        withdrawn: [0; MAX_USERS],
     };
     let given = number(text, from);
     match given {

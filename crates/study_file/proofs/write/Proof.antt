@@ -2,6 +2,7 @@
 use Rattle.study_file.proofs.WriteCallLaws.{write-refused}
 use Rattle.dataset.proofs.AnswerLaws.{passed}
 use Rattle.validity.specs.Memory.{stateOf}
+use mathlib.Core.List.{[]}
 use borrow.Author.Needs.{needs}
 use Rattle.study_file.proofs.write.Statement.{statement}
 use Rattle.study_file.proofs.write.Tie as tie
@@ -11,7 +12,7 @@ write-file-requires c κs =
     let at-check = c .before .before .before in
     let args = at-check .before .before .before .before .args in
     let σ = stateOf (args .dataset) (args .distances .now) (args .settings .now) in
-    passed σ (c .before .enum-told .given .1) (at-check .check .ensures)
+    passed σ [] (c .before .enum-told .given .1) (at-check .check .ensures)
 
 returns : tie.Need-returns
 returns c =

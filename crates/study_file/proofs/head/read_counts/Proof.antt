@@ -29,7 +29,7 @@ returns : tie.Need-returns
 returns c =
     let at-field = c .before .before in
     let marked = at-field .before .before .pre in
-    absurd (omega (arith, marked .six, at-field .read-field .ensures 8 (marked .here) .ends (c .enum-told .given .1)))
+    absurd (omega (arith, marked .marked .six, at-field .read-field .ensures 8 (marked .here) .ends (c .enum-told .given .1)))
 
 returns-2 : tie.Need-returns-2
 returns-2 c = let at-n = c .before in start-count (entry-of at-n .pre) (tides-got at-n) (c .if1 .taken)
@@ -42,7 +42,7 @@ returns-3 : tie.Need-returns-3
 returns-3 c =
     let at-field = c .before .before in
     let at-n = at-field .before .before in
-    absurd (omega (arith, entry-of at-n .pre .six, at-field .read-field2 .ensures 15 (tides-got at-n .past) .ends (c .enum-told2 .given .1)))
+    absurd (omega (arith, entry-of at-n .pre .marked .six, at-field .read-field2 .ensures 15 (tides-got at-n .past) .ends (c .enum-told2 .given .1)))
 
 returns-4 : tie.Need-returns-4
 returns-4 c =

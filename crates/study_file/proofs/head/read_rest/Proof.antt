@@ -1,13 +1,13 @@
 -- `read_rest` meets its contract: the tests stand in the order of the reasons, and each way out has one law: what the tests before it told
 -- (`whole`: the length, `sound`: the minima), and the test that it is. Assumes nothing.
-use Rattle.study_file.proofs.HeadLaws.{Whole, HeadSound, head-length, whole, record-begins, fill-inside, head-minima, sound, head-fill}
+use Rattle.study_file.proofs.HeadLaws.{few-counts, Whole, HeadSound, head-length, whole, record-begins, fill-inside, head-minima, sound, head-fill}
 use Rattle.study_file.proofs.HeadLaws.{head-done, head-stops, head-goes}
 use borrow.Author.Needs.{needs}
 use Rattle.study_file.proofs.head.read_rest.Statement.{statement}
 use Rattle.study_file.proofs.head.read_rest.Tie as tie
 
 -- the length is right
-is-whole : (c : tie.Else1) → let args = c .before .before .before .before .args in Whole (args .file .now) (args .k) (args .n)
+is-whole : (c : tie.Else1) → let args = c .before .before .before .before .args in Whole (args .file .now) (args .counts) (args .k) (args .n)
 is-whole c =
     let at-bits = c .before .before in
     whole (at-bits .before .before .pre .0) (at-bits .bit-length .ensures .0) (c .before .has-length .ensures) (c .if1 .left)
@@ -17,9 +17,12 @@ abbrev at-length : tie.Else2 → tie.Else1
 at-length c = c .before .before .before .before .before .before
 
 -- and the minima are valid
-is-sound : (c : tie.Else2) → let args = at-length c .before .before .before .before .args in HeadSound (args .file .now) (args .k) (args .n)
+is-sound : (c : tie.Else2) → let args = at-length c .before .before .before .before .args in HeadSound (args .file .now) (args .counts) (args .k) (args .n)
 is-sound c =
     sound (is-whole (at-length c)) (c .before .before .before .before .before .read-record .ensures .1) (c .before .valid-minima .ensures) (c .if2 .left)
+
+bit-length-requires : tie.Need-bit-length-requires
+bit-length-requires c κs = let begun = c .before .pre .0 in (few-counts (begun .marked), begun .high, begun .few)
 
 returns : tie.Need-returns
 returns c =
@@ -57,7 +60,7 @@ pub read-rest-spec : {M : Type 1} → statement M
 read-rest-spec =
     tie.close
     (tie.spec
-    (λ c κs. search needs)
+    bit-length-requires
     (λ c κs. search needs)
     (λ c κs. search needs)
     returns

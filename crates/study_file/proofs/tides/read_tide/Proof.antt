@@ -3,7 +3,7 @@ use Prim.Native.Nat.{ℕ}
 use native.Mathlib.Omega.{arith}
 use Rattle.bit_reader.specs.Fields.{FieldGot}
 use Rattle.file_format.specs.Bits.{bitsAt}
-use Rattle.file_format.specs.File.{bitLength}
+use Rattle.file_format.specs.File.{bitLength, countsIn}
 use Rattle.study_file.proofs.RowLaws.{at-tide, tide-five, row-begins, tide-stops, tide-goes}
 use borrow.Author.Needs.{needs}
 use Rattle.study_file.proofs.tides.read_tide.Statement.{statement}
@@ -15,7 +15,7 @@ entry-of c = c .before .before .before .before .before .before .before
 
 -- the bits before tide t
 abbrev begins : tie.Start → ℕ
-begins entry = bitLength (bitsAt (entry .args .file .now) 15 4) (entry .args .t)
+begins entry = bitLength (countsIn (entry .args .file .now)) (bitsAt (entry .args .file .now) 15 4) (entry .args .t)
 
 setting-got : (c : tie.After-known-told)
     → FieldGot (entry-of c .args .file .now) (begins (entry-of c)) 3 (c .before .less .given .0 .0) (c .before .less .given .0 .1 .0)

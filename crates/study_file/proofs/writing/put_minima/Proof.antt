@@ -11,7 +11,7 @@ use Rattle.study_file.proofs.writing.put_minima.Statement.{statement}
 use Rattle.study_file.proofs.writing.put_minima.Tie as tie
 
 abbrev Inv-loop : tie.InvT-loop
-Inv-loop file₀ k b j₀ file j = (j ≤ k) × PutFields file₀ 42 (map (field 7) (tabulate j (λ (i : ℕ). getD b i 0))) file
+Inv-loop file₀ k b j₀ file j = (j ≤ k) × PutFields file₀ 90 (map (field 7) (tabulate j (λ (i : ℕ). getD b i 0))) file
 
 abbrev μ-loop : tie.MeasureT-loop
 μ-loop file₀ k b j₀ file j = k - j

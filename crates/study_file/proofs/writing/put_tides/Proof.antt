@@ -1,5 +1,6 @@
 -- `put_tides` meets its contract: the loop's invariant: the first t tides are written; the tides left fall. Assumes nothing.
 use native.Mathlib.Omega.{arith}
+use lib.Dec.{lit≤}
 use Rattle.study_file.specs.Putting.{PutFields}
 use Rattle.study_file.proofs.PuttingLaws.{tide-room, tides-none, tides-more, tides-done}
 use Rattle.validity.specs.Memory.{stateOf, tideOf}
@@ -12,7 +13,7 @@ use Rattle.study_file.proofs.writing.put_tides.Tie as tie
 
 abbrev Inv-loop : tie.InvT-loop
 Inv-loop file₀ dataset distances settings k n t₀ file t =
-    (t ≤ n) × PutFields file₀ (bitLength k 0) (flatMap tideFields (tabulate t (tideOf (stateOf dataset distances settings)))) file
+    (t ≤ n) × PutFields file₀ (bitLength 4 k 0) (flatMap tideFields (tabulate t (tideOf (stateOf dataset distances settings)))) file
 
 abbrev μ-loop : tie.MeasureT-loop
 μ-loop file₀ dataset distances settings k n t₀ file t = n - t
@@ -23,7 +24,7 @@ loop-holds c = (omega arith, tides-none _)
 bit-length-requires : tie.Need-bit-length-requires Inv-loop μ-loop
 bit-length-requires c κs =
     let pre = c .before .before .before .before .before .before .pre in
-    (pre .study .k-high, omega (arith, pre .study .few))
+    (lit≤ tt, pre .study .k-high, omega (arith, pre .study .few))
 
 put-tide-requires : tie.Need-put-tide-requires Inv-loop μ-loop
 put-tide-requires c κs =
@@ -36,7 +37,7 @@ loop-again : tie.Need-loop-again Inv-loop μ-loop
 loop-again c =
     let at-start = c .before .before .before .before in
     let turn = at-start .before .before .loop in
-    (omega arith, tides-more _ _ (turn .t) (turn .inv .1) (at-start .bit-length .ensures .0) (c .before .before .put-tide .ensures))
+    (omega arith, tides-more _ _ _ (turn .t) (turn .inv .1) (at-start .bit-length .ensures .0) (c .before .before .put-tide .ensures))
 
 same-length : tie.Need-same-length Inv-loop μ-loop
 same-length c = c .before .loop .inv .1 .same

@@ -19,7 +19,7 @@ returns-2 c =
     let at-open = c .before .before .before .before .before in
     let told = at-open .before .before .before .before .before in
     let entry = told .before .before .before .before .before .before in
-    let blank : Dataset = record { k = 1; n = 0; minima = record { b0 = 1; b = replicate 8 0 }; withdrawn = 0 } in
+    let blank : Dataset = record { k = 1; n = 0; minima = record { b0 = 1; b = replicate 8 0 }; withdrawn = replicate 4 0 } in
     let s = stateOf blank (entry .args .distances .now) (entry .args .settings .now) in
     open-goes (entry .args .from) (told .before .before .number .ensures) s (at-open .«open» .result) _ _ (told .given2 .given .1) (entry .pre .0)
     (short-no s (entry .pre .1 .0) (entry .pre .1 .1)) (at-open .before .narrow .ensures) (at-open .«open» .ensures)
