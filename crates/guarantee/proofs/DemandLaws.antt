@@ -17,7 +17,7 @@ use Rattle.study.specs.Study.{Study, problem}
 use Rattle.study.specs.Refusals.{Numbered, Verdict, accepted, refused, settled, value, replied, firstOf}
 use Rattle.study.specs.Calls.{CentreLists, centreNumbers, centresWritten, Figures, figures, judgement}
 use Rattle.study.proofs.CallLaws.{reply-value}
-use Rattle.file_format.specs.File.{fileOf, decoded, readReasons}
+use Rattle.file_format.specs.File.{newMark, fileOf, markOf, decoded, readReasons}
 use Rattle.file_format.specs.Theorems.{Bytes}
 use Rattle.validity.specs.Memory.{State, short, isDataset, studyOf, contentsOf, stored}
 use Rattle.validity.proofs.Proofs.{for-datasets}
@@ -98,7 +98,7 @@ module _ (s : State) where
         on-read = λ file. (refl, refl);
         on-minima = λ M. (refl, refl);
         on-enter = λ setting row. (refl, refl);
-        on-withdraw = λ t. (refl, refl);
+        on-withdraw = λ u t. (refl, refl);
         on-centres = λ g l. (refl, on-centres g l .0, on-centres g l .1);
         on-block = λ list records.
             let v = blockAnswer s (length list) (length records) in
@@ -144,9 +144,9 @@ module _ (s : State) (bytes : List ℕ) (n : ℕ) (e : writeReply s (length byte
   unfolding writeReply
   accepts = reply-value (writeAnswer s (length bytes)) (length written) (sym e)
 
-  good : HeldAccepted s (λ H. writeReasons H (length bytes))
+  good : HeldAccepted s [] (λ H. writeReasons H (length bytes))
   unfolding writeAnswer
-  good = accepted-held s (λ H. writeReasons H (length bytes)) (accepts .0)
+  good = accepted-held s [] (λ H. writeReasons H (length bytes)) (accepts .0)
 
   a-dataset : T (isDataset s)
   a-dataset = true-T (isDataset s) (good .tested)
@@ -169,8 +169,9 @@ module _ (s : State) (bytes : List ℕ) (n : ℕ) (e : writeReply s (length byte
         ap contentsOf laid ∙ for-datasets .read-back (contentsOf s) onto valid,
       )
 
--- Read is accepted, and there is room for the file
-module _ (onto : State) (file bytes : List ℕ) (b : Bytes file) (e : readAnswer onto file ≡ accepted) (room : length file ≤ length bytes) where
+-- Read accepts a file of mark 55, and there is room for it
+module _ (onto : State) (file bytes : List ℕ) (b : Bytes file) (e : readAnswer onto file ≡ accepted) (m : markOf file ≡ newMark)
+    (room : length file ≤ length bytes) where
   abbrev read : State
   read = readLeaves onto file
 
@@ -181,7 +182,7 @@ module _ (onto : State) (file bytes : List ℕ) (b : Bytes file) (e : readAnswer
       ap (λ v. short (settled v (stored (decoded file) onto) onto)) e ∙ for-datasets .as-long (decoded file) onto long ∙ long
 
   own-file : fileOf (contentsOf read) ≡ file
-  own-file = for-files .only onto file b e
+  own-file = for-files .only onto file b e m
 
   writes : writeAnswer read (length bytes) ≡ accepted
   unfolding writeAnswer writeReasons firstOf
@@ -199,4 +200,10 @@ module _ (onto : State) (file bytes : List ℕ) (b : Bytes file) (e : readAnswer
 
 pub files-and-datasets : FilesAndDatasets
 files-and-datasets =
-    record { same = same; read-back = λ s onto bytes n e. read-back s bytes n e onto; written-again = written-again }
+    record {
+      same = same;
+      read-back = λ s onto bytes n e. read-back s bytes n e onto;
+      marked = for-files .marked;
+      written-again = written-again;
+      old-file = for-files .old-only;
+    }

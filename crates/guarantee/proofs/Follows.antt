@@ -3,12 +3,13 @@
 use Prim.Native.Nat.{ℕ}
 use native.Mathlib.Omega.{arith}
 use mathlib.Core.Path.{_≡_, refl, sym, ap, ap₂, _∙_, subst}
-use mathlib.Core.Bool.{Bool, true, false, cond}
+use mathlib.Core.Bool.{Bool, true, false, cond, not}
 use mathlib.Core.List.{List, [], _∷_}
 use mathlib.Core.Option.{Option, none, some}
+use Rattle.lists.specs.Lists.{allOf}
 use Rattle.lists.proofs.Tests.{T-true, true-T}
 use Rattle.study.specs.Study.{Contents}
-use Rattle.study.specs.Refusals.{Verdict, accepted, refused, settled, Reason, firstOf, freshReasons, heldReasons}
+use Rattle.study.specs.Refusals.{Numbered, number, Verdict, accepted, refused, settled, Reason, firstOf, freshReasons, isUser, heldReasons}
 use Rattle.study.specs.Calls.{openReasons, opening}
 use Rattle.study.specs.Theorems.{ValidContents}
 use Rattle.study.proofs.Proofs.{for-calls}
@@ -49,19 +50,29 @@ holds-valid {s} A = subst ValidContents (A .contents) (for-datasets .valid s (tr
 
 -- ---- what a call answers
 
--- an accepted call on what is held was refused by none of its own reasons
-pub past-ladder : (tooShort : Bool) (own : List Reason) → firstOf (heldReasons tooShort true own) ≡ accepted → firstOf own ≡ accepted
+-- an accepted call on what is held named users only, and was refused by none of its own reasons
+pub past-ladder : (tooShort : Bool) (users : List ℕ) (own : List Reason) → firstOf (heldReasons tooShort users true own) ≡ accepted
+    → (allOf isUser users ≡ true) × (firstOf own ≡ accepted)
 unfolding heldReasons freshReasons firstOf
-past-ladder true own e = absurd (let z : _≡_ {A = ℕ} 0 1 = cc in omega arith)
-past-ladder false own e = e
+past-ladder tooShort users own e = by tooShort (allOf isUser users) refl e
+  where
+    never : (r : Numbered) → refused r ≡ accepted → ⊥
+    never r q = let z : _≡_ {A = ℕ} 0 1 = cc in omega arith
+
+    by : (a u : Bool) → allOf isUser users ≡ u → cond a (refused (number 1)) (cond (not u) (refused (number 14)) (firstOf own)) ≡ accepted
+        → (allOf isUser users ≡ true) × (firstOf own ≡ accepted)
+    by true u k q = absurd (never (number 1) q)
+    by false true k q = (k, q)
+    by false false k q = absurd (never (number 14) q)
 
 -- a call on a dataset
-answer-held : (s : State) (own : Contents → List Reason)
-    → firstOf (heldReasons (short s) (isDataset s) (own (contentsOf s))) ≡ firstOf (onHeld (short s) (held s) own)
+answer-held : (s : State) (users : List ℕ) (own : Contents → List Reason)
+    → firstOf (heldReasons (short s) users (isDataset s) (own (contentsOf s))) ≡ firstOf (onHeld (short s) users (held s) own)
 unfolding held heldReasons freshReasons firstOf
-answer-held s own = by (short s) (isDataset s)
+answer-held s users own = by (short s) (isDataset s)
   where
-    by : (a b : Bool) → firstOf (heldReasons a b (own (contentsOf s))) ≡ firstOf (onHeld a (cond a none (cond b (some (contentsOf s)) none)) own)
+    by : (a b : Bool)
+        → firstOf (heldReasons a users b (own (contentsOf s))) ≡ firstOf (onHeld a users (cond a none (cond b (some (contentsOf s)) none)) own)
     by true b = refl
     by false true = refl
     by false false = refl
@@ -70,18 +81,18 @@ pub answer-is : (s : State) (c : Call) → answer s c ≡ verdict (short s) (hel
 unfolding answer reasons verdict reasonsAfter
 answer-is s (call-open k) = refl
 answer-is s (call-read file) = refl
-answer-is s (call-change c) = answer-held s (updating c .own)
-answer-is s (call-ask q) = answer-held s (inquiring q .own)
+answer-is s (call-change c) = answer-held s (updating c .users) (updating c .own)
+answer-is s (call-ask q) = answer-held s [] (inquiring q .own)
 
 -- ---- what a call that only reads tells
 
 -- an accepted call tells of what is held; of a refused one everything lent stays
-told-held : (s : State) (Q : Inquiry) → let v = firstOf (heldReasons (short s) (isDataset s) (Q .own (contentsOf s))) in
+told-held : (s : State) (Q : Inquiry) → let v = firstOf (heldReasons (short s) [] (isDataset s) (Q .own (contentsOf s))) in
     settled v (Q .tells (contentsOf s)) (Q .lent) ≡ settled v (tellsOf (held s) Q) (Q .lent)
 unfolding held heldReasons freshReasons firstOf
 told-held s Q = by (short s) (isDataset s)
   where
-    by : (a b : Bool) → let v = firstOf (heldReasons a b (Q .own (contentsOf s))) in
+    by : (a b : Bool) → let v = firstOf (heldReasons a [] b (Q .own (contentsOf s))) in
         settled v (Q .tells (contentsOf s)) (Q .lent) ≡ settled v (tellsOf (cond a none (cond b (some (contentsOf s)) none)) Q) (Q .lent)
     by true b = refl
     by false true = refl
@@ -120,7 +131,7 @@ change-valid : (c : Change) (H : Contents) → ValidContents H → firstOf (upda
 unfolding updating
 change-valid (set-minima M) = for-calls .on-minima M
 change-valid (enter setting row) = for-calls .on-enter setting row
-change-valid (withdraw t) = for-calls .on-withdraw t
+change-valid (withdraw u t) = for-calls .on-withdraw u t
 
 module _ (s : State) where
   -- a refused call leaves everything
@@ -135,11 +146,12 @@ module _ (s : State) where
       leaves-settled (freshAnswer s own) (some H) (stored H s) (λ e. let q = fresh-own s own e in leaves-stored s H (q .0) (valid (q .1)))
 
   -- a change: its own reasons, and what it makes of what is held
-  leaves-held : (own : Contents → List Reason) (f : Contents → Contents) → ((H : Contents) → ValidContents H → firstOf (own H) ≡ accepted → ValidContents (f H))
-      → Leaves s (settled (heldAnswer s own) (changing (held s) f) (held s)) (settled (heldAnswer s own) (stored (f (contentsOf s)) s) s)
-  leaves-held own f keeps =
-      leaves-settled (heldAnswer s own) (changing (held s) f) (stored (f (contentsOf s)) s) (λ e.
-      let A = accepted-held s own e in
+  leaves-held : (users : List ℕ) (own : Contents → List Reason) (f : Contents → Contents)
+      → ((H : Contents) → ValidContents H → firstOf (own H) ≡ accepted → ValidContents (f H))
+      → let v = heldAnswer s users own in Leaves s (settled v (changing (held s) f) (held s)) (settled v (stored (f (contentsOf s)) s) s)
+  leaves-held users own f keeps =
+      leaves-settled (heldAnswer s users own) (changing (held s) f) (stored (f (contentsOf s)) s) (λ e.
+      let A = accepted-held s users own e in
       subst (λ h. Leaves s (changing h f) (stored (f (contentsOf s)) s)) (sym (held-dataset s (A .not-short) (A .tested)))
       (leaves-stored s (f (contentsOf s)) (A .not-short) (keeps (contentsOf s) (for-datasets .valid s (true-T (isDataset s) (A .tested))) (A .reasons))))
 
@@ -152,8 +164,8 @@ module _ (s : State) where
   unfolding answer reasons after made changed freshAnswer heldAnswer
   leaves-answered (call-open k) = leaves-fresh (openReasons k) (opening k) (for-calls .on-open k)
   leaves-answered (call-read file) = leaves-fresh (readReasons file) (decoded file) (files .valid file)
-  leaves-answered (call-change c) = leaves-held (updating c .own) (updating c .makes) (change-valid c)
-  leaves-answered (call-ask q) = leaves-same (heldAnswer s (inquiring q .own))
+  leaves-answered (call-change c) = leaves-held (updating c .users) (updating c .own) (updating c .makes) (change-valid c)
+  leaves-answered (call-ask q) = leaves-same (heldAnswer s [] (inquiring q .own))
 
   leaves-step : (c : Call) → Leaves s (step (short s) (held s) c) (after s c)
   unfolding step

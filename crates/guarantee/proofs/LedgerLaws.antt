@@ -275,24 +275,26 @@ agree-settled (refused r) a h b l f K = K
 
 agree-changing : (own : Contents → List Reason) (f : Contents → Contents) (g : Ledger → Ledger)
     → ((H : Contents) (L : Ledger) → firstOf (own H) ≡ accepted → Matches (H .study) L → Matches (f H .study) (g L))
-    → (tooShort : Bool) (h : Option Contents) (l : Option Ledger) → firstOf (onHeld tooShort h own) ≡ accepted → Matched h l → Matched (changing h f) (changing l g)
-agree-changing own f g m tooShort none l e K = tt
-agree-changing own f g m tooShort (some H) none e K = absurd K
-agree-changing own f g m tooShort (some H) (some L) e K = m H L (past-ladder tooShort (own H) e) K
+    → (tooShort : Bool) (users : List ℕ) (h : Option Contents) (l : Option Ledger) → firstOf (onHeld tooShort users h own) ≡ accepted → Matched h l
+    → Matched (changing h f) (changing l g)
+agree-changing own f g m tooShort users none l e K = tt
+agree-changing own f g m tooShort users (some H) none e K = absurd K
+agree-changing own f g m tooShort users (some H) (some L) e K = m H L (past-ladder tooShort users (own H) e .1) K
 
 change-matches : (c : Change) (H : Contents) (L : Ledger) → firstOf (updating c .own H) ≡ accepted → Matches (H .study) L
     → Matches (updating c .makes H .study) (noting c L)
 unfolding updating settingMinima entering withdrawing
 change-matches (set-minima M) H L e K = minima-matches (H .study) L (understood M) K
 change-matches (enter setting row) H L e K = arrival-matches (H .study) L setting row K
-change-matches (withdraw t) H L e K = let w = withdraws H t e in gone-matches (H .study) L t K (omega (arith, w .low, w .high))
+change-matches (withdraw u t) H L e K = let w = withdraws H u t e in gone-matches (H .study) L t K (omega (arith, w .low, w .high))
 
 agree-changed : (tooShort : Bool) (h : Option Contents) (l : Option Ledger) (c : Call) → verdict tooShort h c ≡ accepted → Matched h l
     → Matched (changed h c) (noted l c)
 unfolding verdict reasonsAfter changed noted opening
 agree-changed tooShort h l (call-open k) e K = empty-matches k
 agree-changed tooShort h l (call-read file) e K = file-matches (decoded file .study)
-agree-changed tooShort h l (call-change c) e K = agree-changing (updating c .own) (updating c .makes) (noting c) (change-matches c) tooShort h l e K
+agree-changed tooShort h l (call-change c) e K =
+    agree-changing (updating c .own) (updating c .makes) (noting c) (change-matches c) tooShort (updating c .users) h l e K
 agree-changed tooShort h l (call-ask q) e K = K
 
 agree-following : (tooShort : Bool) (h : Option Contents) (l : Option Ledger) (cs : List Call) → Matched h l

@@ -2,6 +2,7 @@
 pub mod Follows
 pub mod Names
 pub mod LedgerLaws
+pub mod CountLaws
 pub mod QueryLaws
 pub mod BlockLaws
 pub mod CentresLaws

@@ -20,6 +20,7 @@ use Rattle.guarantee.specs.History.{reasonsAfter, verdict, contentsAfter
 use Rattle.guarantee.specs.Theorems.{Guaranteed, CanonicalBlock, blocked, Demand1, Demand2, Demand3, charged, ForTariff, centred, CentresTold, ForCentres}
 use Rattle.guarantee.proofs.Follows.{held-some, holds-valid, holds, as-short, settles}
 use Rattle.guarantee.proofs.LedgerLaws.{exactly, anew}
+use Rattle.guarantee.proofs.CountLaws.{counted-after}
 use Rattle.guarantee.proofs.BlockLaws.{block-25, block-guaranteed, block-canonical, block-charged, block-shared}
 use Rattle.guarantee.proofs.CentresLaws.{centres-told}
 use Rattle.guarantee.proofs.DemandLaws.{unchanged, unwritten, only-reads, as-contracts, files-and-datasets}
@@ -150,6 +151,7 @@ demand2 =
       settles = settles;
       exactly = exactly;
       anew = anew;
+      counted = counted-after;
       too-few = too-few;
       blocking = λ start calls S list₀ list records₀ records F e q. single start calls list₀ list records₀ records F q S e;
       files = files-and-datasets;

@@ -1,28 +1,37 @@
--- Calls by computation: where two reasons hold at once the earlier one counts, a run with refused calls in it, the minima that Minima
--- leaves, and equally near centres. Assumes nothing.
+-- Calls by computation: where two reasons hold at once the earlier one counts, a run with refused calls in it, the calls that counts of
+-- withdrawals look at, the minima that Minima leaves, and equally near centres. Assumes nothing.
 use Prim.Native.Nat.{ℕ}
 use mathlib.Core.Path.{_≡_}
 use mathlib.Core.Bool.{Bool, true, false}
 use mathlib.Core.List.{List, [], _∷_, map}
 use mathlib.Core.Option.{Option, none, some}
 use lib.ListN.{replicate}
-use Rattle.study.specs.Limits.{maxTides, maxWithdrawals, maxSettings}
+use Rattle.study.specs.Limits.{maxTides, maxUsers, maxWithdrawals, maxSettings}
 use Rattle.study.specs.declared.Minima.{Minima}
 use Rattle.study.specs.declared.BlockRecord.{BlockRecord}
 use Rattle.study.specs.Study.{Tide, Contents, noTide}
 use Rattle.study.specs.Refusals.{number, seven, Verdict, accepted, refused}
-use Rattle.study.specs.Calls.{CentreLists}
+use Rattle.study.specs.Calls.{opening, CentreLists}
 use Rattle.guarantee.specs.Runs.{set-minima, enter, withdraw, find-centres, make-blocks, price-blocks, judge-list, write-file, Call, call-open}
 use Rattle.guarantee.specs.Runs.{call-read, call-change, call-ask}
 use Rattle.guarantee.specs.History.{verdict, following, outputs}
+use Rattle.guarantee.specs.Counts.{acceptedCalls, stretchAfter}
 
 -- b0, and the same b for each setting
 abbrev pub minima : ℕ → ℕ → Minima
 minima b0 b = record { b0 = b0; b = replicate maxSettings b }
 
--- k = 1, these tides, a count of withdrawals
-abbrev pub holding : Minima → List Tide → ℕ → Option Contents
-holding M tides w = some (record { study = record { k = 1; minima = M; tides = tides }; withdrawals = w })
+-- k = 1, these tides, each user's withdrawals
+abbrev pub counting : Minima → List Tide → List ℕ → Option Contents
+counting M tides ws = some (record { study = record { k = 1; minima = M; tides = tides }; withdrawals = ws })
+
+-- nothing withdrawn
+abbrev pub holding : Minima → List Tide → Option Contents
+holding M tides = counting M tides (replicate maxUsers 0)
+
+-- user 2 is at the limit, the others are not
+abbrev pub one-full : List ℕ
+one-full = 0 ∷ maxWithdrawals ∷ 0 ∷ 0 ∷ []
 
 -- two tides at 3
 abbrev pub two : List Tide
@@ -57,50 +66,81 @@ order =
     -- 21 before a call's own reasons; not for Open and Read
     ∷ case none (call-change (set-minima (minima 0 0))) 21
     ∷ case none (call-change (enter 9 [])) 21
-    ∷ case none (call-change (withdraw 0)) 21
+    ∷ case none (call-change (withdraw 1 0)) 21
+    -- Withdraw: 1 before 14, 14 before 21, for users 0, 5 and 255; none of the four is refused so
+    ∷ record { tooShort = true; held = none; call = call-change (withdraw 0 0); gives = refused (number 1) }
+    ∷ case none (call-change (withdraw 0 0)) 14
+    ∷ case none (call-change (withdraw 5 0)) 14
+    ∷ case none (call-change (withdraw 255 0)) 14
+    ∷ case none (call-change (withdraw 4 0)) 21
     ∷ case none (call-ask (make-blocks [] [])) 21
     ∷ case none (call-open 9) 2
     ∷ case none (call-read []) 8
     -- Enter: 22 before 4, 4 before 5, 5 before 6, 6 before 7
-    ∷ case (holding (minima 1 0) (replicate maxTides noTide) 0) (call-change (enter 1 [])) 22
-    ∷ case (holding (minima 1 0) two 0) (call-change (enter 2 (1 ∷ []))) 4
-    ∷ case (holding (minima 1 0) two 0) (call-change (enter 2 (0 ∷ 1048576 ∷ []))) 5
-    ∷ case (holding (minima 1 0) two 0) (call-change (enter 1 (0 ∷ 1048576 ∷ []))) 6
-    ∷ record { tooShort = false; held = holding (minima 1 0) two 0; call = call-change (enter 1 (1 ∷ 1 ∷ [])); gives = refused (seven 1 2) }
-    -- Withdraw: 23 before 26
-    ∷ case (holding (minima 1 0) two maxWithdrawals) (call-change (withdraw 3)) 23
-    ∷ case (holding (minima 1 0) two maxWithdrawals) (call-change (withdraw 2)) 26
+    ∷ case (holding (minima 1 0) (replicate maxTides noTide)) (call-change (enter 1 [])) 22
+    ∷ case (holding (minima 1 0) two) (call-change (enter 2 (1 ∷ []))) 4
+    ∷ case (holding (minima 1 0) two) (call-change (enter 2 (0 ∷ 1048576 ∷ []))) 5
+    ∷ case (holding (minima 1 0) two) (call-change (enter 1 (0 ∷ 1048576 ∷ []))) 6
+    ∷ record { tooShort = false; held = holding (minima 1 0) two; call = call-change (enter 1 (1 ∷ 1 ∷ [])); gives = refused (seven 1 2) }
+    -- Withdraw: 14 before 23, 23 before 26; a user at the limit is stopped, the others go on
+    ∷ case (counting (minima 1 0) two one-full) (call-change (withdraw 5 3)) 14
+    ∷ case (counting (minima 1 0) two one-full) (call-change (withdraw 2 3)) 23
+    ∷ case (counting (minima 1 0) two one-full) (call-change (withdraw 2 2)) 26
+    ∷ record { tooShort = false; held = counting (minima 1 0) two one-full; call = call-change (withdraw 1 2); gives = accepted }
+    ∷ record { tooShort = false; held = counting (minima 1 0) two one-full; call = call-change (withdraw 3 2); gives = accepted }
     -- Block: 24 before 25, 25 before 1, 1 for the list and for the records
-    ∷ case (holding (minima 1 0) [] 0) (call-ask (make-blocks [] [])) 24
-    ∷ case (holding (minima 3 0) two 0) (call-ask (make-blocks [] [])) 25
-    ∷ case (holding (minima 2 0) two 0) (call-ask (make-blocks (0 ∷ []) (records 2))) 1
-    ∷ case (holding (minima 2 0) two 0) (call-ask (make-blocks (0 ∷ 0 ∷ []) (records 1))) 1
-    ∷ record { tooShort = false; held = holding (minima 2 0) two 0; call = call-ask (make-blocks (0 ∷ 0 ∷ []) (records 2)); gives = accepted }
+    ∷ case (holding (minima 1 0) []) (call-ask (make-blocks [] [])) 24
+    ∷ case (holding (minima 3 0) two) (call-ask (make-blocks [] [])) 25
+    ∷ case (holding (minima 2 0) two) (call-ask (make-blocks (0 ∷ []) (records 2))) 1
+    ∷ case (holding (minima 2 0) two) (call-ask (make-blocks (0 ∷ 0 ∷ []) (records 1))) 1
+    ∷ record { tooShort = false; held = holding (minima 2 0) two; call = call-ask (make-blocks (0 ∷ 0 ∷ []) (records 2)); gives = accepted }
     -- the tariff as Block
-    ∷ case (holding (minima 1 0) [] 0) (call-ask (price-blocks [] [])) 24
-    ∷ case (holding (minima 3 0) two 0) (call-ask (price-blocks [] [])) 25
-    ∷ case (holding (minima 2 0) two 0) (call-ask (price-blocks (0 ∷ 0 ∷ []) (records 1))) 1
+    ∷ case (holding (minima 1 0) []) (call-ask (price-blocks [] [])) 24
+    ∷ case (holding (minima 3 0) two) (call-ask (price-blocks [] [])) 25
+    ∷ case (holding (minima 2 0) two) (call-ask (price-blocks (0 ∷ 0 ∷ []) (records 1))) 1
     -- Centres: 24, and 1 for each of the three lists; Judge: 24 before 12; Write: 1
-    ∷ case (holding (minima 1 0) [] 0) (call-ask (find-centres 0 (places 0 0 0))) 24
-    ∷ case (holding (minima 1 0) two 0) (call-ask (find-centres 0 (places 1 2 2))) 1
-    ∷ case (holding (minima 1 0) two 0) (call-ask (find-centres 0 (places 2 1 2))) 1
-    ∷ case (holding (minima 1 0) two 0) (call-ask (find-centres 0 (places 2 2 1))) 1
-    ∷ record { tooShort = false; held = holding (minima 1 0) two 0; call = call-ask (find-centres 0 (places 2 2 2)); gives = accepted }
-    ∷ case (holding (minima 1 0) [] 0) (call-ask (judge-list (1 ∷ []))) 24
-    ∷ case (holding (minima 1 0) two 0) (call-ask (judge-list (1 ∷ []))) 12
-    ∷ case (holding (minima 1 0) [] 0) (call-ask (write-file (replicate 6 0))) 1
+    ∷ case (holding (minima 1 0) []) (call-ask (find-centres 0 (places 0 0 0))) 24
+    ∷ case (holding (minima 1 0) two) (call-ask (find-centres 0 (places 1 2 2))) 1
+    ∷ case (holding (minima 1 0) two) (call-ask (find-centres 0 (places 2 1 2))) 1
+    ∷ case (holding (minima 1 0) two) (call-ask (find-centres 0 (places 2 2 1))) 1
+    ∷ record { tooShort = false; held = holding (minima 1 0) two; call = call-ask (find-centres 0 (places 2 2 2)); gives = accepted }
+    ∷ case (holding (minima 1 0) []) (call-ask (judge-list (1 ∷ []))) 24
+    ∷ case (holding (minima 1 0) two) (call-ask (judge-list (1 ∷ []))) 12
+    ∷ case (holding (minima 1 0) []) (call-ask (write-file (replicate 12 0))) 1
     ∷ []
 
 -- where two reasons hold at once, the earlier one counts
 abbrev pub CallsInOrder : Type 0
 CallsInOrder = map (λ (c : ReasonCase). verdict (c .tooShort) (c .held) (c .call)) order ≡ map (λ (c : ReasonCase). c .gives) order
 
--- of a tide that is refused, one that enters, one that goes and one that is not there, the second and the third change the two tides
+-- of a tide that is refused, one that enters, one that goes and two that do not, the second and the third change the two tides; the
+-- withdrawal is counted for user 3
 abbrev pub OneRun : Type 0
 OneRun =
-    following false (holding (minima 2 0) two 0)
-    (call-change (enter 1 (1 ∷ 1 ∷ [])) ∷ call-change (enter 1 (1 ∷ 2 ∷ [])) ∷ call-change (withdraw 1) ∷ call-change (withdraw 3) ∷ [])
-    ≡ holding (minima 2 0) (record { setting = 1; row = [] } ∷ record { setting = 1; row = 2 ∷ [] } ∷ []) 1
+    following false (holding (minima 2 0) two)
+    (call-change (enter 1 (1 ∷ 1 ∷ []))
+    ∷ call-change (enter 1 (1 ∷ 2 ∷ []))
+    ∷ call-change (withdraw 3 1)
+    ∷ call-change (withdraw 3 3)
+    ∷ call-change (withdraw 0 1)
+    ∷ [])
+    ≡ counting (minima 2 0) (record { setting = 1; row = [] } ∷ record { setting = 1; row = 2 ∷ [] } ∷ []) (0 ∷ 0 ∷ 1 ∷ 0 ∷ [])
+
+-- the first tide enters
+abbrev pub first-tide : Call
+first-tide = call-change (enter 1 [])
+
+-- and goes, withdrawn by user u
+abbrev pub tide-goes : ℕ → Call
+tide-goes u = call-change (withdraw u 1)
+
+-- document 02, 2.7: of these accepted and refused calls, where nothing was held, the last stretch begins with the second Open; what user 2
+-- withdrew before it no longer counts, nor does what is refused
+abbrev pub OneStretch : Type 0
+OneStretch =
+    stretchAfter (record { from = none; calls = [] }) (acceptedCalls false none
+    (tide-goes 1 ∷ call-open 2 ∷ first-tide ∷ tide-goes 2 ∷ call-open 1 ∷ call-open 9 ∷ first-tide ∷ tide-goes 3 ∷ tide-goes 3 ∷ []))
+    ≡ record { from = some (opening 1); calls = first-tide ∷ tide-goes 3 ∷ [] }
 
 -- a minimum for setting 1 alone
 abbrev pub alone : ℕ → ℕ → Minima
@@ -135,8 +175,8 @@ minimaCases =
 -- two tides, k = 1
 abbrev pub MinimaLeft : Type 0
 MinimaLeft =
-    map (λ (c : MinimaCase). following false (holding (minima 1 0) two 0) (call-change (set-minima (c .given)) ∷ [])) minimaCases
-    ≡ map (λ (c : MinimaCase). holding (c .left) two 0) minimaCases
+    map (λ (c : MinimaCase). following false (holding (minima 1 0) two) (call-change (set-minima (c .given)) ∷ [])) minimaCases
+    ≡ map (λ (c : MinimaCase). holding (c .left) two) minimaCases
 
 -- document 02, 2.4: three tides at 0, 10 and 5 on a line
 abbrev pub three : List Tide
@@ -145,5 +185,5 @@ three = record { setting = 1; row = [] } ∷ record { setting = 1; row = 10 ∷ 
 -- at g = 5 the first two are centres; the third is equally near to both, and goes to the lower number. The fourth places stay
 abbrev pub EquallyNear : Type 0
 EquallyNear =
-    outputs false (holding (minima 1 0) three 0) (call-ask (find-centres 5 (places 4 4 4))) .lists
+    outputs false (holding (minima 1 0) three) (call-ask (find-centres 5 (places 4 4 4))) .lists
     ≡ (1 ∷ 2 ∷ 0 ∷ 0 ∷ []) ∷ (1 ∷ 2 ∷ 1 ∷ 0 ∷ []) ∷ (0 ∷ 0 ∷ 5 ∷ 0 ∷ []) ∷ []

@@ -1,5 +1,6 @@
--- Document 01, "The study and its rivals": the study that the start and the calls bring in, and the count of withdrawals beside it.
+-- Document 01, "The study and its rivals": the study that the start and the calls bring in, and the counts of withdrawals beside it.
 -- The memory is looked at where the calls start, and never again. Assumes nothing.
+use Prim.Native.Nat.{ℕ}
 use mathlib.Core.Bool.{Bool, true, false, cond}
 use mathlib.Core.List.{List, [], _∷_}
 use mathlib.Core.Option.{Option, none, some}
@@ -14,17 +15,17 @@ use Rattle.guarantee.specs.Runs.{updating, Inquiry, inquiring, Output, n
 unfoldable pub held : State → Option Contents
 held s = cond (short s) none (cond (isDataset s) (some (contentsOf s)) none)
 
--- the reasons of a call on a dataset: 21 while there is none
-abbrev pub onHeld : Bool → Option Contents → (Contents → List Reason) → List Reason
-onHeld tooShort none own = heldReasons tooShort false []
-onHeld tooShort (some H) own = heldReasons tooShort true (own H)
+-- the reasons of a call on a dataset, which names these users: 21 while there is none
+abbrev pub onHeld : Bool → List ℕ → Option Contents → (Contents → List Reason) → List Reason
+onHeld tooShort users none own = heldReasons tooShort users false []
+onHeld tooShort users (some H) own = heldReasons tooShort users true (own H)
 
--- from the study and the count, if any, and the call: its reasons. Memory that is too short for a dataset stays so
+-- from the study and the counts, if any, and the call: its reasons. Memory that is too short for a dataset stays so
 unfoldable pub reasonsAfter : Bool → Option Contents → Call → List Reason
 reasonsAfter tooShort h (call-open k) = freshReasons tooShort (openReasons k)
 reasonsAfter tooShort h (call-read file) = freshReasons tooShort (readReasons file)
-reasonsAfter tooShort h (call-change c) = onHeld tooShort h (updating c .own)
-reasonsAfter tooShort h (call-ask q) = onHeld tooShort h (inquiring q .own)
+reasonsAfter tooShort h (call-change c) = onHeld tooShort (updating c .users) h (updating c .own)
+reasonsAfter tooShort h (call-ask q) = onHeld tooShort [] h (inquiring q .own)
 
 -- whether it is refused, and why
 unfoldable pub verdict : Bool → Option Contents → Call → Verdict
@@ -35,7 +36,7 @@ abbrev pub changing : {A : Type 0} → Option A → (A → A) → Option A
 changing none f = none
 changing (some x) f = some (f x)
 
--- what an accepted call makes of the study and the count
+-- what an accepted call makes of the study and the counts
 unfoldable pub changed : Option Contents → Call → Option Contents
 changed h (call-open k) = some (opening k)
 changed h (call-read file) = some (decoded file)
@@ -51,11 +52,11 @@ unfoldable pub following : Bool → Option Contents → List Call → Option Con
 following tooShort h [] = h
 following tooShort h (c ∷ cs) = following tooShort (step tooShort h c) cs
 
--- the study that the start and the calls bring in, and the count
+-- the study that the start and the calls bring in, and the counts
 unfoldable pub contentsAfter : State → List Call → Option Contents
 contentsAfter start calls = following (short start) (held start) calls
 
--- without the count
+-- without the counts
 abbrev pub studyIn : Option Contents → Option Study
 studyIn none = none
 studyIn (some H) = some (H .study)
@@ -82,6 +83,6 @@ toldAfter h (call-ask q) = tellsOf h (inquiring q)
 unfoldable pub outputs : Bool → Option Contents → Call → Output
 outputs tooShort h c = settled (verdict tooShort h c) (toldAfter h c) (lent c)
 
--- from the study and the count, if any, and the call: all that its caller learns
+-- from the study and the counts, if any, and the call: all that its caller learns
 unfoldable pub learnt : Bool → Option Contents → Call → Response
 learnt tooShort h c = record { verdict = verdict tooShort h c; output = outputs tooShort h c }

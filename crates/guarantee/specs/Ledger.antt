@@ -66,7 +66,7 @@ withGone t L = record { arrivals = L .arrivals; gone = λ m. cond (eqb m (nameOf
 abbrev pub noting : Change → Ledger → Ledger
 noting (set-minima M) L = L
 noting (enter setting row) L = withArrival setting row L
-noting (withdraw t) L = withGone t L
+noting (withdraw u t) L = withGone t L
 
 -- what an accepted call makes of it: Open and Read begin anew
 unfoldable pub noted : Option Ledger → Call → Option Ledger

@@ -1,7 +1,8 @@
--- All of it is to be read beside document 01: Runs, History, Ledger; what is proved of them: Theorems, Cases.
+-- All of it is to be read beside documents 01 and 02: Runs, History, Ledger, Counts; what is proved of them: Theorems, Cases.
 pub mod Runs
 pub mod History
 pub mod Ledger
+pub mod Counts
 pub mod Cases
 pub mod Theorems
 pub mod Shams

@@ -25,19 +25,20 @@ pub data Change : Type 0 where
   set-minima : Minima → Change
   -- a setting and a row
   enter : ℕ → List ℕ → Change
-  -- a tide's number
-  withdraw : ℕ → Change
+  -- a user, and a tide's number
+  withdraw : ℕ → ℕ → Change
 
--- its own reasons for a refusal, and what an accepted call makes of the contents
+-- the users that it names, its own reasons for a refusal, and what an accepted call makes of the contents
 pub record Update : Type 0 where
+  pub users : List ℕ
   pub own : Contents → List Reason
   pub makes : Contents → Contents
 
 -- what a change asks and makes
 unfoldable pub updating : Change → Update
-updating (set-minima M) = record { own = λ H. minimaReasons (H .study) M; makes = settingMinima M }
-updating (enter setting row) = record { own = λ H. enterReasons (H .study) setting row; makes = entering setting row }
-updating (withdraw t) = record { own = λ H. withdrawReasons H t; makes = withdrawing t }
+updating (set-minima M) = record { users = []; own = λ H. minimaReasons (H .study) M; makes = settingMinima M }
+updating (enter setting row) = record { users = []; own = λ H. enterReasons (H .study) setting row; makes = entering setting row }
+updating (withdraw u t) = record { users = u ∷ []; own = λ H. withdrawReasons H u t; makes = withdrawing u t }
 
 -- ---- the calls that only read
 
@@ -140,12 +141,12 @@ pub data Call : Type 0 where
   call-change : Change → Call
   call-ask : Query → Call
 
--- document 01's reasons, in its order: the ladder that calls share, then the call's own
+-- the documents' reasons, in their order: the ladder that calls share, then the call's own
 unfoldable pub reasons : State → Call → List Reason
 reasons s (call-open k) = freshReasons (short s) (openReasons k)
 reasons s (call-read file) = freshReasons (short s) (readReasons file)
-reasons s (call-change c) = heldReasons (short s) (isDataset s) (updating c .own (contentsOf s))
-reasons s (call-ask q) = heldReasons (short s) (isDataset s) (inquiring q .own (contentsOf s))
+reasons s (call-change c) = heldReasons (short s) (updating c .users) (isDataset s) (updating c .own (contentsOf s))
+reasons s (call-ask q) = heldReasons (short s) [] (isDataset s) (inquiring q .own (contentsOf s))
 
 -- whether the call is refused, and why
 unfoldable pub answer : State → Call → Verdict

@@ -1,8 +1,8 @@
 -- What is proved of every list of calls; there are no proofs here. `demand1`, `demand2`, `demand3`, `for-tariff` and `for-centres` of
 -- proofs/Proofs.antt prove the five records of these names. Assumes nothing.
-use Prim.Native.Nat.{ℕ, suc, _*_, _≤_, _<_}
+use Prim.Native.Nat.{ℕ, suc, _+_, _*_, _≤_, _<_}
 use mathlib.Core.Path.{_≡_}
-use mathlib.Core.Logic.{_↔_}
+use mathlib.Core.Logic.{_⊎_, _↔_}
 use mathlib.Core.Bool.{false}
 use mathlib.Core.List.{List, [], _∷_, _++_}
 use mathlib.Core.Option.{none, some}
@@ -14,10 +14,10 @@ use Rattle.study.specs.declared.BlockRecord.{BlockRecord}
 use Rattle.study.specs.Problem.{centres, centreOf, labels, radius, blocking, diameter, greatestDiameter, Feasible}
 use Rattle.study.specs.Study.{Study, Contents, size, distance, problem, Renumbered}
 use Rattle.study.specs.Theorems.{Canonical, IsNearest}
-use Rattle.study.specs.Refusals.{number, Numbered, accepted, refused, settled, Reply, value, refusal, firstOf}
-use Rattle.study.specs.Calls.{opening, CentreLists, centresWritten, Figures, blockRecord}
-use Rattle.file_format.specs.File.{decoded}
-use Rattle.file_format.specs.Theorems.{Bytes}
+use Rattle.study.specs.Refusals.{number, Numbered, accepted, refused, settled, Reply, value, refusal, firstOf, isUser}
+use Rattle.study.specs.Calls.{opening, countOf, CentreLists, centresWritten, Figures, blockRecord}
+use Rattle.file_format.specs.File.{newMark, oldMark, markOf, decoded}
+use Rattle.file_format.specs.Theorems.{Bytes, OldFile}
 use Rattle.validity.specs.Memory.{State, short, isDataset, contentsOf}
 use Rattle.dataset.specs.Answers.{openAnswer, openLeaves, minimaAnswer, minimaLeaves, enterAnswer, enterLeaves, withdrawAnswer, withdrawLeaves}
 use Rattle.study_file.specs.Answers.{readAnswer, readLeaves, writeAnswer, writeReply, writeLeaves}
@@ -30,6 +30,7 @@ use Rattle.guarantee.specs.Runs.{allThree, figureNumbers, judgementNumbe
 use Rattle.guarantee.specs.Runs.{Call, call-open, call-read, call-change, call-ask, reasons, answer, after, lent, output, Response, response, run}
 use Rattle.guarantee.specs.History.{held, contentsAfter, studyAfter, learnt}
 use Rattle.guarantee.specs.Ledger.{Ledger, emptyLedger, fileLedger, noteAll, ledgerAfter, Exactly}
+use Rattle.guarantee.specs.Counts.{lastStretch, withdrawalsBy, countIn}
 
 -- ---- the calls of a run are the calls of the contracts
 
@@ -45,7 +46,7 @@ pub record AsContracts (s : State) : Type 0 where
   pub on-minima : (M : Minima) → let c = call-change (set-minima M) in (answer s c ≡ minimaAnswer s M) × (after s c ≡ minimaLeaves s M)
   pub on-enter : (setting : ℕ) (row : List ℕ)
       → let c = call-change (enter setting row) in (answer s c ≡ enterAnswer s setting row) × (after s c ≡ enterLeaves s setting row)
-  pub on-withdraw : (t : ℕ) → let c = call-change (withdraw t) in (answer s c ≡ withdrawAnswer s t) × (after s c ≡ withdrawLeaves s t)
+  pub on-withdraw : (u t : ℕ) → let c = call-change (withdraw u t) in (answer s c ≡ withdrawAnswer s u t) × (after s c ≡ withdrawLeaves s u t)
   pub on-centres : (g : ℕ) (l : CentreLists) → let c = call-ask (find-centres g l) in
       (answer s c ≡ centresAnswer s l) × (output s c .lists ≡ allThree (centresLeaves s g l))
       × (output s c .numbers ≡ settled (answer s c) (length (centresFront s g l) ∷ []) [])
@@ -69,7 +70,7 @@ pub record AsContracts (s : State) : Type 0 where
 
 -- ---- demand 1
 
--- for any record and memory and any call: the answer is the first of document 01's reasons that holds, and accepted where none does; a
+-- for any record and memory and any call: the answer is the first of the documents' reasons that holds, and accepted where none does; a
 -- refused call leaves record and memory as they were, and writes into nothing that it is lent
 pub record Demand1 : Type 0 where
   pub contracts : (s : State) → AsContracts s
@@ -130,16 +131,21 @@ pub record Anew (start : State) (before since : List Call) : Type 0 where
   pub read : (file : List ℕ) → answer (run start before) (call-read file) ≡ accepted
       → ledgerAfter start (before ++ (call-read file ∷ since)) ≡ noteAll (short start) (some (decoded file)) (some (fileLedger (decoded file .study))) since
 
--- files and datasets correspond one to one, of what Write and Read leave
+-- files and datasets correspond one to one, of what Write and Read leave; a dataset's only file is that of mark 55 (document 02, 2.7)
 pub record FilesAndDatasets : Type 0 where
   -- what Write writes, Read reads back: onto the same record and memory nothing changes, onto any other there is the same dataset
   pub same : (s : State) (bytes : List ℕ) (n : ℕ) → writeReply s (length bytes) ≡ value n → readLeaves s (take n (writeLeaves s bytes)) ≡ s
   pub read-back : (s onto : State) (bytes : List ℕ) (n : ℕ) → writeReply s (length bytes) ≡ value n → short onto ≡ false
       → let read = readLeaves onto (take n (writeLeaves s bytes)) in T (isDataset read) × (contentsOf read ≡ contentsOf s)
-  -- a file that Read accepts is what Write then writes
-  pub written-again : (onto : State) (file bytes : List ℕ) → Bytes file → readAnswer onto file ≡ accepted → length file ≤ length bytes
+  -- a file that Read accepts has one of two marks; one of mark 55 is what Write then writes
+  pub marked : (onto : State) (file : List ℕ) → readAnswer onto file ≡ accepted → (markOf file ≡ newMark) ⊎ (markOf file ≡ oldMark)
+  pub written-again : (onto : State) (file bytes : List ℕ) → Bytes file → readAnswer onto file ≡ accepted → markOf file ≡ newMark
+      → length file ≤ length bytes
       → let read = readLeaves onto file in
       (writeReply read (length bytes) ≡ value (length file)) × (take (length file) (writeLeaves read bytes) ≡ file)
+  -- one of mark 54 is read to the dataset whose own file says the same of k, minima, tides and counts
+  pub old-file : (onto : State) (file : List ℕ) → Bytes file → readAnswer onto file ≡ accepted → markOf file ≡ oldMark
+      → OldFile file (contentsOf (readLeaves onto file))
 
 -- for every start and every list of calls
 pub record Demand2 : Type 0 where
@@ -150,6 +156,10 @@ pub record Demand2 : Type 0 where
   pub exactly : (start : State) (calls : List Call) (H : Contents) → held (run start calls) ≡ some H
       → (L : Ledger) × (ledgerAfter start calls ≡ some L) × Exactly (H .study) L
   pub anew : (start : State) (before since : List Call) → Anew start before since
+  -- document 02, 2.7: each count is the one it began with, and the withdrawals accepted from that user since the start or the last Open or
+  -- Read, whichever is later
+  pub counted : (start : State) (calls : List Call) (H : Contents) (u : ℕ) → held (run start calls) ≡ some H → T (isUser u)
+      → let last = lastStretch start calls in countOf (H .withdrawals) u ≡ countIn u (last .from) + withdrawalsBy u (last .calls)
   -- 25, where no earlier reason holds, exactly when no partition is feasible
   pub too-few : (start : State) (calls : List Call) (S : Study) (list : List ℕ) (records : List BlockRecord)
       → studyAfter start calls ≡ some S → 0 < size S
