@@ -6,12 +6,12 @@ use Rattle.study.specs.Study.{noTide, tide, distance, validMinima}
 use Rattle.study.specs.Refusals.{firstOf}
 use Rattle.study.specs.Calls.{openReasons, opened, opening, understood, minimaReasons, withMinima, settingMinima, measuredReasons, entered, entering}
 use Rattle.metric_closure.specs.Closure.{byWayOf, closure, nearerPairs, loweredPairs}
-use Rattle.sheet_text.specs.Text.{digits, decimal}
+use Rattle.sheet_text.specs.Text.{digits, decimal, spaced}
 use Rattle.text_words.specs.Words.{newlines, endsWord, begins, commentAfter, past, startOf, wordOf}
 use Rattle.text_words.specs.Words.{digit, withDigit, valueFrom, numeralOf, wordAt, nextOf}
 use Rattle.study_text.specs.Packing.{numberOf, numbersOf, minimaFrom, openingOf, minimaOf, headOf, tideOf}
 use Rattle.study_text.specs.Packing.{turnOf, turnsOf, textOf}
-use Rattle.closure_text.specs.Text.{lowered, closedTide, closedStudy, spaced, numberLine, tideLine, studyText, loweredLine, closureText, mendAnswer}
+use Rattle.closure_text.specs.Text.{lowered, closedTide, closedStudy, numberLine, tideLine, studyText, loweredLine, closureText, mendAnswer}
 use Rattle.closure_text.specs.Cases.{cases, Said, Roomless, Printed}
 
 pub said : Said

@@ -6,21 +6,21 @@ use mathlib.Core.Path.{_≡_, refl, sym, ap, ap₂, _∙_, subst}
 use mathlib.Core.Logic.{⊎-elim}
 use mathlib.Core.List.{List, [], _∷_, _++_, flatMap, append-nil, append-assoc}
 use lib.ListN.{length, take, drop, getD, replicate, length-take}
-use lib.Seq.{take-suc, take-all, getD-take}
+use lib.Seq.{getD-take}
 use Rattle.lists.specs.Lists.{tabulate, overwrite}
 use Rattle.lists.proofs.Tests.{split}
 use Rattle.lists.proofs.Members.{flatMap-append, flatMap-one}
 use Rattle.lists.proofs.Tables.{tabulate-suc, tabulate-is}
-use Rattle.sheet_text.specs.Text.{ascii, decimal}
+use Rattle.sheet_text.specs.Text.{ascii, decimal, spaced}
 use Rattle.sheet_text.specs.Lines.{field, named}
 use Rattle.sheet_text.specs.Putting.{PutText}
 use Rattle.sheet_text.proofs.NumberLaws.{decimal-short}
 use Rattle.sheet_text.proofs.PuttingLaws.{puts-none, puts-then, puts-as}
-use Rattle.sheet_text.proofs.LineLaws.{field-short, named-length}
+use Rattle.sheet_text.proofs.LineLaws.{named-short}
 use Rattle.metric_closure.specs.Call.{entry}
 use Rattle.metric_closure.specs.Tables.{InRange}
 use Rattle.metric_closure.proofs.TableLaws.{part-long, part-at, entry-near}
-use Rattle.closure_text.specs.Text.{spaced, numberLine, tideLine, loweredLine}
+use Rattle.closure_text.specs.Text.{numberLine, tideLine, loweredLine}
 use Rattle.closure_text.specs.Rows.{tideAt, PrintableTable}
 
 -- a distance has at most seven digits
@@ -32,28 +32,6 @@ flatMap-more : {A : Type 0} (f : A → List ℕ) (xs : List A) (x : A) → flatM
 flatMap-more f xs x = flatMap-append f xs (x ∷ []) ∙ ap (λ ys. flatMap f xs ++ ys) (flatMap-one f x)
 
 -- ---- one line
-
-pub spaced-put : (x : ℕ) {l a b : List ℕ} {at p end : ℕ} → PutText l at (32 ∷ []) p a → PutText a p (decimal x) end b → PutText l at (spaced x) end b
-unfolding spaced
-spaced-put x y z = puts-then y z
-
-module _ (rest : List ℕ) where
-  pub rest-none : {l : List ℕ} {at : ℕ} → at ≤ length l → PutText l at (flatMap spaced (take 0 rest)) at l
-  unfolding flatMap
-  rest-none {l} {at} h = puts-none l at h
-
-  pub rest-more : (i : ℕ) → i < length rest → {l m n : List ℕ} {at mid end : ℕ} → PutText l at (flatMap spaced (take i rest)) mid m
-      → PutText m mid (spaced (getD rest i 0)) end n → PutText l at (flatMap spaced (take (i + 1) rest)) end n
-  rest-more i h p q = puts-as (puts-then p q) (sym more) refl
-    where
-      more : flatMap spaced (take (i + 1) rest) ≡ flatMap spaced (take i rest) ++ spaced (getD rest i 0)
-      more =
-          ap (λ k. flatMap spaced (take k rest)) (add-one i) ∙ ap (flatMap spaced) (take-suc rest i 0 h)
-          ∙ flatMap-more spaced (take i rest) (getD rest i 0)
-
-  pub rest-done : (i : ℕ) → length rest ≤ i → {l m : List ℕ} {at end : ℕ} → PutText l at (flatMap spaced (take i rest)) end m
-      → PutText l at (flatMap spaced rest) end m
-  rest-done i h p = puts-as p (ap (flatMap spaced) (take-all i rest h)) refl
 
 pub line-put : (x : ℕ) (rest : List ℕ) {l a b c : List ℕ} {at p q end : ℕ} → PutText l at (decimal x) p a → PutText a p (flatMap spaced rest) q b
     → PutText b q (10 ∷ []) end c → PutText l at (numberLine x rest) end c
@@ -97,7 +75,7 @@ pub lowered-put : {l a b : List ℕ} {p end : ℕ} (m : ℕ) → PutText l 0 (na
 lowered-put m u v = puts-as (puts-then u v) (lowered-fields m) refl
 
 pub lowered-short : (m : ℕ) → m < 4294967296 → length (named (ascii "# ") m 32) ≤ 13
-lowered-short m h = omega (arith, named-length (ascii "# ") m 32, field-short 9 m 32 (omega arith))
+lowered-short m h = named-short (ascii "# ") m 32 h
 
 -- ---- k and the minima
 

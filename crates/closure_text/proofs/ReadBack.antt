@@ -26,7 +26,7 @@ use Rattle.study.proofs.CallLaws.{Enters}
 use Rattle.study.proofs.Proofs.{for-minima}
 use Rattle.file_format.proofs.DistanceLaws.{distance-row}
 use Rattle.metric_closure.specs.Tables.{InRange}
-use Rattle.sheet_text.specs.Text.{decimal}
+use Rattle.sheet_text.specs.Text.{decimal, spaced}
 use Rattle.text_words.specs.declared.Cursor.{Cursor}
 use Rattle.text_words.specs.Words.{endsWord, wordOf}
 use Rattle.study_text.specs.declared.Rule.the-variants as RuleCase
@@ -34,7 +34,7 @@ use Rattle.study_text.specs.declared.calls.Over.the-variants as OverCase
 use Rattle.study_text.specs.Packing.{called, minimaFrom, openingOf, minimaOf, headOf, tideOf, going, ended, entered}
 use Rattle.study_text.specs.Packing.{turnFrom, turnOf, further, turnsOf, textOf}
 use Rattle.study_text.proofs.Turns.{turns-over}
-use Rattle.closure_text.specs.Text.{spaced, numberLine, tideLine, studyText, loweredLine}
+use Rattle.closure_text.specs.Text.{numberLine, tideLine, studyText, loweredLine}
 use Rattle.closure_text.specs.Theorems.{fresh}
 use Rattle.closure_text.proofs.ReadingLaws.{Gap, newline-gap, lowered-gap, moved, Left, NextIs, next-is, next-none, Reads, reads-then, reads-number}
 use Rattle.closure_text.proofs.ReadingLaws.{ReadsRow, row-none, row-more, row-all, row-stops}

@@ -14,14 +14,14 @@ use Rattle.lists.specs.Lists.{allOf}
 use Rattle.lists.proofs.Tests.{split, between-T, and-T, T-left, T-right, T-true, T-false}
 use Rattle.lists.proofs.Members.{all-at, all-of, all-append}
 use Rattle.metric_closure.specs.Tables.{InRange}
-use Rattle.sheet_text.specs.Text.{ascii, digit as byteOf, decimal}
+use Rattle.sheet_text.specs.Text.{ascii, digit as byteOf, decimal, spaced}
 use Rattle.sheet_text.proofs.NumberLaws.{decimal-one, decimal-more}
 use Rattle.text_words.specs.declared.Cursor.{Cursor}
 use Rattle.text_words.specs.declared.Word.the-variants as WordCase
 use Rattle.text_words.specs.declared.Numeral.the-variants as NumeralCase
 use Rattle.text_words.specs.Words.{endsWord, begins, commentAfter, past, startOf, wordOf, digit, withDigit, valueFrom, numeralOf, wordAt, nextOf}
 use Rattle.study_text.specs.Packing.{Got, got, numberOf, numbersOf, onward}
-use Rattle.closure_text.specs.Text.{spaced, loweredLine}
+use Rattle.closure_text.specs.Text.{loweredLine}
 
 -- ---- digits
 

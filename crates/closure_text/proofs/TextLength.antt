@@ -5,8 +5,9 @@ use mathlib.Core.List.{List, [], _∷_, _++_, flatMap}
 use lib.ListN.{length, getD, length-append}
 use Rattle.metric_closure.specs.Tables.{InRange}
 use Rattle.study.specs.Study.{Study, size, noTide, tide, Valid}
+use Rattle.sheet_text.specs.Text.{spaced}
 use Rattle.sheet_text.proofs.NumberLaws.{decimal-short}
-use Rattle.closure_text.specs.Text.{spaced, numberLine, tideLine, studyText, loweredLine}
+use Rattle.closure_text.specs.Text.{numberLine, tideLine, studyText, loweredLine}
 use Rattle.closure_text.proofs.LineLaws.{number-short, range-none}
 use Rattle.closure_text.proofs.ReadBack.{bOf, tide-range, minima-fit, b-long, b-near}
 

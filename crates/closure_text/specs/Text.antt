@@ -9,7 +9,7 @@ use Rattle.lists.specs.Lists.{tabulate, over}
 use Rattle.study.specs.Study.{Tide, Study, withTides, size, tide, distance}
 use Rattle.study.specs.Refusals.{number}
 use Rattle.metric_closure.specs.Closure.{closure, loweredPairs}
-use Rattle.sheet_text.specs.Text.{ascii, decimal}
+use Rattle.sheet_text.specs.Text.{ascii, decimal, spaced}
 use Rattle.text_words.specs.Words.{newlines}
 use Rattle.study_text.specs.declared.Rule.the-variants as RuleCase
 use Rattle.study_text.specs.Packing.{Report, done, refusedAt, tooLong, Turn, going, ended, stopped, textOf}
@@ -29,10 +29,6 @@ unfoldable pub closedStudy : Study → Study
 closedStudy S = withTides (tabulate (size S) (closedTide S)) S
 
 -- ---- its text
-
--- a blank and a number
-unfoldable pub spaced : ℕ → List ℕ
-spaced x = ascii " " ++ decimal x
 
 -- numbers on a line of their own, single blanks between
 unfoldable pub numberLine : ℕ → List ℕ → List ℕ

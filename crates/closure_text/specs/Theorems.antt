@@ -4,7 +4,8 @@ use Prim.Native.Nat.{ℕ, _≤_, _<_}
 use mathlib.Core.Path.{_≡_}
 use mathlib.Core.Logic.{_↔_}
 use mathlib.Core.List.{List}
-use lib.ListN.{length}
+use lib.ListN.{length, replicate}
+use Rattle.study.specs.Limits.{maxUsers}
 use Rattle.study.specs.Study.{Study, Contents, size, tide, distance, TriangleInequality, Valid, MeasuredStudy}
 use Rattle.metric_closure.specs.Closure.{closure}
 use Rattle.study_text.specs.declared.Rule.the-variants as RuleCase
@@ -13,7 +14,7 @@ use Rattle.closure_text.specs.Text.{lowered, closedStudy, closureText}
 
 -- a study with nothing withdrawn
 abbrev pub fresh : Study → Contents
-fresh S = record { study = S; withdrawals = 0 }
+fresh S = record { study = S; withdrawals = replicate maxUsers 0 }
 
 -- the closure of a measured study, and its text
 pub record ForClosure (S : Study) : Type 0 where

@@ -12,8 +12,9 @@ ghost use lib.ListN.{length, take};
 ghost use Rattle.lists.specs.Lists.{tabulate};
 ghost use Rattle.study.specs.Limits.{maxSettings, maxDistance};
 ghost use Rattle.metric_closure.specs.Tables.{InRange};
+ghost use Rattle.sheet_text.specs.Text.{spaced};
 ghost use Rattle.sheet_text.specs.Putting.{PutText};
-ghost use Rattle.closure_text.specs.Text.{spaced, numberLine, tideLine, loweredLine};
+ghost use Rattle.closure_text.specs.Text.{numberLine, tideLine, loweredLine};
 ghost use Rattle.closure_text.specs.Rows.{tideAt, Printable, PrintableTable};
 
 // A byte as a number of a line.
@@ -21,15 +22,6 @@ fn wide(x: u8) -> u32
     ensures { λ r. ⌜ (r ≡ x) × (r < 256) ⌝ }
 {
     x as u32
-}
-
-// A blank and a number.
-fn put_spaced(out: &mut [u8], at: usize, x: u32) -> usize
-    requires { ⌜ (x ≤ maxDistance) × (at + 8 ≤ length (now out)) ⌝ }
-    ensures { λ r. ⌜ (r ≤ at + 8) × PutText (now (out .entry)) at (spaced x) r (now (out .exit)) ⌝ }
-{
-    let end = put_byte(out, at, b' ');
-    put_number(out, end, x)
 }
 
 // Numbers, a blank before each.
@@ -41,7 +33,8 @@ fn put_rest(out: &mut [u8], at: usize, rest: &[u32]) -> usize
     let mut end = at;
     let mut i: usize = 0;
     while i < rest.len() {
-        end = put_spaced(out, end, rest[i]);
+        let after_blank = put_byte(out, end, b' ');
+        end = put_number(out, after_blank, rest[i]);
         i += 1;
     }
     end

@@ -7,7 +7,7 @@ use text_report::write_report;
 fn main() {
     let mut text = [0u8; 131073];
     let n = io::read_full(STDIN_FILENO, &mut text);
-    let mut file = [0u8; 17908];
+    let mut file = [0u8; 17914];
     let packed = pack(&text[..n], &mut file);
     write_report(packed, &file);
 }

@@ -8,15 +8,15 @@ use Rattle.study.specs.Study.{noTide, tide, distance, meets, sufficient, proble
 use Rattle.study.specs.Refusals.{firstOf}
 use Rattle.study.specs.Calls.{triangle, violations, blockReasons, figures, blockRecord}
 use Rattle.file_format.specs.Bits.{binary}
-use Rattle.file_format.specs.File.{bitLength, byteLength, tideAt, minimaAt, decoded, headReasons, tideReasons, readReasons}
-use Rattle.sheet_text.specs.Text.{digits, decimal, heading, line, eachLine, closing, refusedText}
+use Rattle.file_format.specs.File.{bitLength, byteLength, countsUnder, countsAt, tideAt, minimaAt, decoded, headReasons, tideReasons, readReasons}
+use Rattle.sheet_text.specs.Text.{digits, decimal, spaced, heading, line, eachLine, closing, refusedText}
 use Rattle.sheet_of_file.specs.Sheet.{fileText, sheetOf}
 use Rattle.sheet_of_file.specs.Cases.{Sheets}
 
 pub sheets : Sheets
-unfolding sheetOf fileText readReasons headReasons tideReasons decoded minimaAt tideAt byteLength bitLength binary
+unfolding sheetOf fileText readReasons headReasons tideReasons decoded minimaAt tideAt byteLength bitLength countsUnder countsAt binary
     triangle violations distance tide noTide validMinima every sumBelow tabulate flatMap firstOf blockReasons figures blockRecord
     centresAmong centres centreOf blocksAt choices block labels allSufficient assignments assignable candidates radius blocking
     diameter greatestDiameter meets sufficient problem countBelow greatest headD
-    heading eachLine line closing refusedText decimal digits
+    heading eachLine line closing refusedText spaced decimal digits
 sheets = refl

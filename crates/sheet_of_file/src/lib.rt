@@ -8,6 +8,7 @@ use study::Blocked;
 use study::Dataset;
 use study::MAX_SETTINGS;
 use study::MAX_TIDES;
+use study::MAX_USERS;
 use study::Minima;
 use study::Refusal;
 use study::TABLE_SIZE;
@@ -28,36 +29,37 @@ pub fn blank() -> Dataset {
         k: 0,
         n: 0,
         minima,
-        withdrawn: 0,
+        withdrawn: [0; MAX_USERS],
     }
 }
 
 // No block is printed of a refusal, so its records are blank.
 fn refused_sheet(why: Refusal) -> Text
-    ensures { λ r. ⌜ (r .length ≤ 2837) × (r ≡ laidOut (refusedText (numbered why))) ⌝ }
+    ensures { λ r. ⌜ (r .length ≤ 2855) × (r ≡ laidOut (refusedText (numbered why))) ⌝ }
 {
     let none = BlockRecord {
         centre: 0,
         tides: 0,
         diameter: 0,
     };
-    sheet_text(Blocked::Refused(why), [none; MAX_TIDES], 0)
+    sheet_text(Blocked::Refused(why), [none; MAX_TIDES], [0; MAX_USERS])
 }
 
 // The sheet of what Block answers.
 fn blocked_sheet(dataset: Dataset, distances: &[u32], settings: &[u8]) -> Text
-    ensures { λ r. ⌜ (r .length ≤ 2837) × (r ≡ laidOut (blockedText (entryState dataset distances settings))) ⌝ }
+    ensures { λ r. ⌜ (r .length ≤ 2855) × (r ≡ laidOut (blockedText (entryState dataset distances settings))) ⌝ }
 {
     let mut list = [0u8; MAX_TIDES];
     let blocked = block_by_value(dataset, distances, settings, &mut list);
     let answer = blocked.answer;
     let records = blocked.records;
-    sheet_text(answer, records, dataset.withdrawn)
+    let withdrawn = dataset.withdrawn;
+    sheet_text(answer, records, withdrawn)
 }
 
 // The sheet of any bytes: a study file's blocks, or why there are none.
 pub fn sheet(file: &[u8]) -> Text
-    ensures fits { λ r. ⌜ r .length ≤ 2837 ⌝ }
+    ensures fits { λ r. ⌜ r .length ≤ 2855 ⌝ }
     ensures text { λ r. ⌜ r ≡ laidOut (sheetOf (now (file .entry))) ⌝ }
 {
     let before = blank();

@@ -1,6 +1,7 @@
 -- The statements of specs/Cases.antt, by computation. Assumes nothing.
 use mathlib.Core.Path.{refl}
-use Rattle.sheet_text.specs.Text.{digits, decimal, heading, line, eachLine, closing, refusedText}
+use mathlib.Core.List.{flatMap}
+use Rattle.sheet_text.specs.Text.{digits, decimal, spaced, heading, line, eachLine, closing, refusedText}
 use Rattle.sheet_text.specs.Cases.{HeadingLength, OneTide, TwoBlocks, TooFew, TriangleRefused, Decimals}
 
 pub heading-length : HeadingLength
@@ -8,11 +9,11 @@ unfolding heading
 heading-length = refl
 
 pub one-tide : OneTide
-unfolding heading eachLine line closing decimal digits
+unfolding heading eachLine line closing flatMap spaced decimal digits
 one-tide = refl
 
 pub two-blocks : TwoBlocks
-unfolding heading eachLine line closing decimal digits
+unfolding heading eachLine line closing flatMap spaced decimal digits
 two-blocks = refl
 
 pub too-few : TooFew

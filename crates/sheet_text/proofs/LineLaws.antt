@@ -3,10 +3,11 @@ use Prim.Native.Nat.{ℕ, suc, _+_, _^_, _≤_, _<_}
 use native.Mathlib.Omega.{arith}
 use native.Mathlib.Numerals.{add-one}
 use mathlib.Core.Path.{_≡_, refl, sym, ap, _∙_, subst}
-use mathlib.Core.List.{List, [], _∷_, _++_, append-nil, append-assoc}
+use mathlib.Core.List.{List, [], _∷_, _++_, flatMap, append-nil, append-assoc}
 use lib.ListN.{length, take, drop, getD, length-append}
 use lib.Seq.{length-take-le, take-suc, take-all, take-at}
 use Rattle.lists.specs.Lists.{tabulate, overwrite}
+use Rattle.lists.proofs.Members.{flatMap-append, flatMap-one}
 use Rattle.lists.proofs.Tables.{length-tabulate}
 use Rattle.study.specs.declared.BlockRecord.{BlockRecord}
 use Rattle.study.specs.declared.Blocked.{Blocked}
@@ -15,7 +16,7 @@ use Rattle.study.specs.declared.Refusal.{Refusal}
 use Rattle.study.specs.Refusals.{Numbered, numbered, value}
 use Rattle.study.specs.Calls.{Figures, blockedOf}
 use Rattle.study.specs.Numbers.{numberOf}
-use Rattle.sheet_text.specs.Text.{ascii, decimal, eachLine, heading, line, lines, closing, refusedText, sheetText}
+use Rattle.sheet_text.specs.Text.{ascii, decimal, spaced, eachLine, heading, line, lines, closing, refusedText, sheetText}
 use Rattle.sheet_text.proofs.NumberLaws.{decimal-short}
 use Rattle.sheet_text.specs.Putting.{PutText}
 use Rattle.sheet_text.proofs.PuttingLaws.{puts-none, puts-then, puts-as}
@@ -31,6 +32,10 @@ field-short n x mark h = omega (arith, field-length x mark, decimal-short n x h)
 pub named-length : (name : List ℕ) (x mark : ℕ) → length (named name x mark) ≡ length name + length (field x mark)
 unfolding named
 named-length name x mark = length-append name (field x mark)
+
+-- a number of 32 bits has at most ten digits
+pub named-short : (name : List ℕ) (x mark : ℕ) → x < 4294967296 → length (named name x mark) ≤ length name + 11
+named-short name x mark h = omega (arith, named-length name x mark, field-short 9 x mark (omega arith))
 
 -- ---- the line of a block
 
@@ -57,38 +62,38 @@ module _ (n : ℕ) (r : BlockRecord) where
         field-short 9 (r .diameter) 10 (omega arith),
       )
 
+-- ---- numbers, a blank before each
+
+module _ (xs : List ℕ) where
+  pub spaced-none : {l : List ℕ} {at : ℕ} → at ≤ length l → PutText l at (flatMap spaced (take 0 xs)) at l
+  unfolding flatMap
+  spaced-none {l} {at} h = puts-none l at h
+
+  pub spaced-more : (i : ℕ) → i < length xs → {l m n k : List ℕ} {at mid last end : ℕ} → PutText l at (flatMap spaced (take i xs)) mid m
+      → PutText m mid (32 ∷ []) last n → PutText n last (decimal (getD xs i 0)) end k → PutText l at (flatMap spaced (take (i + 1) xs)) end k
+  unfolding spaced
+  spaced-more i h p q r = puts-as (puts-then p (puts-then q r)) (sym more) refl
+    where
+      more : flatMap spaced (take (i + 1) xs) ≡ flatMap spaced (take i xs) ++ spaced (getD xs i 0)
+      more =
+          ap (λ k. flatMap spaced (take k xs)) (add-one i) ∙ ap (flatMap spaced) (take-suc xs i 0 h)
+          ∙ flatMap-append spaced (take i xs) (getD xs i 0 ∷ []) ∙ ap (λ ys. flatMap spaced (take i xs) ++ ys) (flatMap-one spaced (getD xs i 0))
+
+  pub spaced-done : (i : ℕ) → length xs ≤ i → {l m : List ℕ} {at end : ℕ} → PutText l at (flatMap spaced (take i xs)) end m
+      → PutText l at (flatMap spaced xs) end m
+  spaced-done i h p = puts-as p (ap (flatMap spaced) (take-all i xs h)) refl
+
 -- ---- the last line
 
-module _ (r w x : ℕ) where
-  closing-fields : named (ascii "reach ") r 32 ++ named (ascii "widest ") w 32 ++ named (ascii "withdrawn ") x 10 ≡ closing r w x
+module _ (r w : ℕ) (xs : List ℕ) where
+  closing-fields : named (ascii "reach ") r 32 ++ named (ascii "widest ") w 32 ++ ascii "withdrawn" ++ flatMap spaced xs ++ (10 ∷ []) ≡ closing r w xs
   unfolding field named closing
   closing-fields = simp append-assoc
 
-  pub closing-put : {l a b c : List ℕ} {at p q end : ℕ} → PutText l at (named (ascii "reach ") r 32) p a
-      → PutText a p (named (ascii "widest ") w 32) q b → PutText b q (named (ascii "withdrawn ") x 10) end c → PutText l at (closing r w x) end c
-  closing-put y z u = puts-as (puts-then (puts-then y z) u) closing-fields refl
-
-  closing-length : length (closing r w x)
-      ≡ length (named (ascii "reach ") r 32) + length (named (ascii "widest ") w 32) + length (named (ascii "withdrawn ") x 10)
-  closing-length = ap length (sym closing-fields) ∙ simp length-append
-
-  pub closing-short : r < 4294967296 → w < 4294967296 → x < 65536 → length (closing r w x) ≤ 51
-  closing-short a b c =
-      omega (
-        arith,
-        closing-length,
-        named-length (ascii "reach ") r 32,
-        named-length (ascii "widest ") w 32,
-        named-length (ascii "withdrawn ") x 10,
-        field-short 9 r 32 (omega arith),
-        field-short 9 w 32 (omega arith),
-        field-short 4 x 10 (omega arith),
-      )
-
-  -- room for its three fields
-  pub closing-room : r < 4294967296 → w < 4294967296 → x < 65536
-      → length (named (ascii "reach ") r 32) + length (named (ascii "widest ") w 32) + length (named (ascii "withdrawn ") x 10) ≤ 51
-  closing-room a b c = omega (arith, closing-length, closing-short a b c)
+  pub closing-put : {l a b c d e : List ℕ} {at p q s t end : ℕ} → PutText l at (named (ascii "reach ") r 32) p a
+      → PutText a p (named (ascii "widest ") w 32) q b → PutText b q (ascii "withdrawn") s c → PutText c s (flatMap spaced xs) t d
+      → PutText d t (10 ∷ []) end e → PutText l at (closing r w xs) end e
+  closing-put u v x y z = puts-as (puts-then (puts-then (puts-then (puts-then u v) x) y) z) closing-fields refl
 
 -- ---- a refusal
 
@@ -97,7 +102,7 @@ unfolding field named refusedText
 refused-field r = simp append-assoc
 
 pub refused-short : (x : ℕ) → x < 4294967296 → length (named (ascii "refused ") x 10) ≤ 19
-refused-short x h = omega (arith, named-length (ascii "refused ") x 10, field-short 9 x 10 (omega arith))
+refused-short x h = named-short (ascii "refused ") x 10 h
 
 pub refused-put : {l m : List ℕ} {at end x : ℕ} (r : Numbered) → x ≡ numberOf r → PutText l at (named (ascii "refused ") x 10) end m
     → PutText l at (refusedText r) end m
@@ -134,7 +139,7 @@ module _ {A : Type 0} (f : ℕ → A → List ℕ) where
 
 -- ---- the sheet
 
-module _ {answer : Blocked} (records : List BlockRecord) (withdrawn : ℕ) {l : List ℕ} {end : ℕ} where
+module _ {answer : Blocked} (records : List BlockRecord) (withdrawn : List ℕ) {l : List ℕ} {end : ℕ} where
   pub sheet-refused : {m : List ℕ} {why : Refusal} → answer ≡ Refused why → PutText l 0 (refusedText (numbered why)) end m
       → PutText l 0 (sheetText (blockedOf answer) records withdrawn) end m
   sheet-refused {m} e p = subst (λ a. PutText l 0 (sheetText (blockedOf a) records withdrawn) end m) (sym e) p
@@ -145,7 +150,7 @@ module _ {answer : Blocked} (records : List BlockRecord) (withdrawn : ℕ) {l : 
   sheet-done {a} {b} {m} e x y z = subst (λ a. PutText l 0 (sheetText (blockedOf a) records withdrawn) end m) (sym e) (puts-then (puts-then x y) z)
 
 -- the sheet of records that were written over old ones
-pub sheet-written : (F : Figures) (f : ℕ → BlockRecord) (old : List BlockRecord) (withdrawn : ℕ)
+pub sheet-written : (F : Figures) (f : ℕ → BlockRecord) (old : List BlockRecord) (withdrawn : List ℕ)
     → sheetText (value F) (overwrite (F .blocks) f old) withdrawn ≡ sheetText (value F) (tabulate (F .blocks) f) withdrawn
 unfolding overwrite
 sheet-written F f old withdrawn =

@@ -59,9 +59,9 @@ puts-over-zeros room {bytes} {end} {text} p =
 abbrev with-end : List ℕ → ℕ → Text
 with-end bytes end = record { bytes = bytes; length = end }
 
-pub puts-text : {bytes : List ℕ} {end : ℕ} {text : List ℕ} → PutText (replicate 2837 0) 0 text end bytes → with-end bytes end ≡ laidOut text
+pub puts-text : {bytes : List ℕ} {end : ℕ} {text : List ℕ} → PutText (replicate 2855 0) 0 text end bytes → with-end bytes end ≡ laidOut text
 unfolding laidOut
-puts-text p = let q = puts-over-zeros 2837 p in ap₂ with-end (q .0) (q .1)
+puts-text p = let q = puts-over-zeros 2855 p in ap₂ with-end (q .0) (q .1)
 
 -- ---- a loop that copies a text byte by byte
 

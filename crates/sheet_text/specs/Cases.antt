@@ -1,5 +1,5 @@
--- The sheets that document 01 prints, and some more. There are no proofs here: CasesProof.antt proves each statement, by computation.
--- Assumes nothing.
+-- The sheets that document 01 prints, with a count for each user (document 02, 2.7), and some more. There are no proofs here:
+-- CasesProof.antt proves each statement, by computation. Assumes nothing.
 use Prim.Native.Nat.{ℕ}
 use mathlib.Core.Path.{_≡_}
 use mathlib.Core.List.{[], _∷_, map}
@@ -24,21 +24,22 @@ HeadingLength = length heading ≡ 26
 -- one tide: one block of centre 1
 abbrev pub OneTide : Type 0
 OneTide =
-    sheetText (figures 1 0 0) (block 1 1 0 ∷ []) 0 ≡ ascii "block centre tides widest\n1 1 1 0\nreach 0 widest 0 withdrawn 0\n"
+    sheetText (figures 1 0 0) (block 1 1 0 ∷ []) (0 ∷ 0 ∷ 0 ∷ 0 ∷ [])
+    ≡ ascii "block centre tides widest\n1 1 1 0\nreach 0 widest 0 withdrawn 0 0 0 0\n"
 
--- the blocks of case 1; a record past the last block is not printed
+-- the blocks of case 1; a record past the last block is not printed; withdrawals in order of users
 abbrev pub TwoBlocks : Type 0
 TwoBlocks =
-    sheetText (figures 2 2 4) (block 1 3 2 ∷ block 2 3 4 ∷ block 9 9 9 ∷ []) 65535
-    ≡ ascii "block centre tides widest\n1 1 3 2\n2 2 3 4\nreach 2 widest 4 withdrawn 65535\n"
+    sheetText (figures 2 2 4) (block 1 3 2 ∷ block 2 3 4 ∷ block 9 9 9 ∷ []) (65535 ∷ 1 ∷ 20 ∷ 300 ∷ [])
+    ≡ ascii "block centre tides widest\n1 1 3 2\n2 2 3 4\nreach 2 widest 4 withdrawn 65535 1 20 300\n"
 
 -- a refusal prints its number alone
 abbrev pub TooFew : Type 0
-TooFew = sheetText (refusal (number 25)) [] 0 ≡ ascii "refused 25\n"
+TooFew = sheetText (refusal (number 25)) [] (0 ∷ 0 ∷ 0 ∷ 0 ∷ []) ≡ ascii "refused 25\n"
 
 -- 7 too, without its pair
 abbrev pub TriangleRefused : Type 0
-TriangleRefused = sheetText (refusal (seven 1 2)) [] 0 ≡ ascii "refused 7\n"
+TriangleRefused = sheetText (refusal (seven 1 2)) [] (0 ∷ 0 ∷ 0 ∷ 0 ∷ []) ≡ ascii "refused 7\n"
 
 -- numbers in decimal
 abbrev pub Decimals : Type 0

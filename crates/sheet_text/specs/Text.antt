@@ -1,9 +1,9 @@
--- The printed sheet (document 01), byte by byte. Assumes nothing.
+-- The printed sheet (document 01; a count for each user: document 02, 2.7), byte by byte. Assumes nothing.
 use Prim.Native.Nat.{ℕ, zero, suc, _+_, _/_, _%_}
 use Prim.Native.Char.{code}
 use Prim.Native.String.{String, [] as end, _∷_ as _before_}
 use mathlib.Core.Bool.{cond}
-use mathlib.Core.List.{List, [], _∷_, _++_}
+use mathlib.Core.List.{List, [], _∷_, _++_, flatMap}
 use lib.Dec.{ltb}
 use lib.ListN.{length, take, drop, replicate}
 use Rattle.study.specs.declared.BlockRecord.{BlockRecord}
@@ -32,6 +32,10 @@ digits (suc n) x = cond (ltb x 10) (digit x ∷ []) (digits n (x / 10) ++ (digit
 unfoldable pub decimal : ℕ → List ℕ
 decimal x = digits 10 x
 
+-- a number with a blank before it
+unfoldable pub spaced : ℕ → List ℕ
+spaced x = ascii " " ++ decimal x
+
 -- ---- lines
 
 -- one for each of what is numbered n, n + 1, ..
@@ -52,10 +56,10 @@ line n r =
 abbrev pub lines : ℕ → List BlockRecord → List ℕ
 lines n rs = eachLine line n rs
 
--- the last line: radius (document 01: reach), widest and withdrawals
-unfoldable pub closing : ℕ → ℕ → ℕ → List ℕ
+-- the last line: radius (document 01: reach), widest and each user's withdrawals
+unfoldable pub closing : ℕ → ℕ → List ℕ → List ℕ
 closing radius widest withdrawn =
-    ascii "reach " ++ decimal radius ++ ascii " widest " ++ decimal widest ++ ascii " withdrawn " ++ decimal withdrawn ++ ascii "\n"
+    ascii "reach " ++ decimal radius ++ ascii " widest " ++ decimal widest ++ ascii " withdrawn" ++ flatMap spaced withdrawn ++ ascii "\n"
 
 -- ---- the sheet
 
@@ -63,8 +67,8 @@ closing radius widest withdrawn =
 unfoldable pub refusedText : Numbered → List ℕ
 refusedText r = ascii "refused " ++ decimal (numberOf r) ++ ascii "\n"
 
--- what is printed of Block's answer, its records and the withdrawals: a line for each block, or the refusal alone
-abbrev pub sheetText : Reply Figures → List BlockRecord → ℕ → List ℕ
+-- what is printed of Block's answer, its records and each user's withdrawals: a line for each block, or the refusal alone
+abbrev pub sheetText : Reply Figures → List BlockRecord → List ℕ → List ℕ
 sheetText (value F) records withdrawn = heading ++ lines 1 (take (F .blocks) records) ++ closing (F .radius) (F .widest) withdrawn
 sheetText (refusal r) records withdrawn = refusedText r
 
@@ -72,6 +76,6 @@ sheetText (refusal r) records withdrawn = refusedText r
 unfoldable pub overZeros : ℕ → List ℕ → List ℕ
 overZeros room text = text ++ drop (length text) (replicate room 0)
 
--- a text by value: its bytes over the front of 2,837 zeros, and its length
+-- a text by value: its bytes over the front of 2,855 zeros, and its length
 unfoldable pub laidOut : List ℕ → Text
-laidOut text = record { bytes = overZeros 2837 text; length = length text }
+laidOut text = record { bytes = overZeros 2855 text; length = length text }

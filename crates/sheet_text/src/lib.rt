@@ -1,4 +1,4 @@
-// The text of the printed sheet: for any answer of Block, any records and any count of withdrawals.
+// The text of the printed sheet: for any answer of Block, any records and any counts of withdrawals.
 use crate::lines::put_closing;
 use crate::lines::put_lines;
 use crate::putting::put_bytes;
@@ -6,6 +6,7 @@ use crate::putting::put_refusal;
 use study::BlockRecord;
 use study::Blocked;
 use study::MAX_TIDES;
+use study::MAX_USERS;
 
 mod lines;
 pub mod putting;
@@ -17,9 +18,9 @@ ghost use Rattle.study.specs.Calls.{blockedOf};
 ghost use Rattle.sheet_text.specs.Text.{sheetText, laidOut};
 ghost use Rattle.sheet_text.specs.Putting.{PutText};
 
-// The text is the first `length` bytes, zeros stand after it: at most 26 of heading, 120 lines of 23 and a last line of 51.
+// The text is the first `length` bytes, zeros stand after it: at most 26 of heading, 120 lines of 23 and a last line of 69.
 pub struct Text {
-    pub bytes: [u8; 2837],
+    pub bytes: [u8; 2855],
     pub length: usize,
 }
 
@@ -28,10 +29,10 @@ fn put_sheet(
     out: &mut [u8],
     answer: Blocked,
     records: [BlockRecord; MAX_TIDES],
-    withdrawn: u16,
+    withdrawn: [u16; MAX_USERS],
 ) -> usize
-    requires { ⌜ 2837 ≤ length (now out) ⌝ }
-    ensures { λ r. ⌜ (r ≤ 2837) × PutText (now (out .entry)) 0 (sheetText (blockedOf answer) records withdrawn) r (now (out .exit)) ⌝ }
+    requires { ⌜ 2855 ≤ length (now out) ⌝ }
+    ensures { λ r. ⌜ (r ≤ 2855) × PutText (now (out .entry)) 0 (sheetText (blockedOf answer) records withdrawn) r (now (out .exit)) ⌝ }
 {
     match answer {
         Blocked::Refused(why) => put_refusal(out, 0, why),
@@ -43,12 +44,16 @@ fn put_sheet(
     }
 }
 
-// The printed sheet by value, as document 01 lays it out.
-pub fn sheet_text(answer: Blocked, records: [BlockRecord; MAX_TIDES], withdrawn: u16) -> Text
-    ensures fits { λ r. ⌜ r .length ≤ 2837 ⌝ }
+// The printed sheet by value, as document 01 lays it out, with a count for each user (document 02, 2.7).
+pub fn sheet_text(
+    answer: Blocked,
+    records: [BlockRecord; MAX_TIDES],
+    withdrawn: [u16; MAX_USERS],
+) -> Text
+    ensures fits { λ r. ⌜ r .length ≤ 2855 ⌝ }
     ensures text { λ r. ⌜ r ≡ laidOut (sheetText (blockedOf answer) records withdrawn) ⌝ }
 {
-    let mut bytes = [0u8; 2837];
+    let mut bytes = [0u8; 2855];
     let length = put_sheet(&mut bytes, answer, records, withdrawn);
     Text { bytes, length }
 }

@@ -1,12 +1,17 @@
 // The lines of the sheet after its heading.
+use crate::putting::put_byte;
+use crate::putting::put_bytes;
 use crate::putting::put_field;
 use crate::putting::put_named;
+use crate::putting::put_number;
 use study::BlockRecord;
 use study::MAX_TIDES;
+use study::MAX_USERS;
+ghost use mathlib.Core.List.{flatMap};
 ghost use Prim.Native.Nat.{_+_, _≤_};
 ghost use lib.ListN.{length, take};
 ghost use Rattle.study.specs.Limits.{maxTides};
-ghost use Rattle.sheet_text.specs.Text.{line, lines, closing};
+ghost use Rattle.sheet_text.specs.Text.{spaced, line, lines, closing};
 ghost use Rattle.sheet_text.specs.Putting.{PutText};
 
 // The line of one block.
@@ -42,12 +47,35 @@ pub fn put_lines(
     end
 }
 
+// Each user's withdrawals, a blank before each.
+fn put_counts(out: &mut [u8], at: usize, counts: [u16; MAX_USERS]) -> usize
+    requires { ⌜ at + 24 ≤ length (now out) ⌝ }
+    ensures { λ r. ⌜ (r ≤ at + 24) × PutText (now (out .entry)) at (flatMap spaced counts) r (now (out .exit)) ⌝ }
+{
+    let mut end = at;
+    let mut i: usize = 0;
+    while i < MAX_USERS {
+        let after_blank = put_byte(out, end, b' ');
+        end = put_number(out, after_blank, counts[i] as u32);
+        i += 1;
+    }
+    end
+}
+
 // The last line.
-pub fn put_closing(out: &mut [u8], at: usize, radius: u32, widest: u32, withdrawn: u16) -> usize
-    requires { ⌜ at + 51 ≤ length (now out) ⌝ }
-    ensures { λ r. ⌜ (r ≤ at + 51) × PutText (now (out .entry)) at (closing radius widest withdrawn) r (now (out .exit)) ⌝ }
+pub fn put_closing(
+    out: &mut [u8],
+    at: usize,
+    radius: u32,
+    widest: u32,
+    withdrawn: [u16; MAX_USERS],
+) -> usize
+    requires { ⌜ at + 69 ≤ length (now out) ⌝ }
+    ensures { λ r. ⌜ (r ≤ at + 69) × PutText (now (out .entry)) at (closing radius widest withdrawn) r (now (out .exit)) ⌝ }
 {
     let after_radius = put_named(out, at, b"reach ", radius, b' ');
     let after_widest = put_named(out, after_radius, b"widest ", widest, b' ');
-    put_named(out, after_widest, b"withdrawn ", withdrawn as u32, b'\n')
+    let after_word = put_bytes(out, after_widest, b"withdrawn");
+    let after_counts = put_counts(out, after_word, withdrawn);
+    put_byte(out, after_counts, b'\n')
 }

@@ -12,7 +12,7 @@ fn print(bytes: [u8; 185], length: usize)
 
 fn main() {
     // one byte more than the longest file decides (`Decided` of tariff_text/specs/Limit.antt)
-    let mut input = [0u8; 17909];
+    let mut input = [0u8; 17915];
     let count = io::read_full(STDIN_FILENO, &mut input);
     let text = tariff_text::tariff(&input[..count]);
     let bytes = text.bytes;

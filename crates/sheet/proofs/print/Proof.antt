@@ -10,7 +10,7 @@ use Rattle.sheet.proofs.print.Tie as tie
 slice-aggregate-write-all : tie.Need-slice-aggregate-write-all
 slice-aggregate-write-all c =
     let a = c .before .args in
-    let long : length (a .t1) ≡ 2837 = search needs in
+    let long : length (a .t1) ≡ 2855 = search needs in
     sym (length-take-le (a .length) (a .t1) (omega arith))
 
 pub print-spec : {M : Type 1} → statement M

@@ -11,8 +11,9 @@ use Rattle.sheet_of_file.proofs.blocked_sheet.Tie as tie
 
 returns : tie.Need-returns
 returns c =
-    let a = c .before .before .before .before .before .before .before .args in
-    let blocked = c .before .before .before .block-by-value .ensures in
+    let call = c .before .before .before .before in
+    let a = call .before .before .before .before .args in
+    let blocked = call .block-by-value .ensures in
     let text = c .sheet-text .ensures in
     let s = stateOf (a .dataset) (a .distances .now) (a .settings .now) in
     (text .0, text .1 ∙ ap laidOut (blocked-text s _ (length-replicate {A = ℕ} 120 0) (blocked .0) (blocked .1 .1)))
