@@ -10,11 +10,11 @@ extern "C" {
 #endif
 
 /*
- * A dataset is a record of 12 numbers (k, n, b0, b1 .. b8, withdrawals) and lent memory: 14,400 distances in rows of 120, and 120
- * settings. Longer lists keep what stands past these places. Tides are numbered from 1.
+ * A dataset is a record of 15 numbers (k, n, b0, b1 .. b8, and the withdrawals of users 1 to 4) and lent memory: 14,400 distances in
+ * rows of 120, and 120 settings. Longer lists keep what stands past these places. Tides are numbered from 1.
  *
  * Each list is a pointer that isn't null and a length in elements. Lists of one call don't overlap. Each single number has 32 bits, a
- * table's n those of a size_t, and counts as it is given: 257 is no k, no setting and no tide.
+ * table's n those of a size_t, and counts as it is given: 257 is no k, no setting, no tide and no user.
  *
  * Each call answers 0, or the number of the first reason that holds, in the order given. For 7 it answers 7 + 256 i + 65,536 j,
  * where i < j is the first pair of tides with which the three-tide rule breaks. A refused call changes nothing.
@@ -23,12 +23,13 @@ extern "C" {
  *  2  k not 1 to 8                                   11  filling bits not zero
  *  3  b0 not 1 to 120, a b above k not 0, or the b's 12  judged list's length differs from n
  *     together above b0 (tides_minima: above 120)    13  table not the same both ways, or a tide not at 0 from itself
- *  4  row length differs from the tides held         21  record and memory are no dataset
- *  5  setting not 1 to k                             22  120 tides held already
- *  6  distance above 1,048,575                       23  no tide of that number
- *  7  three-tide rule broken                         24  no tides
- *  8  file under 6 bytes, or not of its length       25  fewer than b0 tides, or fewer of a setting than its b
- *  9  mark wrong                                     26  withdrawals already 65,535
+ *  4  row length differs from the tides held         14  user not 1 to 4
+ *  5  setting not 1 to k                             21  record and memory are no dataset
+ *  6  distance above 1,048,575                       22  120 tides held already
+ *  7  three-tide rule broken                         23  no tide of that number
+ *  8  file under 6 bytes, of mark 55 under 12, or    24  no tides
+ *     not of its length                              25  fewer than b0 tides, or fewer of a setting than its b
+ *  9  mark neither 54 nor 55 (hexadecimal)           26  this user's withdrawals already 65,535
  */
 
 /* The dataset becomes empty: the given k, b0 = 1, every b = 0, no withdrawals. Any record and memory will do. Reasons: 1, 2. */
@@ -46,9 +47,9 @@ uint32_t tides_minima(uint16_t *record, size_t record_length, const uint32_t *di
 uint32_t tides_enter(uint16_t *record, size_t record_length, uint32_t *distances, size_t distances_length, uint8_t *settings,
                      size_t settings_length, uint32_t setting, const uint32_t *row, size_t row_length);
 
-/* The named tide goes, and later tides move down by one. Reasons: 1, 21, 23, 26. */
+/* The named tide goes, later tides move down by one, and the user's withdrawals go up by one. Reasons: 1, 14, 21, 23, 26. */
 uint32_t tides_withdraw(uint16_t *record, size_t record_length, uint32_t *distances, size_t distances_length, uint8_t *settings,
-                        size_t settings_length, uint32_t tide);
+                        size_t settings_length, uint32_t user, uint32_t tide);
 
 /*
  * The centres at radius g. The list gets their tide numbers in its front, and count[0] how many they are. For each tide, nearest gets the
@@ -91,13 +92,16 @@ uint32_t tides_judge(const uint16_t *record, size_t record_length, const uint32_
                      size_t result_length);
 
 /*
- * The dataset that a study file holds. Any record and memory will do. Reasons: 1, 8 (under 6 bytes), 9, 10, 2, 8, 3, 11; then for
- * each tide 5, 7.
+ * The dataset that a study file holds. A file of mark 54 has one count of withdrawals, which becomes user 1's; the others are 0 then. Any
+ * record and memory will do. Reasons: 1, 8 (under 6 bytes), 9, 8 (mark 55 under 12 bytes), 10, 2, 8, 3, 11; then for each tide 5, 7.
  */
 uint32_t tides_read(uint16_t *record, size_t record_length, uint32_t *distances, size_t distances_length, uint8_t *settings,
                     size_t settings_length, const uint8_t *file, size_t file_length);
 
-/* The study file of the dataset, in the front of the bytes; its length goes into result[0]. Reasons: 1 (with result), 21, 1 (file). */
+/*
+ * The study file of the dataset, of mark 55, in the front of the bytes; its length, at most 17,914, goes into result[0]. Reasons: 1 (with
+ * result), 21, 1 (file).
+ */
 uint32_t tides_write(const uint16_t *record, size_t record_length, const uint32_t *distances, size_t distances_length,
                      const uint8_t *settings, size_t settings_length, uint8_t *file, size_t file_length, uint32_t *result,
                      size_t result_length);

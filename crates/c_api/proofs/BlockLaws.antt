@@ -3,7 +3,7 @@ use Prim.Native.Nat.{ℕ, _≤_, _<_, min}
 use native.Mathlib.Omega.{arith}
 use mathlib.Core.Path.{_≡_, refl, sym, ap, _∙_, subst}
 use mathlib.Core.Logic.{_⊎_}
-use mathlib.Core.List.{List, _++_}
+use mathlib.Core.List.{List, [], _++_}
 use lib.ListN.{length, drop, getD}
 use Rattle.lists.specs.Lists.{tabulate, overwrite, over}
 use Rattle.lists.proofs.Tables.{length-tabulate, overwrite-ext}
@@ -23,7 +23,7 @@ use Rattle.blocking.specs.Answers.{blockAnswer, blockReply, blockList}
 use Rattle.blocking.specs.Rows.{rowAt, RowsOf}
 use Rattle.blocking.proofs.RowLaws.{rows-count, row-is}
 use Rattle.guarantee.specs.Runs.{figureNumbers}
-use Rattle.c_api.specs.Api.{Lent, stateIn, code, output, Places, places, recordRoom, column, blocksVerdict, blocksLeft, blockNumbers}
+use Rattle.c_api.specs.Api.{Lent, recordSize, stateIn, code, output, Places, places, recordRoom, column, blocksVerdict, blocksLeft, blockNumbers}
 use Rattle.c_api.proofs.RecordLaws.{withRecord, front-written}
 use Rattle.c_api.specs.Records.{Narrow, ColumnRoom}
 use Rattle.c_api.proofs.CodeLaws.{small, held-narrow}
@@ -64,7 +64,7 @@ module _ (s : State) (list room : ℕ) (a : Blocked) (p : blockedOf a ≡ blockR
 
   pub block-narrow : {why : Refusal} → a ≡ BlockedCase.Refused why → Narrow (refused (numbered why))
   unfolding blockAnswer blockReasons
-  block-narrow e = subst Narrow (block-why e) (held-narrow s (λ H. blockReasons (H .study) list room) (λ _. (small tt, (small tt, (small tt, tt)))))
+  block-narrow e = subst Narrow (block-why e) (held-narrow s [] (λ H. blockReasons (H .study) list room) (λ _. (small tt, (small tt, (small tt, tt)))))
 
   module _ {b r w : ℕ} (e : a ≡ BlockedCase.Done b r w) where
     abbrev given : Figures
@@ -106,7 +106,7 @@ module _ (need : ℕ) (numbers : Study → List ℕ) (l : Lent) (p : Places) whe
   abbrev Settled : ℕ → Places → Type 0
   Settled c q = (c ≡ code (blocksVerdict need l p)) × (q ≡ blocksLeft need numbers l p)
 
-  pub blocks-too-short : (length (l .numbers) < 12) ⊎ (length (p .result) < need) → Settled 1 p
+  pub blocks-too-short : (length (l .numbers) < recordSize) ⊎ (length (p .result) < need) → Settled 1 p
   unfolding blocksVerdict blocksLeft
   blocks-too-short h =
       let e = lacks-one (l .numbers) (p .result) h in (

@@ -1,10 +1,10 @@
 -- From what a Rattle call answers and leaves to what the call for C does. Assumes nothing.
 use Prim.Native.Nat.{ℕ, _≤_, _<_}
 use native.Mathlib.Omega.{arith}
-use mathlib.Core.Path.{_≡_, refl, sym, ap, _∙_, subst}
+use mathlib.Core.Path.{_≡_, refl, sym, ap, ap₂, _∙_, subst}
 use mathlib.Core.Logic.{_⊎_, inl, inr}
 use mathlib.Core.Bool.{Bool, true, false, _||_}
-use mathlib.Core.List.{List, flatMap}
+use mathlib.Core.List.{List, [], _∷_, flatMap}
 use lib.ListN.{length}
 use borrow.Author.Tests.{lt-ltb, le-ltb}
 use Rattle.lists.specs.Lists.{iota, over}
@@ -31,7 +31,7 @@ use Rattle.dataset.proofs.AnswerLaws.{fresh-own, accepted-held}
 use Rattle.narrowing.specs.Narrowing.{narrowed, narrowDataset}
 use Rattle.narrowing.proofs.Proofs.{unchanged, as-given}
 use Rattle.study_file.specs.Answers.{readAnswer, readLeaves}
-use Rattle.c_api.specs.Api.{Lent, lent, minimaAt, datasetOf, numbersOf, stateIn, code, roomFirst, lacks, left}
+use Rattle.c_api.specs.Api.{Lent, recordSize, lent, minimaAt, datasetOf, numbersOf, stateIn, code, roomFirst, lacks, left}
 use Rattle.c_api.specs.Api.{openVerdict, openLeft, minimaVerdict, minimaLeft, enterVerdict, enterLeft}
 use Rattle.c_api.specs.Api.{withdrawVerdict, withdrawLeft, readVerdict, readLeft}
 use Rattle.c_api.specs.Records.{Narrow, Storable}
@@ -76,12 +76,12 @@ module _ (s : State) where
   fresh-sound : (own : List Reason) (H : Contents) → AllNarrow own → (firstOf own ≡ accepted → ValidContents H) → Sound (freshAnswer s own) H
   fresh-sound own H n valid = record { narrow = fresh-narrow s own n; valid = λ e. valid (fresh-own s own e .1) }
 
-  held-sound : (own : Contents → List Reason) (f : Contents → Contents) → ((H : Contents) → ValidContents H → AllNarrow (own H))
-      → ((H : Contents) → ValidContents H → firstOf (own H) ≡ accepted → ValidContents (f H)) → Sound (heldAnswer s own) (f (contentsOf s))
-  held-sound own f narrow keeps =
+  held-sound : (users : List ℕ) (own : Contents → List Reason) (f : Contents → Contents) → ((H : Contents) → ValidContents H → AllNarrow (own H))
+      → ((H : Contents) → ValidContents H → firstOf (own H) ≡ accepted → ValidContents (f H)) → Sound (heldAnswer s users own) (f (contentsOf s))
+  held-sound users own f narrow keeps =
       record {
-        narrow = held-narrow s own (λ e. narrow (contentsOf s) (valid e));
-        valid = λ e. let A = accepted-held s own e in keeps (contentsOf s) (valid (A .tested)) (A .reasons);
+        narrow = held-narrow s users own (λ e. narrow (contentsOf s) (valid e));
+        valid = λ e. let A = accepted-held s users own e in keeps (contentsOf s) (valid (A .tested)) (A .reasons);
       }
     where
       valid : isDataset s ≡ true → ValidContents (contentsOf s)
@@ -93,11 +93,11 @@ module _ (s : State) where
 
   pub minima-sound : (M : Minima) → Sound (minimaAnswer s M) (settingMinima M (contentsOf s))
   unfolding minimaAnswer minimaReasons
-  minima-sound M = held-sound (λ H. minimaReasons (H .study) M) (settingMinima M) (λ H ok. (small tt, tt)) (for-calls .on-minima M)
+  minima-sound M = held-sound [] (λ H. minimaReasons (H .study) M) (settingMinima M) (λ H ok. (small tt, tt)) (for-calls .on-minima M)
 
   pub enter-sound : (setting : ℕ) (row : List ℕ) → Sound (enterAnswer s setting row) (entering setting row (contentsOf s))
   unfolding enterAnswer enterReasons
-  enter-sound setting row = held-sound (λ H. enterReasons (H .study) setting row) (entering setting row) narrow (for-calls .on-enter setting row)
+  enter-sound setting row = held-sound [] (λ H. enterReasons (H .study) setting row) (entering setting row) narrow (for-calls .on-enter setting row)
     where
       narrow : (H : Contents) → ValidContents H → AllNarrow (enterReasons (H .study) setting row)
       narrow H ok = (
@@ -105,9 +105,10 @@ module _ (s : State) where
         (small tt, (small tt, (small tt, (pair-narrow _ _ _ (omega (arith, ok .study .few)), tt)))),
       )
 
-  pub withdraw-sound : (t : ℕ) → Sound (withdrawAnswer s t) (withdrawing t (contentsOf s))
+  pub withdraw-sound : (u t : ℕ) → Sound (withdrawAnswer s u t) (withdrawing u t (contentsOf s))
   unfolding withdrawAnswer withdrawReasons
-  withdraw-sound t = held-sound (λ H. withdrawReasons H t) (withdrawing t) (λ H ok. (small tt, (small tt, tt))) (for-calls .on-withdraw t)
+  withdraw-sound u t =
+      held-sound (u ∷ []) (λ H. withdrawReasons H u t) (withdrawing u t) (λ H ok. (small tt, (small tt, tt))) (for-calls .on-withdraw u t)
 
   pub read-sound : (file : List ℕ) → Sound (readAnswer s file) (decoded file)
   unfolding readAnswer readReasons headReasons tideReasons
@@ -119,11 +120,11 @@ module _ (s : State) where
       narrow : AllNarrow (readReasons file)
       narrow =
           append-narrow (headReasons file) (flatMap (tideReasons S) (iota 0 (size S)))
-          (small tt, (small tt, (small tt, (small tt, (small tt, (small tt, (small tt, tt)))))))
+          (small tt, (small tt, (small tt, (small tt, (small tt, (small tt, (small tt, (small tt, tt))))))))
           (runs-narrow (tideReasons S) 0 (size S) (λ t l. (small tt, (pair-narrow _ _ _ (omega (arith, decoded-size file, bitsAt-small file 8 7)), tt))))
 
 -- the record that it made, by its contract, can be written
-pub storable : {numbers : List ℕ} {v w : Verdict} {H : Contents} {r : Dataset} {d g : List ℕ} (s : State) → Sound v H → 12 ≤ length numbers
+pub storable : {numbers : List ℕ} {v w : Verdict} {H : Contents} {r : Dataset} {d g : List ℕ} (s : State) → Sound v H → recordSize ≤ length numbers
     → (w ≡ v) × (stateOf r d g ≡ settled v (stored H s) s) → Storable numbers w r
 unfolding stored recordOf
 storable {numbers} {v} {w} {H} {r} {d} {g} s S room (e, f) =
@@ -141,12 +142,13 @@ pub record Same (v′ v : Verdict) (H′ H : Contents) : Type 0 where
   pub contents : v ≡ accepted → H′ ≡ H
 
 module _ (l : Lent) {r : Dataset} (e : r ≡ narrowDataset (datasetOf (l .numbers))) where
-  pub same-held : (own : Contents → List Reason) (f : Contents → Contents)
-      → Same (heldAnswer (withRecord l r) own) (heldAnswer (stateIn l) own) (f (contentsOf (withRecord l r))) (f (contentsOf (stateIn l)))
+  pub same-held : (users : List ℕ) (own : Contents → List Reason) (f : Contents → Contents)
+      → Same (heldAnswer (withRecord l r) users own) (heldAnswer (stateIn l) users own) (f (contentsOf (withRecord l r))) (f (contentsOf (stateIn l)))
   unfolding stateIn
-  same-held own f =
-      let N = unchanged (stateIn l) .on-record own in
-      subst (λ x. Same (heldAnswer (withRecord l x) own) (heldAnswer (stateIn l) own) (f (contentsOf (withRecord l x))) (f (contentsOf (stateIn l)))) (sym e)
+  same-held users own f =
+      let N = unchanged (stateIn l) .on-record users own in
+      let v = heldAnswer (stateIn l) users own in
+      subst (λ x. Same (heldAnswer (withRecord l x) users own) v (f (contentsOf (withRecord l x))) (f (contentsOf (stateIn l)))) (sym e)
       (record { verdict = N .0; contents = λ q. ap (λ s. f (contentsOf s)) (N .1 q) })
 
   pub same-fresh : (own : List Reason) (H : Contents) → Same (freshAnswer (withRecord l r) own) (freshAnswer (stateIn l) own) H H
@@ -163,13 +165,13 @@ left-too-short l v s e = (rw e, rw e)
 
 -- a call got the record in l as o and made r of it; its verdict w gave the code c and the numbers m
 pub record Stored (l : Lent) (o r : Dataset) (w : Verdict) (c : ℕ) (m : List ℕ) : Type 0 where
-  pub room : 12 ≤ length (l .numbers)
+  pub room : recordSize ≤ length (l .numbers)
   pub held : o ≡ narrowDataset (datasetOf (l .numbers))
   pub settles : (c ≡ code w) × (m ≡ settled w (over (numbersOf r) (l .numbers)) (l .numbers))
 
 module _ {l : Lent} {o r : Dataset} {w : Verdict} {c : ℕ} {m : List ℕ} (D : Stored l o r w c m) where
-  abbrev whole : lacks 12 (l .numbers) ≡ false
-  whole = lacks-no 12 (l .numbers) (D .room)
+  abbrev whole : lacks recordSize (l .numbers) ≡ false
+  whole = lacks-no recordSize (l .numbers) (D .room)
 
   -- the record as the code holds it, with the memory
   abbrev s : State
@@ -209,7 +211,7 @@ module _ {l : Lent} {o r : Dataset} {w : Verdict} {c : ℕ} {m : List ℕ} (D : 
     unfolding minimaVerdict minimaLeft minimaAnswer minimaLeaves heldLeaves
     minima-left minima room e did =
         let N = minimaAt 0 minima in
-        left-own (lacks-neither (l .numbers) minima (D .room) room) (same-held l (D .held) (λ H. minimaReasons (H .study) N) (settingMinima N))
+        left-own (lacks-neither (l .numbers) minima (D .room) room) (same-held l (D .held) [] (λ H. minimaReasons (H .study) N) (settingMinima N))
         (as-given (minimaAnswer s) (minimaLeaves s) e (refl, refl) did)
 
     pub enter-left : (setting : ℕ) (row : List ℕ) {y : ℕ} → y ≡ narrowed setting
@@ -217,15 +219,17 @@ module _ {l : Lent} {o r : Dataset} {w : Verdict} {c : ℕ} {m : List ℕ} (D : 
         → (c ≡ code (enterVerdict l setting row)) × (lent m d g ≡ enterLeft l setting row)
     unfolding enterVerdict enterLeft enterAnswer enterLeaves heldLeaves
     enter-left setting row e did =
-        left-own whole (same-held l (D .held) (λ H. enterReasons (H .study) setting row) (entering setting row))
+        left-own whole (same-held l (D .held) [] (λ H. enterReasons (H .study) setting row) (entering setting row))
         (as-given (λ x. enterAnswer s x row) (λ x. enterLeaves s x row) e (unchanged s .on-enter setting row) did)
 
-    pub withdraw-left : (t : ℕ) {y : ℕ} → y ≡ narrowed t → (w ≡ withdrawAnswer s y) × (stateOf r d g ≡ withdrawLeaves s y)
-        → (c ≡ code (withdrawVerdict l t)) × (lent m d g ≡ withdrawLeft l t)
+    pub withdraw-left : (u t : ℕ) {x y : ℕ} → x ≡ narrowed u → y ≡ narrowed t
+        → (w ≡ withdrawAnswer s x y) × (stateOf r d g ≡ withdrawLeaves s x y)
+        → (c ≡ code (withdrawVerdict l u t)) × (lent m d g ≡ withdrawLeft l u t)
     unfolding withdrawVerdict withdrawLeft withdrawAnswer withdrawLeaves heldLeaves
-    withdraw-left t e did =
-        left-own whole (same-held l (D .held) (λ H. withdrawReasons H t) (withdrawing t))
-        (as-given (withdrawAnswer s) (withdrawLeaves s) e (unchanged s .on-withdraw t) did)
+    withdraw-left u t {x} {y} p q did =
+        let N = unchanged s .on-withdraw u t in
+        left-own whole (same-held l (D .held) (u ∷ []) (λ H. withdrawReasons H u t) (withdrawing u t))
+        (did .0 ∙ ap₂ (withdrawAnswer s) p q ∙ N .0, did .1 ∙ ap₂ (withdrawLeaves s) p q ∙ N .1)
 
     pub read-left : (file : List ℕ) → (w ≡ readAnswer s file) × (stateOf r d g ≡ readLeaves s file)
         → (c ≡ code (readVerdict l file)) × (lent m d g ≡ readLeft l file)
@@ -242,15 +246,16 @@ left-state l {tooShort} {v} {H} e S = rw e (by v (S .valid))
     by : (w : Verdict) → (w ≡ accepted → ValidContents H)
         → stateIn (left l w (settled w (stored H (stateIn l)) (stateIn l))) ≡ settled w (stored H (stateIn l)) (stateIn l)
     by accepted valid =
-        let fit = validMinima-T (H .study .k) (H .study .minima) .0 (valid refl .study .minima) in
+        let ok = valid refl in
+        let fit = validMinima-T (H .study .k) (H .study .minima) .0 (ok .study .minima) in
         let new = stored H (stateIn l) in
-        ap (λ r. stateOf r (new .distances) (new .settings)) (read-back (recordOf H (stateIn l .dataset)) (fit .eight) (l .numbers))
+        ap (λ r. stateOf r (new .distances) (new .settings)) (read-back (recordOf H (stateIn l .dataset)) (fit .eight) (ok .counts .four) (l .numbers))
     by (refused y) valid = refl
 
-module _ (l : Lent) (room : 12 ≤ length (l .numbers)) where
+module _ (l : Lent) (room : recordSize ≤ length (l .numbers)) where
   pub open-carried : (k : ℕ) → stateIn (openLeft l k) ≡ openLeaves (stateIn l) k
   unfolding openLeft openVerdict openLeaves freshLeaves openAnswer
-  open-carried k = left-state l (lacks-no 12 (l .numbers) room) (open-sound (stateIn l) k)
+  open-carried k = left-state l (lacks-no recordSize (l .numbers) room) (open-sound (stateIn l) k)
 
   pub minima-carried : (minima : List ℕ) → 9 ≤ length minima → stateIn (minimaLeft l minima) ≡ minimaLeaves (stateIn l) (minimaAt 0 minima)
   unfolding minimaLeft minimaVerdict minimaLeaves heldLeaves minimaAnswer
@@ -258,12 +263,12 @@ module _ (l : Lent) (room : 12 ≤ length (l .numbers)) where
 
   pub enter-carried : (setting : ℕ) (row : List ℕ) → stateIn (enterLeft l setting row) ≡ enterLeaves (stateIn l) setting row
   unfolding enterLeft enterVerdict enterLeaves heldLeaves enterAnswer
-  enter-carried setting row = left-state l (lacks-no 12 (l .numbers) room) (enter-sound (stateIn l) setting row)
+  enter-carried setting row = left-state l (lacks-no recordSize (l .numbers) room) (enter-sound (stateIn l) setting row)
 
-  pub withdraw-carried : (t : ℕ) → stateIn (withdrawLeft l t) ≡ withdrawLeaves (stateIn l) t
+  pub withdraw-carried : (u t : ℕ) → stateIn (withdrawLeft l u t) ≡ withdrawLeaves (stateIn l) u t
   unfolding withdrawLeft withdrawVerdict withdrawLeaves heldLeaves withdrawAnswer
-  withdraw-carried t = left-state l (lacks-no 12 (l .numbers) room) (withdraw-sound (stateIn l) t)
+  withdraw-carried u t = left-state l (lacks-no recordSize (l .numbers) room) (withdraw-sound (stateIn l) u t)
 
   pub read-carried : (file : List ℕ) → stateIn (readLeft l file) ≡ readLeaves (stateIn l) file
   unfolding readLeft readVerdict readLeaves freshLeaves readAnswer
-  read-carried file = left-state l (lacks-no 12 (l .numbers) room) (read-sound (stateIn l) file)
+  read-carried file = left-state l (lacks-no recordSize (l .numbers) room) (read-sound (stateIn l) file)

@@ -5,10 +5,10 @@ use mathlib.Core.Path.{_≡_, refl, sym, ap, _∙_, subst}
 use mathlib.Core.Bool.{Bool, true, false, cond, not}
 use mathlib.Core.List.{List, [], _∷_, _++_, map, flatMap, List·Memᴰ·head as here}
 use lib.Dec.{T, leb, leb→le}
-use Rattle.lists.specs.Lists.{_among_, iota, filter}
+use Rattle.lists.specs.Lists.{_among_, iota, allOf, filter}
 use Rattle.lists.proofs.Members.{filter-mem, map-mem, flatMap-mem, range-mem}
 use Rattle.study.specs.Study.{Contents}
-use Rattle.study.specs.Refusals.{Numbered, number, seven, refused, Reason, firstOf, freshReasons, heldReasons}
+use Rattle.study.specs.Refusals.{Numbered, number, seven, refused, Reason, firstOf, freshReasons, isUser, heldReasons}
 use Rattle.study.specs.declared.refusals.Number.{Number}
 use Rattle.study.specs.declared.refusals.Number.the-variants.{Seven}
 use Rattle.study.specs.Numbers.{saidBy}
@@ -89,11 +89,14 @@ module _ (s : State) where
   unfolding freshAnswer freshReasons
   fresh-narrow own h = first-narrow (freshReasons (short s) own) (small tt, h)
 
-  pub held-narrow : (own : Contents → List Reason) → (isDataset s ≡ true → AllNarrow (own (contentsOf s))) → Narrow (heldAnswer s own)
+  pub held-narrow : (users : List ℕ) (own : Contents → List Reason) → (isDataset s ≡ true → AllNarrow (own (contentsOf s)))
+      → Narrow (heldAnswer s users own)
   unfolding heldAnswer heldReasons freshReasons firstOf
-  held-narrow own f = by (short s) (isDataset s) f
+  held-narrow users own f = by (short s) (allOf isUser users) (isDataset s) f
     where
-      by : (a b : Bool) → (b ≡ true → AllNarrow (own (contentsOf s))) → Narrow (firstOf (heldReasons a b (own (contentsOf s))))
-      by true b h = small tt
-      by false true h = first-narrow (own (contentsOf s)) (h refl)
-      by false false h = small tt
+      by : (a u b : Bool) → (b ≡ true → AllNarrow (own (contentsOf s)))
+          → Narrow (cond a (refused (number 1)) (cond (not u) (refused (number 14)) (cond (not b) (refused (number 21)) (firstOf (own (contentsOf s))))))
+      by true u b h = small tt
+      by false true true h = first-narrow (own (contentsOf s)) (h refl)
+      by false true false h = small tt
+      by false false b h = small tt

@@ -2,7 +2,7 @@
 use Prim.Native.Nat.{ℕ, _<_}
 use mathlib.Core.Path.{_≡_, sym, ap, _∙_, subst}
 use mathlib.Core.Logic.{_⊎_}
-use mathlib.Core.List.{List}
+use mathlib.Core.List.{List, []}
 use lib.ListN.{length, getD}
 use Rattle.lists.specs.Lists.{overwrite, over}
 use Rattle.study.specs.declared.Refusal.{Refusal}
@@ -15,7 +15,7 @@ use Rattle.study.specs.Calls.{judgeReasons, Judgement, judgement, judgedOf}
 use Rattle.study.proofs.CallLaws.{reply-refused, reply-value}
 use Rattle.validity.specs.Memory.{State, studyOf, contentsOf}
 use Rattle.blocking.specs.Answers.{judgeAnswer, judgeReply}
-use Rattle.c_api.specs.Api.{Lent, code, judgementPair, judgeVerdict, judgeResult}
+use Rattle.c_api.specs.Api.{Lent, recordSize, code, judgementPair, judgeVerdict, judgeResult}
 use Rattle.c_api.proofs.RecordLaws.{withRecord, front-written}
 use Rattle.c_api.specs.Records.{Narrow}
 use Rattle.c_api.proofs.CodeLaws.{small, held-narrow}
@@ -30,14 +30,15 @@ module _ (s : State) (list : List ℕ) (j : Judged) (p : judgedOf j ≡ judgeRep
 
   pub judge-narrow : {why : Refusal} → j ≡ JudgedCase.Refused why → Narrow (refused (numbered why))
   unfolding judgeAnswer judgeReasons
-  judge-narrow e = subst Narrow (judge-why e) (held-narrow s (λ H. judgeReasons (H .study) list) (λ _. (small tt, (small tt, tt))))
+  judge-narrow e = subst Narrow (judge-why e) (held-narrow s [] (λ H. judgeReasons (H .study) list) (λ _. (small tt, (small tt, tt))))
 
   judge-value : {x : Judgement} → judgedOf j ≡ value x → (judgeAnswer s list ≡ accepted) × (x ≡ judgement (studyOf s) list)
   unfolding judgeReply
   judge-value e = reply-value (judgeAnswer s list) (judgement (studyOf s) list) (sym e ∙ p)
 
 module _ (l : Lent) (list result : List ℕ) where
-  pub judge-too-short : (length (l .numbers) < 12) ⊎ (length result < 2) → (1 ≡ code (judgeVerdict l list result)) × (result ≡ judgeResult l list result)
+  pub judge-too-short : (length (l .numbers) < recordSize) ⊎ (length result < 2)
+      → (1 ≡ code (judgeVerdict l list result)) × (result ≡ judgeResult l list result)
   unfolding judgeVerdict judgeResult
   judge-too-short h = let e = lacks-one (l .numbers) result h in (code-too-short _ e, output-too-short _ e _ result)
 

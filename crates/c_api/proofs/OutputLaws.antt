@@ -5,6 +5,7 @@ use mathlib.Core.Path.{_≡_, refl, sym, ap, _∙_, subst}
 use mathlib.Core.Logic.{_⊎_}
 use mathlib.Core.Bool.{Bool, true, _||_}
 use mathlib.Core.List.{List, [], _∷_}
+use lib.Dec.{lit≤}
 use lib.ListN.{length, set, length-map}
 use Rattle.lists.proofs.Tests.{true-T}
 use Rattle.study.specs.declared.Answer.{Answer}
@@ -31,7 +32,7 @@ use Rattle.study_file.proofs.Lengths.{length-sum}
 use Rattle.blocking.specs.Answers.{centresAnswer, centresFront, centresLeaves}
 use Rattle.narrowing.specs.Narrowing.{narrowDataset}
 use Rattle.lists.specs.Lists.{over}
-use Rattle.c_api.specs.Api.{Lent, datasetOf, stateIn, code, roomFirst, lacks, output}
+use Rattle.c_api.specs.Api.{Lent, recordSize, datasetOf, stateIn, code, roomFirst, lacks, output}
 use Rattle.c_api.specs.Api.{centresVerdict, centresLeft, centresCount, writeVerdict, writeFile, writeLength}
 use Rattle.c_api.specs.Records.{Narrow}
 use Rattle.c_api.proofs.RecordLaws.{withRecord}
@@ -71,27 +72,27 @@ module _ {tooShort : Bool} (v : Verdict) (e : tooShort ≡ true) where
 
 -- r is the record in l as the code holds it, and a list of fixed size has its m places
 pub record Reads (l : Lent) (r : Dataset) (m : ℕ) (fixed : List ℕ) : Type 0 where
-  pub room : 12 ≤ length (l .numbers)
+  pub room : recordSize ≤ length (l .numbers)
   pub enough : m ≤ length fixed
   pub held : r ≡ narrowDataset (datasetOf (l .numbers))
 
 -- then the call's own verdict counts, and is that of the record itself
 module _ {l : Lent} {r : Dataset} {m : ℕ} {fixed : List ℕ} (R : Reads l r m fixed) (own : Contents → List Reason) where
   abbrev verdict : Verdict
-  verdict = heldAnswer (stateIn l) own
+  verdict = heldAnswer (stateIn l) [] own
 
   abbrev whole : Verdict
-  whole = roomFirst (lacks 12 (l .numbers) || lacks m fixed) verdict
+  whole = roomFirst (lacks recordSize (l .numbers) || lacks m fixed) verdict
 
   abbrev held : Verdict
-  held = heldAnswer (withRecord l r) own
+  held = heldAnswer (withRecord l r) [] own
 
   same : Same held verdict (contentsOf (withRecord l r)) (contentsOf (stateIn l))
-  same = same-held l (R .held) own (λ H. H)
+  same = same-held l (R .held) [] own (λ H. H)
 
   whole-is : verdict ≡ whole
   unfolding roomFirst
-  whole-is = rw (lacks-neither {n = 12} {m = m} (l .numbers) fixed (R .room) (R .enough))
+  whole-is = rw (lacks-neither {n = recordSize} {m = m} (l .numbers) fixed (R .room) (R .enough))
 
   pub code-own : {y : Verdict} → held ≡ y → code y ≡ code whole
   code-own q = ap code (sym q ∙ same .verdict ∙ whole-is)
@@ -118,7 +119,7 @@ module _ {l : Lent} {r : Dataset} {m : ℕ} {fixed : List ℕ} (R : Reads l r m 
 module _ (lists : CentreLists) (s : State) where
   pub centres-narrow : Narrow (centresAnswer s lists)
   unfolding centresAnswer centresReasons
-  centres-narrow = held-narrow s (λ H. centresReasons (H .study) lists) (λ _. (small tt, (small tt, tt)))
+  centres-narrow = held-narrow s [] (λ H. centresReasons (H .study) lists) (λ _. (small tt, (small tt, tt)))
 
   module _ (g : ℕ) (a : Answer) {count : ℕ} (p : verdictOf a ≡ centresAnswer s lists) (q : a ≡ Done) (e : count ≡ length (centresFront s g lists)) where
     abbrev done : centresAnswer s lists ≡ accepted
@@ -131,7 +132,7 @@ module _ (lists : CentreLists) (s : State) where
     pub count-fits : count < 65536
     unfolding centresAnswer contentsOf centreNumbers centres problem
     count-fits =
-        let A = accepted-held s (λ H. centresReasons (H .study) lists) done in
+        let A = accepted-held s [] (λ H. centresReasons (H .study) lists) done in
         omega (
           arith,
           counted,
@@ -145,7 +146,7 @@ module _ (l : Lent) (g : ℕ) (lists : CentreLists) (count : List ℕ) where
   abbrev CentresSettled : ℕ → CentreLists → List ℕ → Type 0
   CentresSettled c new n = (c ≡ code (centresVerdict l lists count)) × ((new ≡ centresLeft l g lists count) × (n ≡ centresCount l g lists count))
 
-  pub centres-too-short : (length (l .numbers) < 12) ⊎ (length count < 1) → CentresSettled 1 lists count
+  pub centres-too-short : (length (l .numbers) < recordSize) ⊎ (length count < 1) → CentresSettled 1 lists count
   unfolding centresVerdict centresLeft centresCount
   centres-too-short h = let e = lacks-one (l .numbers) count h in (code-too-short _ e, (stays-too-short _ e _ lists, output-too-short _ e _ count))
 
@@ -180,9 +181,9 @@ module _ (room : ℕ) (s : State) where
   length-fits : writeAnswer s room ≡ accepted → length (fileOf (contentsOf s)) < 4294967296
   unfolding writeAnswer byteLength
   length-fits a =
-      let A = accepted-held s (λ H. writeReasons H room) a in
+      let A = accepted-held s [] (λ H. writeReasons H room) a in
       let ok : ValidContents (contentsOf s) = for-datasets .valid s (true-T (isDataset s) (A .tested)) in
-      let most = length-sum (contentsOf s .study .k) (size (contentsOf s .study)) (ok .study .k-high) (ok .study .few) .most in
+      let most = length-sum 4 (contentsOf s .study .k) (size (contentsOf s .study)) (lit≤ tt) (ok .study .k-high) (ok .study .few) .most in
       omega (arith, files .file-length (contentsOf s) ok)
 
   module _ (w : Written) (p : writtenOf w ≡ writeReply s room) where
@@ -192,7 +193,7 @@ module _ (room : ℕ) (s : State) where
 
     pub why-narrow : {why : Refusal} → w ≡ WrittenCase.Refused why → Narrow (refused (numbered why))
     unfolding writeAnswer writeReasons
-    why-narrow e = subst Narrow (write-why e) (held-narrow s (λ H. writeReasons H room) (λ _. (small tt, tt)))
+    why-narrow e = subst Narrow (write-why e) (held-narrow s [] (λ H. writeReasons H room) (λ _. (small tt, tt)))
 
     write-size : {n : ℕ} → w ≡ WrittenCase.Done n → (writeAnswer s room ≡ accepted) × (n ≡ length (fileOf (contentsOf s)))
     unfolding writeReply
@@ -202,7 +203,7 @@ module _ (room : ℕ) (s : State) where
     size-fits e = let q = write-size e in omega (arith, q .1, length-fits (q .0))
 
 module _ (l : Lent) (file result : List ℕ) where
-  pub write-too-short : (length (l .numbers) < 12) ⊎ (length result < 1)
+  pub write-too-short : (length (l .numbers) < recordSize) ⊎ (length result < 1)
       → (1 ≡ code (writeVerdict l file result)) × ((file ≡ writeFile l file result) × (result ≡ writeLength l file result))
   unfolding writeVerdict writeFile writeLength
   write-too-short h = let e = lacks-one (l .numbers) result h in (code-too-short _ e, (output-too-short _ e _ file, output-too-short _ e _ result))

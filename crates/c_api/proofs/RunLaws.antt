@@ -19,7 +19,7 @@ use Rattle.guarantee.specs.Runs.{Query, make-blocks, inquiring, figureNumbers, 
 use Rattle.guarantee.specs.Runs.{output as outputs}
 use Rattle.guarantee.specs.Theorems.{AsContracts, Guaranteed, blocked}
 use Rattle.guarantee.proofs.Proofs.{demand1, demand3}
-use Rattle.c_api.specs.Api.{Lent, minimaAt, stateIn, roomFirst, lacks, output, left, openLeft, minimaVerdict, minimaLeft}
+use Rattle.c_api.specs.Api.{Lent, recordSize, minimaAt, stateIn, roomFirst, lacks, output, left, openLeft, minimaVerdict, minimaLeft}
 use Rattle.c_api.specs.Api.{enterLeft, withdrawLeft, readLeft, Places, recordRoom, blocksVerdict, blocksLeft}
 use Rattle.c_api.specs.Runs.{CCall, c-open, c-read, c-minima, c-enter, c-withdraw, c-centres, c-block, c-tariff, c-judge, c-write}
 use Rattle.c_api.specs.Runs.{cAfter, cRun, recordsIn, unless, callsOf}
@@ -41,7 +41,7 @@ after-long l (c-open k) = left-long l _ _
 after-long l (c-read file) = left-long l _ _
 after-long l (c-minima minima) = left-long l _ _
 after-long l (c-enter setting row) = left-long l _ _
-after-long l (c-withdraw t) = left-long l _ _
+after-long l (c-withdraw u t) = left-long l _ _
 after-long l (c-centres g lists count) = omega arith
 after-long l (c-block p) = omega arith
 after-long l (c-tariff p) = omega arith
@@ -50,7 +50,7 @@ after-long l (c-write file result) = omega arith
 
 -- ---- a call for C is the call
 
-module _ (l : Lent) (room : 12 ≤ length (l .numbers)) where
+module _ (l : Lent) (room : recordSize ≤ length (l .numbers)) where
   minima-too-short : (minima : List ℕ) → length minima < 9 → stateIn (minimaLeft l minima) ≡ stateIn l
   unfolding minimaLeft minimaVerdict
   minima-too-short minima h = ap stateIn (sym (left-too-short l _ _ (lacks-one (l .numbers) minima (inr h)) .1))
@@ -78,7 +78,7 @@ module _ (l : Lent) (room : 12 ≤ length (l .numbers)) where
   step (c-read file) = read-carried l room file ∙ sym (as-contract .on-read file .1)
   step (c-minima minima) = minima-step minima
   step (c-enter setting row) = enter-carried l room setting row ∙ sym (as-contract .on-enter setting row .1)
-  step (c-withdraw t) = withdraw-carried l room t ∙ sym (as-contract .on-withdraw t .1)
+  step (c-withdraw u t) = withdraw-carried l room u t ∙ sym (as-contract .on-withdraw u t .1)
   step (c-centres g lists count) = asked (lacks 1 count) _
   step (c-block p) = asked (lacks 3 (p .result)) _
   step (c-tariff p) = asked (lacks 12 (p .result)) _
@@ -134,7 +134,7 @@ unfolding blocksVerdict blocksLeft output
 c-demand3 l cs p room ok =
     let s = stateIn (cRun l cs) in
     let F = figures (studyOf s) in
-    let e = room-own (lacks 12 (cRun l cs .numbers) || lacks 3 (p .result)) (blockAnswer s (length (p .list)) (recordRoom p)) ok in
+    let e = room-own (lacks recordSize (cRun l cs .numbers) || lacks 3 (p .result)) (blockAnswer s (length (p .list)) (recordRoom p)) ok in
     let q = ap (λ t. response t (call-ask (make-blocks (p .list) (recordsIn p)))) (sym (as-run l cs room)) ∙ answered s p e in
     let D = demand3 .guaranteed (stateIn l) (flatMap callsOf cs) (p .list) (list s p e) (recordsIn p) _ F q in
     (D .0, F, D .1, ap (λ v. output v (figureNumbers F) (p .result)) ok, subst (Guaranteed (D .0) F) (listed s p e ok) (D .2))

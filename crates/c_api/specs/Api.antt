@@ -1,11 +1,11 @@
--- What the calls for C answer and leave. A dataset's record is 12 numbers: k, n, b0, b1 .. b8, withdrawals. Assumes nothing.
+-- What the calls for C answer and leave. A dataset's record is 15 numbers: k, n, b0, b1 .. b8, and each user's withdrawals. Assumes nothing.
 use Prim.Native.Nat.{ℕ, _+_, _*_, min}
 use mathlib.Core.Bool.{Bool, cond, _||_}
 use mathlib.Core.List.{List, [], _∷_, _++_}
 use lib.Dec.{ltb}
 use lib.ListN.{length, getD}
 use Rattle.lists.specs.Lists.{tabulate, over}
-use Rattle.study.specs.Limits.{maxSettings}
+use Rattle.study.specs.Limits.{maxSettings, maxUsers}
 use Rattle.study.specs.declared.Minima.{Minima}
 use Rattle.study.specs.declared.Dataset.{Dataset}
 use Rattle.study.specs.declared.BlockRecord.{BlockRecord}
@@ -38,13 +38,17 @@ lent n d s = record { numbers = n; distances = d; settings = s }
 unfoldable pub minimaAt : ℕ → List ℕ → Minima
 minimaAt p l = record { b0 = getD l p 0; b = tabulate maxSettings (λ j. getD l (p + 1 + j) 0) }
 
--- the dataset's record in 12 numbers, each as it is given
-unfoldable pub datasetOf : List ℕ → Dataset
-datasetOf l = record { k = getD l 0 0; n = getD l 1 0; minima = minimaAt 2 l; withdrawn = getD l 11 0 }
+-- how many numbers a dataset's record has
+abbrev pub recordSize : ℕ
+recordSize = 15
 
--- the 12 numbers of a record, as they are written
+-- the record in them, each as it is given
+unfoldable pub datasetOf : List ℕ → Dataset
+datasetOf l = record { k = getD l 0 0; n = getD l 1 0; minima = minimaAt 2 l; withdrawn = tabulate maxUsers (λ i. getD l (11 + i) 0) }
+
+-- the numbers of a record, as they are written
 unfoldable pub numbersOf : Dataset → List ℕ
-numbersOf r = r .k ∷ r .n ∷ r .minima .b0 ∷ (r .minima .b ++ (r .withdrawn ∷ []))
+numbersOf r = r .k ∷ r .n ∷ r .minima .b0 ∷ (r .minima .b ++ r .withdrawn)
 
 -- what the call looks at; a number that no dataset has, such as k = 300, makes it no dataset (21)
 unfoldable pub stateIn : Lent → State
@@ -80,7 +84,7 @@ left l v s = settled v (lent (over (numbersOf (s .dataset)) (l .numbers)) (s .di
 
 -- what Open answers, given the number of settings
 unfoldable pub openVerdict : Lent → ℕ → Verdict
-openVerdict l k = roomFirst (lacks 12 (l .numbers)) (openAnswer (stateIn l) k)
+openVerdict l k = roomFirst (lacks recordSize (l .numbers)) (openAnswer (stateIn l) k)
 
 -- record and memory after it
 unfoldable pub openLeft : Lent → ℕ → Lent
@@ -90,7 +94,7 @@ openLeft l k = left l (openVerdict l k) (openLeaves (stateIn l) k)
 
 -- what Minima answers
 unfoldable pub minimaVerdict : Lent → List ℕ → Verdict
-minimaVerdict l minima = roomFirst (lacks 12 (l .numbers) || lacks 9 minima) (minimaAnswer (stateIn l) (minimaAt 0 minima))
+minimaVerdict l minima = roomFirst (lacks recordSize (l .numbers) || lacks 9 minima) (minimaAnswer (stateIn l) (minimaAt 0 minima))
 
 -- record and memory after it
 unfoldable pub minimaLeft : Lent → List ℕ → Lent
@@ -100,7 +104,7 @@ minimaLeft l minima = left l (minimaVerdict l minima) (minimaLeaves (stateIn l) 
 
 -- what Enter answers, given a setting and a row of distances
 unfoldable pub enterVerdict : Lent → ℕ → List ℕ → Verdict
-enterVerdict l setting row = roomFirst (lacks 12 (l .numbers)) (enterAnswer (stateIn l) setting row)
+enterVerdict l setting row = roomFirst (lacks recordSize (l .numbers)) (enterAnswer (stateIn l) setting row)
 
 -- record and memory after it
 unfoldable pub enterLeft : Lent → ℕ → List ℕ → Lent
@@ -108,19 +112,19 @@ enterLeft l setting row = left l (enterVerdict l setting row) (enterLeaves (stat
 
 -- ---- Withdraw
 
--- what Withdraw answers, given a tide's number
-unfoldable pub withdrawVerdict : Lent → ℕ → Verdict
-withdrawVerdict l t = roomFirst (lacks 12 (l .numbers)) (withdrawAnswer (stateIn l) t)
+-- what Withdraw answers, given a user and a tide's number
+unfoldable pub withdrawVerdict : Lent → ℕ → ℕ → Verdict
+withdrawVerdict l u t = roomFirst (lacks recordSize (l .numbers)) (withdrawAnswer (stateIn l) u t)
 
 -- record and memory after it
-unfoldable pub withdrawLeft : Lent → ℕ → Lent
-withdrawLeft l t = left l (withdrawVerdict l t) (withdrawLeaves (stateIn l) t)
+unfoldable pub withdrawLeft : Lent → ℕ → ℕ → Lent
+withdrawLeft l u t = left l (withdrawVerdict l u t) (withdrawLeaves (stateIn l) u t)
 
 -- ---- Read
 
 -- what Read answers, given a study file
 unfoldable pub readVerdict : Lent → List ℕ → Verdict
-readVerdict l file = roomFirst (lacks 12 (l .numbers)) (readAnswer (stateIn l) file)
+readVerdict l file = roomFirst (lacks recordSize (l .numbers)) (readAnswer (stateIn l) file)
 
 -- record and memory after it
 unfoldable pub readLeft : Lent → List ℕ → Lent
@@ -130,7 +134,7 @@ readLeft l file = left l (readVerdict l file) (readLeaves (stateIn l) file)
 
 -- what Centres answers
 unfoldable pub centresVerdict : Lent → CentreLists → List ℕ → Verdict
-centresVerdict l lists count = roomFirst (lacks 12 (l .numbers) || lacks 1 count) (centresAnswer (stateIn l) lists)
+centresVerdict l lists count = roomFirst (lacks recordSize (l .numbers) || lacks 1 count) (centresAnswer (stateIn l) lists)
 
 -- the three lists after it
 unfoldable pub centresLeft : Lent → ℕ → CentreLists → List ℕ → CentreLists
@@ -164,7 +168,7 @@ column f S = tabulate (figures S .blocks) (λ i. f (blockRecord S i))
 
 -- what it answers, where the result needs this room
 unfoldable pub blocksVerdict : ℕ → Lent → Places → Verdict
-blocksVerdict room l p = roomFirst (lacks 12 (l .numbers) || lacks room (p .result)) (blockAnswer (stateIn l) (length (p .list)) (recordRoom p))
+blocksVerdict room l p = roomFirst (lacks recordSize (l .numbers) || lacks room (p .result)) (blockAnswer (stateIn l) (length (p .list)) (recordRoom p))
 
 -- the five lists after it: list, columns, and these numbers of the study in the result
 unfoldable pub blocksLeft : ℕ → (Study → List ℕ) → Lent → Places → Places
@@ -207,7 +211,7 @@ tariffLeft = blocksLeft 12 priceNumbers
 
 -- what Judge answers
 unfoldable pub judgeVerdict : Lent → List ℕ → List ℕ → Verdict
-judgeVerdict l list result = roomFirst (lacks 12 (l .numbers) || lacks 2 result) (judgeAnswer (stateIn l) list)
+judgeVerdict l list result = roomFirst (lacks recordSize (l .numbers) || lacks 2 result) (judgeAnswer (stateIn l) list)
 
 -- 1 and the greatest diameter for yes, 0 and 0 for no
 abbrev pub judgementPair : Judgement → List ℕ
@@ -222,7 +226,7 @@ judgeResult l list result = output (judgeVerdict l list result) (judgementPair (
 
 -- what Write answers
 unfoldable pub writeVerdict : Lent → List ℕ → List ℕ → Verdict
-writeVerdict l file result = roomFirst (lacks 12 (l .numbers) || lacks 1 result) (writeAnswer (stateIn l) (length file))
+writeVerdict l file result = roomFirst (lacks recordSize (l .numbers) || lacks 1 result) (writeAnswer (stateIn l) (length file))
 
 -- the lent bytes after it: the study file in front
 unfoldable pub writeFile : Lent → List ℕ → List ℕ → List ℕ

@@ -6,7 +6,7 @@ use lib.ListN.{length}
 use Rattle.study.specs.declared.Dataset.{Dataset}
 use Rattle.study.specs.Limits.{maxTides}
 use Rattle.study.specs.Refusals.{Verdict, accepted}
-use Rattle.c_api.specs.Api.{code}
+use Rattle.c_api.specs.Api.{recordSize, code}
 
 -- the code has 32 bits
 pub record Narrow (v : Verdict) : Type 0 where
@@ -21,6 +21,6 @@ pub record ColumnRoom (count : ℕ) (centres sizes diameters : List ℕ) : Type 
 
 -- room for the record, such a code and, of an accepted call, a number of tides of 16 bits
 pub record Storable (numbers : List ℕ) (v : Verdict) (r : Dataset) : Type 0 where
-  pub room : 12 ≤ length numbers
+  pub room : recordSize ≤ length numbers
   pub narrow : Narrow v
   pub few : v ≡ accepted → r .n < 65536

@@ -18,8 +18,8 @@ pub data CCall : Type 0 where
   c-minima : List ℕ → CCall
   -- a setting and a row
   c-enter : ℕ → List ℕ → CCall
-  -- a tide's number
-  c-withdraw : ℕ → CCall
+  -- a user, and a tide's number
+  c-withdraw : ℕ → ℕ → CCall
   -- a radius, three lists, and a place for the count
   c-centres : ℕ → CentreLists → List ℕ → CCall
   c-block : Places → CCall
@@ -35,7 +35,7 @@ cAfter l (c-open k) = openLeft l k
 cAfter l (c-read file) = readLeft l file
 cAfter l (c-minima minima) = minimaLeft l minima
 cAfter l (c-enter setting row) = enterLeft l setting row
-cAfter l (c-withdraw t) = withdrawLeft l t
+cAfter l (c-withdraw u t) = withdrawLeft l u t
 cAfter l (c-centres g lists count) = l
 cAfter l (c-block p) = l
 cAfter l (c-tariff p) = l
@@ -61,7 +61,7 @@ callsOf (c-open k) = call-open k ∷ []
 callsOf (c-read file) = call-read file ∷ []
 callsOf (c-minima minima) = unless (lacks 9 minima) (call-change (set-minima (minimaAt 0 minima)))
 callsOf (c-enter setting row) = call-change (enter setting row) ∷ []
-callsOf (c-withdraw t) = call-change (withdraw t) ∷ []
+callsOf (c-withdraw u t) = call-change (withdraw u t) ∷ []
 callsOf (c-centres g lists count) = unless (lacks 1 count) (call-ask (find-centres g lists))
 callsOf (c-block p) = unless (lacks 3 (p .result)) (call-ask (make-blocks (p .list) (recordsIn p)))
 callsOf (c-tariff p) = unless (lacks 12 (p .result)) (call-ask (price-blocks (p .list) (recordsIn p)))

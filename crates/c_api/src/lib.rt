@@ -1,9 +1,10 @@
 // The calls for C and whoever links C: functions on numbers and slices, each with the whole contract of the Rattle call behind it.
-// A dataset's record is 12 numbers of 16 bits: k, n, b0, b1 .. b8, withdrawals. Each call answers 0, or the refusal's number;
+// A dataset's record is 15 numbers of 16 bits: k, n, b0, b1 .. b8, and each user's withdrawals. Each call answers 0, or the refusal's number;
 // for 7 its pair i < j besides, as 7 + 256 i + 65,536 j. A single number has 32 bits, and is narrowed where the call behind takes a byte:
 // the contracts speak of the number as it is given. include/tides.h declares them.
 use crate::code::answer_code;
 use crate::code::refusal_code;
+use crate::numbers::RECORD_SIZE;
 use crate::numbers::dataset_of;
 use crate::numbers::minima_of;
 use crate::numbers::store_outcome;
@@ -43,7 +44,7 @@ pub extern "C" fn tides_open(
     ensures leaves { λ _. ⌜ lent (now (numbers .exit)) (now (distances .exit)) (now (settings .exit))
         ≡ openLeft (lent (now (numbers .entry)) (now (distances .entry)) (now (settings .entry))) k ⌝ }
 {
-    if numbers.len() < 12 {
+    if numbers.len() < RECORD_SIZE {
         return 1;
     }
     let outcome = dataset::open(dataset_of(numbers), distances, settings, narrow(k));
@@ -63,7 +64,7 @@ pub extern "C" fn tides_minima(
     ensures leaves { λ _. ⌜ lent (now (numbers .exit)) (now (distances .entry)) (now (settings .entry))
         ≡ minimaLeft (lent (now (numbers .entry)) (now (distances .entry)) (now (settings .entry))) (now (minima .entry)) ⌝ }
 {
-    if numbers.len() < 12 {
+    if numbers.len() < RECORD_SIZE {
         return 1;
     }
     if minima.len() < 9 {
@@ -87,7 +88,7 @@ pub extern "C" fn tides_enter(
     ensures leaves { λ _. ⌜ lent (now (numbers .exit)) (now (distances .exit)) (now (settings .exit))
         ≡ enterLeft (lent (now (numbers .entry)) (now (distances .entry)) (now (settings .entry))) setting (now (row .entry)) ⌝ }
 {
-    if numbers.len() < 12 {
+    if numbers.len() < RECORD_SIZE {
         return 1;
     }
     let outcome = dataset::enter(
@@ -100,22 +101,29 @@ pub extern "C" fn tides_enter(
     store_outcome(numbers, outcome)
 }
 
-// Withdraw: the tide of this number goes.
+// Withdraw: the tide of this number goes, and is counted for this user.
 #[no_mangle]
 pub extern "C" fn tides_withdraw(
     numbers: &mut [u16],
     distances: &mut [u32],
     settings: &mut [u8],
+    user: u32,
     tide: u32,
 ) -> u32
-    ensures code { λ r. ⌜ r ≡ code (withdrawVerdict (lent (now (numbers .entry)) (now (distances .entry)) (now (settings .entry))) tide) ⌝ }
+    ensures code { λ r. ⌜ r ≡ code (withdrawVerdict (lent (now (numbers .entry)) (now (distances .entry)) (now (settings .entry))) user tide) ⌝ }
     ensures leaves { λ _. ⌜ lent (now (numbers .exit)) (now (distances .exit)) (now (settings .exit))
-        ≡ withdrawLeft (lent (now (numbers .entry)) (now (distances .entry)) (now (settings .entry))) tide ⌝ }
+        ≡ withdrawLeft (lent (now (numbers .entry)) (now (distances .entry)) (now (settings .entry))) user tide ⌝ }
 {
-    if numbers.len() < 12 {
+    if numbers.len() < RECORD_SIZE {
         return 1;
     }
-    let outcome = dataset::withdraw(dataset_of(numbers), distances, settings, narrow(tide));
+    let outcome = dataset::withdraw(
+        dataset_of(numbers),
+        distances,
+        settings,
+        narrow(user),
+        narrow(tide),
+    );
     store_outcome(numbers, outcome)
 }
 
@@ -132,7 +140,7 @@ pub extern "C" fn tides_read(
     ensures leaves { λ _. ⌜ lent (now (numbers .exit)) (now (distances .exit)) (now (settings .exit))
         ≡ readLeft (lent (now (numbers .entry)) (now (distances .entry)) (now (settings .entry))) (now (file .entry)) ⌝ }
 {
-    if numbers.len() < 12 {
+    if numbers.len() < RECORD_SIZE {
         return 1;
     }
     let outcome = study_file::read(dataset_of(numbers), distances, settings, file);
@@ -160,7 +168,7 @@ pub extern "C" fn tides_centres(
     ensures count { λ _. ⌜ now (count .exit)
         ≡ centresCount (lent (now (numbers .entry)) (now (distances .entry)) (now (settings .entry))) g (entryLists list nearest away) (now (count .entry)) ⌝ }
 {
-    if numbers.len() < 12 {
+    if numbers.len() < RECORD_SIZE {
         return 1;
     }
     if count.len() < 1 {
@@ -202,7 +210,7 @@ pub extern "C" fn tides_block(
         ≡ blockLeft (lent (now (numbers .entry)) (now (distances .entry)) (now (settings .entry)))
         (places (now (list .entry)) (now (centres .entry)) (now (sizes .entry)) (now (diameters .entry)) (now (result .entry))) ⌝ }
 {
-    if numbers.len() < 12 {
+    if numbers.len() < RECORD_SIZE {
         return 1;
     }
     if result.len() < 3 {
@@ -238,7 +246,7 @@ pub extern "C" fn tides_judge(
     ensures result { λ _. ⌜ now (result .exit)
         ≡ judgeResult (lent (now (numbers .entry)) (now (distances .entry)) (now (settings .entry))) (now (list .entry)) (now (result .entry)) ⌝ }
 {
-    if numbers.len() < 12 {
+    if numbers.len() < RECORD_SIZE {
         return 1;
     }
     if result.len() < 2 {
@@ -276,7 +284,7 @@ pub extern "C" fn tides_write(
     ensures length { λ _. ⌜ now (result .exit)
         ≡ writeLength (lent (now (numbers .entry)) (now (distances .entry)) (now (settings .entry))) (now (file .entry)) (now (result .entry)) ⌝ }
 {
-    if numbers.len() < 12 {
+    if numbers.len() < RECORD_SIZE {
         return 1;
     }
     if result.len() < 1 {

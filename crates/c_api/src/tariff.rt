@@ -1,5 +1,6 @@
 // Block with what its blocks cost, for C (document 02, 2.3: tariff for a trial).
 use crate::code::refusal_code;
+use crate::numbers::RECORD_SIZE;
 use crate::numbers::dataset_of;
 use crate::rows::least;
 use crate::rows::put_columns;
@@ -51,7 +52,7 @@ pub extern "C" fn tides_tariff(
         ≡ tariffLeft (lent (now (numbers .entry)) (now (distances .entry)) (now (settings .entry)))
         (places (now (list .entry)) (now (centres .entry)) (now (sizes .entry)) (now (diameters .entry)) (now (result .entry))) ⌝ }
 {
-    if numbers.len() < 12 {
+    if numbers.len() < RECORD_SIZE {
         return 1;
     }
     if result.len() < 12 {

@@ -1,6 +1,6 @@
 -- A record that is too short is refused 1; otherwise the call's own contract, on the record as the code holds it. No loop. Assumes nothing.
 use borrow.Author.Needs.{needs}
-use Rattle.c_api.specs.Api.{enterVerdict, enterLeft}
+use Rattle.c_api.specs.Api.{recordSize, enterVerdict, enterLeft}
 use Rattle.c_api.proofs.CallLaws.{lacks-yes, storable, enter-sound, left-too-short, enter-left}
 use Rattle.dataset.specs.Answers.{enterLeaves, heldLeaves, enterAnswer}
 use Rattle.c_api.proofs.tides_enter.Statement.{statement}
@@ -8,7 +8,7 @@ use Rattle.c_api.proofs.tides_enter.Tie as tie
 
 returns : tie.Need-returns
 unfolding enterVerdict enterLeft
-returns c = left-too-short _ _ _ (lacks-yes 12 _ (c .if1 .taken))
+returns c = left-too-short _ _ _ (lacks-yes recordSize _ (c .if1 .taken))
 
 store-outcome-requires : tie.Need-store-outcome-requires
 unfolding enterLeaves heldLeaves enterAnswer

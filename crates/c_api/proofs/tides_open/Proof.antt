@@ -1,6 +1,6 @@
 -- A record that is too short is refused 1; otherwise the call's own contract, on the record as the code holds it. No loop. Assumes nothing.
 use borrow.Author.Needs.{needs}
-use Rattle.c_api.specs.Api.{openVerdict, openLeft}
+use Rattle.c_api.specs.Api.{recordSize, openVerdict, openLeft}
 use Rattle.c_api.proofs.CallLaws.{lacks-yes, storable, open-sound, left-too-short, open-left}
 use Rattle.dataset.specs.Answers.{openLeaves, freshLeaves, openAnswer}
 use Rattle.c_api.proofs.tides_open.Statement.{statement}
@@ -8,7 +8,7 @@ use Rattle.c_api.proofs.tides_open.Tie as tie
 
 returns : tie.Need-returns
 unfolding openVerdict openLeft
-returns c = left-too-short _ _ _ (lacks-yes 12 _ (c .if1 .taken))
+returns c = left-too-short _ _ _ (lacks-yes recordSize _ (c .if1 .taken))
 
 store-outcome-requires : tie.Need-store-outcome-requires
 unfolding openLeaves freshLeaves openAnswer

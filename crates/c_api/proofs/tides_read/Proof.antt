@@ -1,6 +1,6 @@
 -- A record that is too short is refused 1; otherwise the call's own contract, on the record as the code holds it. No loop. Assumes nothing.
 use borrow.Author.Needs.{needs}
-use Rattle.c_api.specs.Api.{readVerdict, readLeft}
+use Rattle.c_api.specs.Api.{recordSize, readVerdict, readLeft}
 use Rattle.c_api.proofs.CallLaws.{lacks-yes, storable, read-sound, left-too-short, read-left}
 use Rattle.dataset.specs.Answers.{freshLeaves}
 use Rattle.study_file.specs.Answers.{readLeaves, readAnswer}
@@ -9,7 +9,7 @@ use Rattle.c_api.proofs.tides_read.Tie as tie
 
 returns : tie.Need-returns
 unfolding readVerdict readLeft
-returns c = left-too-short _ _ _ (lacks-yes 12 _ (c .if1 .taken))
+returns c = left-too-short _ _ _ (lacks-yes recordSize _ (c .if1 .taken))
 
 store-outcome-requires : tie.Need-store-outcome-requires
 unfolding readLeaves freshLeaves readAnswer

@@ -1,6 +1,6 @@
 -- A record that is too short is refused 1; otherwise the call's own contract, on the record as the code holds it. No loop. Assumes nothing.
 use borrow.Author.Needs.{needs}
-use Rattle.c_api.specs.Api.{withdrawVerdict, withdrawLeft}
+use Rattle.c_api.specs.Api.{recordSize, withdrawVerdict, withdrawLeft}
 use Rattle.c_api.proofs.CallLaws.{lacks-yes, storable, withdraw-sound, left-too-short, withdraw-left}
 use Rattle.dataset.specs.Answers.{withdrawLeaves, heldLeaves, withdrawAnswer}
 use Rattle.c_api.proofs.tides_withdraw.Statement.{statement}
@@ -8,27 +8,30 @@ use Rattle.c_api.proofs.tides_withdraw.Tie as tie
 
 returns : tie.Need-returns
 unfolding withdrawVerdict withdrawLeft
-returns c = left-too-short _ _ _ (lacks-yes 12 _ (c .if1 .taken))
+returns c = left-too-short _ _ _ (lacks-yes recordSize _ (c .if1 .taken))
 
 store-outcome-requires : tie.Need-store-outcome-requires
 unfolding withdrawLeaves heldLeaves withdrawAnswer
 store-outcome-requires c κs =
     let called = c .before .before .before .before .before in
-    storable _ (withdraw-sound _ _) (called .before .before .before .before .before .before .if1 .left) (called .withdraw .ensures)
+    storable _ (withdraw-sound _ _ _) (called .before .before .before .before .before .before .before .if1 .left) (called .withdraw .ensures)
 
 returns-2 : tie.Need-returns-2
 returns-2 c =
     let settled = c .before .before in
     let called = settled .before .before .before .before .before .before in
-    let got = called .before .before .before .before in
-    withdraw-left (record { room = got .before .before .if1 .left; held = got .dataset-of .ensures; settles = settled .store-outcome .ensures }) _
-    (called .before .narrow .ensures) (called .withdraw .ensures)
+    let of-tide = called .before in
+    let of-user = of-tide .before in
+    let got = of-user .before .before .before in
+    withdraw-left (record { room = got .before .before .if1 .left; held = got .dataset-of .ensures; settles = settled .store-outcome .ensures }) _ _
+    (of-user .narrow .ensures) (of-tide .narrow2 .ensures) (called .withdraw .ensures)
 
 pub tides-withdraw-spec : {M : Type 1} → statement M
 tides-withdraw-spec =
     tie.close
     (tie.spec
     returns
+    (λ c κs. search needs)
     (λ c κs. search needs)
     (λ c κs. search needs)
     (λ c κs. search needs)

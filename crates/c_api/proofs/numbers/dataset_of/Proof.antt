@@ -8,13 +8,15 @@ use Rattle.c_api.proofs.numbers.dataset_of.Tie as tie
 cast-narrow : tie.Need-cast-narrow
 cast-narrow c = omega (arith, c .shared-slice-known2 .given 0)
 
-cast-t13 : tie.Need-cast-t13
-cast-t13 c = omega (arith, c .shared-slice-known3 .given 1)
+cast-t14 : tie.Need-cast-t14
+cast-t14 c = omega (arith, c .shared-slice-known3 .given 1)
 
 returns : tie.Need-returns
 returns c =
-    let at-minima = c .before .before .before .before in
-    narrow-read _ (c .before .before .narrow .ensures) (at-minima .before .before .minima-bytes .ensures) (at-minima .minima-of .ensures)
+    let at-counts = c .before .before .before in
+    let at-minima = at-counts .before in
+    narrow-read _ (c .before .narrow .ensures) (at-minima .before .before .minima-bytes .ensures) (at-minima .minima-of .ensures)
+    (at-counts .counts-of .ensures)
 
 pub dataset-of-spec : {M : Type 1} → statement M
 dataset-of-spec =
@@ -23,10 +25,10 @@ dataset-of-spec =
     (λ c κs. search needs)
     (λ c. search needs)
     (λ c κs. search needs)
+    (λ c κs. search needs)
     (λ c. search needs)
     cast-narrow
     (λ c κs. search needs)
     (λ c. search needs)
-    cast-t13
-    (λ c. search needs)
+    cast-t14
     returns)

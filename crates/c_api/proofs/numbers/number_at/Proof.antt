@@ -4,7 +4,7 @@ use native.Mathlib.Omega.{arith}
 use mathlib.Core.Path.{_≡_, refl, _∙_}
 use lib.ListN.{length}
 use Rattle.c_api.specs.Api.{numbersOf}
-use Rattle.c_api.proofs.RecordLaws.{number-is, number-b, number-last}
+use Rattle.c_api.proofs.RecordLaws.{number-is, number-b, number-count}
 use Rattle.c_api.proofs.numbers.number_at.Statement.{statement}
 use Rattle.c_api.proofs.numbers.number_at.Tie as tie
 
@@ -22,8 +22,8 @@ returns-3 c = number-is (c .before .before .before .before .before .args .datase
 
 returns-4 : tie.Need-returns-4
 returns-4 c =
-    let eight : length (c .before .before .before .before .before .args .dataset .minima .b) ≡ 8 = search needs in
-    number-is _ (c .if4 .taken) (number-last _ eight)
+    let eight : length (c .before .before .before .before .before .before .args .dataset .minima .b) ≡ 8 = search needs in
+    number-count _ eight _ (c .before .if4 .taken)
 
 returns-5 : tie.Need-returns-5
 returns-5 c =
@@ -40,6 +40,8 @@ number-at-spec =
     returns-2
     (λ c κs. search needs)
     returns-3
+    (λ c. search needs)
+    (λ c. search needs)
     returns-4
     (λ c. search needs)
     (λ c. search needs)

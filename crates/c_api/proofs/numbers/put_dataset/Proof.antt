@@ -1,4 +1,4 @@
--- The loop's invariant: the first i places hold their numbers, the rest stays, and no place is added; 12 - i falls. Assumes nothing.
+-- The loop's invariant: the first i places hold their numbers, the rest stays, and no place is added; the places left fall. Assumes nothing.
 use borrow.Author.Needs.{needs}
 use native.Mathlib.Omega.{arith}
 use Prim.Native.Nat.{ℕ, _-_, _≤_}
@@ -6,17 +6,17 @@ use mathlib.Core.Path.{_≡_, refl, _∙_}
 use lib.ListN.{length, getD, length-set}
 use Rattle.lists.specs.Lists.{overwrite}
 use Rattle.lists.proofs.Tables.{overwrite-none, overwrite-step, overwrite-done}
-use Rattle.c_api.specs.Api.{numbersOf}
+use Rattle.c_api.specs.Api.{recordSize, numbersOf}
 use Rattle.c_api.proofs.RecordLaws.{written}
 use Rattle.c_api.proofs.numbers.put_dataset.Statement.{statement}
 use Rattle.c_api.proofs.numbers.put_dataset.Tie as tie
 
 abbrev Inv-loop : tie.InvT-loop
 Inv-loop numbers₀ dataset i₀ numbers i =
-    (i ≤ 12) × (numbers ≡ overwrite i (λ (j : ℕ). getD (numbersOf dataset) j 0) numbers₀) × (length numbers ≡ length numbers₀)
+    (i ≤ recordSize) × (numbers ≡ overwrite i (λ (j : ℕ). getD (numbersOf dataset) j 0) numbers₀) × (length numbers ≡ length numbers₀)
 
 abbrev μ-loop : tie.MeasureT-loop
-μ-loop numbers₀ dataset i₀ numbers i = 12 - i
+μ-loop numbers₀ dataset i₀ numbers i = recordSize - i
 
 loop-again : tie.Need-loop-again Inv-loop μ-loop
 loop-again c =
@@ -26,7 +26,8 @@ loop-again c =
 returns : tie.Need-returns Inv-loop μ-loop
 returns c =
     let eight : length (c .before .before .before .args .dataset .minima .b) ≡ 8 = search needs in
-    overwrite-done _ _ (omega arith) (c .before .loop .inv .1) ∙ written _ eight _
+    let four : length (c .before .before .before .args .dataset .withdrawn) ≡ 4 = search needs in
+    overwrite-done _ _ (omega arith) (c .before .loop .inv .1) ∙ written _ eight four _
 
 pub put-dataset-spec : {M : Type 1} → statement M
 put-dataset-spec =
