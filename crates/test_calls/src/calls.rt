@@ -1,16 +1,19 @@
-// Document 01's cases 7 to 9: what Enter, Read, Write and Withdraw give.
+// Document 01's cases 7 to 9, case 8 also as document 02, 2.7 writes it: what Enter, Read, Write and Withdraw give.
 use blocking::records::block_by_value;
 use study::Dataset;
 use study::MAX_TIDES;
+use study::MAX_USERS;
 use study::Minima;
 use study::Outcome;
 use study_file::Written;
 use test_tools::answers::is_done;
 use test_tools::samples::gap;
+use test_tools::samples::has_counts;
 use test_tools::samples::nonsense;
 use test_tools::samples::opened;
 use test_tools::samples::two_tides;
 use test_tools::samples::with_minima;
+use test_tools::slices::front;
 use test_tools::slices::front_row;
 use test_tools::tally::Tally;
 
@@ -37,6 +40,11 @@ fn is_length(written: Written, length: usize) -> bool {
     }
 }
 
+// Case 8's file, as it is written and as document 01 has it.
+const NEW: [u8; 13] = [0x55, 0, 0x20, 0x40, 0, 0, 0, 0, 0, 0, 0, 0, 0];
+
+const OLD: [u8; 7] = [0x54, 0, 0x20, 0x40, 0, 0, 0];
+
 // Open and then Write.
 fn write_empty(file: &mut [u8]) -> Written {
     let mut distances = [7u32; 14403];
@@ -46,12 +54,12 @@ fn write_empty(file: &mut [u8]) -> Written {
 }
 
 fn written_empty(so_far: Tally) -> Tally {
-    let mut file = [170u8; 9];
+    let mut file = [170u8; 15];
     let written = write_empty(&mut file);
-    so_far.see(is_length(written, 7)).see(check::same(
-        &file,
-        &[0x54, 0, 0x20, 0x40, 0, 0, 0, 170, 170],
-    ))
+    so_far
+        .see(is_length(written, 13))
+        .see(check::same(front(&file, 13), &NEW))
+        .see(file[13] == 170 && file[14] == 170)
 }
 
 fn read(file: &[u8]) -> Outcome {
@@ -60,20 +68,28 @@ fn read(file: &[u8]) -> Outcome {
     study_file::read(nonsense(), &mut distances, &mut settings, file)
 }
 
-fn read_empty(so_far: Tally) -> Tally {
-    let empty = read(&[0x54, 0, 0x20, 0x40, 0, 0, 0]);
+fn read_empty(so_far: Tally, file: &[u8]) -> Tally {
+    let empty = read(file);
     let dataset = empty.dataset;
     let minima = dataset.minima;
     so_far
         .outcome(empty, 0)
         .see(dataset.k == 1 && dataset.n == 0)
-        .see(minima.b0 == 1 && dataset.withdrawn == 0)
+        .see(minima.b0 == 1 && has_counts(dataset, [0; MAX_USERS]))
+}
+
+// With a fill bit set, and with six bytes.
+fn read_refused(so_far: Tally) -> Tally {
+    so_far
+        .outcome(read(&[0x55, 0, 0x20, 0x40, 0, 0, 0, 0, 0, 0, 0, 0, 1]), 11)
+        .outcome(read(&[0x55, 0, 0x20, 0x40, 0, 0]), 8)
+        .outcome(read(&[0x54, 0, 0x20, 0x40, 0, 0, 1]), 11)
+        .outcome(read(&[0x54, 0, 0x20, 0x40, 0, 0]), 8)
 }
 
 pub fn case_8(so_far: Tally) -> Tally {
-    read_empty(written_empty(so_far))
-        .outcome(read(&[0x54, 0, 0x20, 0x40, 0, 0, 1]), 11)
-        .outcome(read(&[0x54, 0, 0x20, 0x40, 0, 0]), 8)
+    let t = read_empty(written_empty(so_far), &NEW);
+    read_refused(read_empty(t, &OLD))
 }
 
 // MAX_TIDES as the position of a tide.
@@ -128,7 +144,7 @@ fn one_more(so_far: Tally, full: Dataset, distances: &mut [u32], settings: &mut 
 
 // After the first has gone, the next one is as far from those held as tide 120 was.
 fn one_gone(so_far: Tally, full: Dataset, distances: &mut [u32], settings: &mut [u8]) -> Tally {
-    let withdrawn = dataset::withdraw(full, distances, settings, 1);
+    let withdrawn = dataset::withdraw(full, distances, settings, 1, 1);
     let entered = enter_at(withdrawn.dataset, distances, settings, 119);
     so_far
         .outcome(withdrawn, 0)

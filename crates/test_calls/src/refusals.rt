@@ -6,6 +6,7 @@ use blocking::records::block_by_value;
 use study::Dataset;
 use study::Judged;
 use study::MAX_TIDES;
+use study::MAX_USERS;
 use study::Minima;
 use study::TABLE_SIZE;
 use study::refusals::number_of;
@@ -163,7 +164,7 @@ fn no_dataset(so_far: Tally) -> Tally {
         k: 0,
         n: 0,
         minima: Minima { b0: 1, b: [0; 8] },
-        withdrawn: 0,
+        withdrawn: [0; MAX_USERS],
     };
     let t = refused(so_far, nonsense(), &distances, &settings, 21, 21, 21);
     refused(t, empty, &distances, &settings, 21, 21, 21)

@@ -3,11 +3,12 @@
 use study::Dataset;
 use study::MAX_BLOCK_MINIMUM;
 use study::MAX_TIDES;
-use study::MAX_WITHDRAWALS;
+use study::MAX_USERS;
 use study::Minima;
 use study::Outcome;
 use study::TABLE_SIZE;
 use test_tools::samples::entered;
+use test_tools::samples::has_counts;
 use test_tools::samples::nonsense;
 use test_tools::samples::opened;
 use test_tools::samples::two_tides;
@@ -16,6 +17,7 @@ use test_tools::tally::Tally;
 
 mod samples;
 mod spoiled;
+mod withdrawing;
 
 // Memory one distance and one setting too short.
 fn open_short(k: u8) -> Outcome {
@@ -61,12 +63,14 @@ fn places(so_far: Tally, distances: &[u32], settings: &[u8], distance: u32, sett
 fn open_refused(so_far: Tally, distances: &mut [u32], settings: &mut [u8]) -> Tally {
     let refused = dataset::open(nonsense(), distances, settings, 9);
     let kept = refused.dataset;
-    places(so_far.see(kept.n == 300), distances, settings, 7, 9)
+    let t = so_far.see(kept.n == 300 && has_counts(kept, [7; MAX_USERS]));
+    places(t, distances, settings, 7, 9)
 }
 
 fn open_done(so_far: Tally, distances: &mut [u32], settings: &mut [u8]) -> Tally {
     let empty = opened(distances, settings, 8);
-    places(so_far.see(empty.n == 0), distances, settings, 0, 0)
+    let t = so_far.see(empty.n == 0 && has_counts(empty, [0; MAX_USERS]));
+    places(t, distances, settings, 0, 0)
 }
 
 fn open_places(so_far: Tally) -> Tally {
@@ -84,27 +88,36 @@ fn all_refused(so_far: Tally, distances: &mut [u32], settings: &mut [u8], expect
             expected,
         )
         .outcome(enter_none(distances, settings), expected)
-        .outcome(withdraw_none(distances, settings), expected)
+        .outcome(withdraw_none(distances, settings, 1), expected)
+}
+
+// Withdraw with no dataset and no user: 1 before 14, and 14 before 21.
+fn no_user(so_far: Tally, distances: &mut [u32], settings: &mut [u8], expected: u32) -> Tally {
+    so_far
+        .outcome(withdraw_none(distances, settings, 0), expected)
+        .outcome(withdraw_none(distances, settings, 5), expected)
 }
 
 fn enter_none(distances: &mut [u32], settings: &mut [u8]) -> Outcome {
     dataset::enter(nonsense(), distances, settings, 0, &[1])
 }
 
-fn withdraw_none(distances: &mut [u32], settings: &mut [u8]) -> Outcome {
-    dataset::withdraw(nonsense(), distances, settings, 0)
+fn withdraw_none(distances: &mut [u32], settings: &mut [u8], user: u8) -> Outcome {
+    dataset::withdraw(nonsense(), distances, settings, user, 0)
 }
 
 fn short_memory(so_far: Tally) -> Tally {
     let mut distances = [7u32; 14399];
     let mut settings = [9u8; 123];
-    all_refused(so_far, &mut distances, &mut settings, 1)
+    let t = all_refused(so_far, &mut distances, &mut settings, 1);
+    no_user(t, &mut distances, &mut settings, 1)
 }
 
 fn no_dataset(so_far: Tally) -> Tally {
     let mut distances = [7u32; 14403];
     let mut settings = [9u8; 123];
-    all_refused(so_far, &mut distances, &mut settings, 21)
+    let t = all_refused(so_far, &mut distances, &mut settings, 21);
+    no_user(t, &mut distances, &mut settings, 14)
 }
 
 // Minima for two tides, k = 2.
@@ -226,51 +239,6 @@ fn enter_done(so_far: Tally) -> Tally {
     )
 }
 
-fn withdraw_of_three(withdrawn: u16, tide: u8) -> Outcome {
-    let mut distances = [7u32; 14403];
-    let mut settings = [9u8; 123];
-    let three = samples::three_tides(&mut distances, &mut settings);
-    dataset::withdraw(
-        samples::counted(three, withdrawn),
-        &mut distances,
-        &mut settings,
-        tide,
-    )
-}
-
-fn withdraw_refused(so_far: Tally) -> Tally {
-    let mut t = so_far;
-    t = t.outcome(withdraw_of_three(MAX_WITHDRAWALS, 0), 23);
-    t = t.outcome(withdraw_of_three(MAX_WITHDRAWALS, 4), 23);
-    t = t.outcome(withdraw_of_three(MAX_WITHDRAWALS, 3), 26);
-    let gone = withdraw_of_three(65534, 3);
-    let left = gone.dataset;
-    t = t.outcome(gone, 0);
-    t = t.see(left.n == 2);
-    t.see(left.withdrawn == MAX_WITHDRAWALS)
-}
-
-// What was at 4 from each other now stands first; where the third tide was there is nothing.
-fn moved(so_far: Tally, distances: &[u32], settings: &[u8]) -> Tally {
-    let mut t = so_far;
-    t = t.place(distances, 1, 4);
-    t = t.place(distances, MAX_TIDES, 4);
-    t = t.place(distances, 2, 0);
-    t = t.place(distances, 240, 0);
-    t = t.place(distances, TABLE_SIZE, 7);
-    t = t.setting(settings, 0, 2);
-    t = t.setting(settings, 2, 0);
-    t.setting(settings, MAX_TIDES, 9)
-}
-
-fn withdraw_done(so_far: Tally) -> Tally {
-    let mut distances = [7u32; 14403];
-    let mut settings = [9u8; 123];
-    let three = samples::three_tides(&mut distances, &mut settings);
-    dataset::withdraw(three, &mut distances, &mut settings, 1);
-    moved(so_far, &distances, &settings)
-}
-
 // Case 9: tide 120 has entered, another is refused 22, and enters after a withdrawal.
 fn full(so_far: Tally) -> Tally {
     let mut distances = [7u32; 14403];
@@ -287,7 +255,7 @@ fn one_more(so_far: Tally, full: Dataset, distances: &mut [u32], settings: &mut 
 }
 
 fn one_gone(so_far: Tally, full: Dataset, distances: &mut [u32], settings: &mut [u8]) -> Tally {
-    let gone = dataset::withdraw(full, distances, settings, 5);
+    let gone = dataset::withdraw(full, distances, settings, 4, 5);
     let left = gone.dataset;
     let t = last_places(so_far.see(left.n == 119), distances, 1, 0);
     one_again(t, left, distances, settings)
@@ -296,7 +264,10 @@ fn one_gone(so_far: Tally, full: Dataset, distances: &mut [u32], settings: &mut 
 fn one_again(so_far: Tally, left: Dataset, distances: &mut [u32], settings: &mut [u8]) -> Tally {
     let row = [2u32; 119];
     let next = entered(left, distances, settings, 1, &row);
-    last_places(so_far.see(next.n == MAX_TIDES), distances, 1, 2)
+    let t = so_far
+        .see(next.n == MAX_TIDES)
+        .see(has_counts(next, [0, 0, 0, 1]));
+    last_places(t, distances, 1, 2)
 }
 
 // Where the rows of tides 119 and 120 begin, and what stands past the memory.
@@ -309,7 +280,7 @@ fn last_places(so_far: Tally, distances: &[u32], before: u32, last: u32) -> Tall
 
 fn print_enter() {
     enter_done(enter_pairs(enter_refused(tally::new()))).print(b"enter");
-    withdraw_done(withdraw_refused(tally::new())).print(b"withdraw");
+    withdrawing::trials(tally::new()).print(b"withdraw");
 }
 
 fn main() {

@@ -1,6 +1,7 @@
 // Records and datasets to try the calls on.
 use study::Dataset;
 use study::MAX_TIDES;
+use study::MAX_USERS;
 use study::Minima;
 use test_tools::samples::entered;
 use test_tools::samples::opened;
@@ -13,7 +14,7 @@ pub fn minima(b0: u8, first: u8, third: u8) -> Minima {
     }
 }
 
-pub fn counted(dataset: Dataset, withdrawn: u16) -> Dataset {
+pub fn counted(dataset: Dataset, withdrawn: [u16; MAX_USERS]) -> Dataset {
     let minima = dataset.minima;
     Dataset {
         k: dataset.k,

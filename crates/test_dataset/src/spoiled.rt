@@ -3,6 +3,7 @@ use crate::samples;
 use study::Answer;
 use study::Dataset;
 use study::MAX_TIDES;
+use study::MAX_USERS;
 use study::Minima;
 use study::TABLE_SIZE;
 use test_tools::tally::Tally;
@@ -13,7 +14,7 @@ fn record(k: u8, n: usize, b0: u8) -> Dataset {
         k,
         n,
         minima,
-        withdrawn: 0,
+        withdrawn: [0; MAX_USERS],
     }
 }
 

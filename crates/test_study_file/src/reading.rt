@@ -4,6 +4,7 @@ use study::Dataset;
 use study::Outcome;
 use study::refusals::number_of;
 use study_file::Written;
+use test_tools::samples::has_counts;
 use test_tools::samples::nonsense;
 use test_tools::slices::front;
 use test_tools::slices::same_front;
@@ -25,6 +26,42 @@ pub fn write(record: Dataset, distances: &[u32], settings: &[u8], file: &mut [u8
     study_file::write(record, distances, settings, file)
 }
 
+// The bytes from n on, or none.
+pub fn past(bytes: &[u8], n: usize) -> &[u8] {
+    if n <= bytes.len() {
+        return &bytes[n..];
+    }
+    front(bytes, 0)
+}
+
+// The length that a Write gives; 0 where it is refused.
+pub fn written_length(written: Written) -> usize {
+    match written {
+        Written::Done(n) => n,
+        Written::Refused(_) => 0,
+    }
+}
+
+// Whether two records are the same.
+pub fn same_record(a: Dataset, b: Dataset) -> bool {
+    let x = a.minima;
+    let y = b.minima;
+    let counts = b.withdrawn;
+    if a.k != b.k {
+        return false;
+    }
+    if a.n != b.n {
+        return false;
+    }
+    if !has_counts(a, counts) {
+        return false;
+    }
+    if x.b0 != y.b0 {
+        return false;
+    }
+    check::same(&x.b, &y.b)
+}
+
 // Whether the memory is as before.
 fn unchanged(distances: &[u32], settings: &[u8]) -> bool {
     same_front(&[7u32; 14403], distances) && check::same(settings, &[9u8; 123])
@@ -40,7 +77,7 @@ pub fn number(bytes: &[u8]) -> u32 {
     let Answer::Refused(why) = answer else {
         return 0;
     };
-    if after.n != 300 {
+    if !same_record(after, nonsense()) {
         return 98;
     }
     if !unchanged(&distances, &settings) {
@@ -57,8 +94,8 @@ fn wrote(room: &[u8], n: usize, bytes: &[u8]) -> bool {
     room[n] == 170 && check::same(front(room, n), bytes)
 }
 
-// Whether Read accepts the bytes, and Write then gives exactly these and keeps what stands past them.
-pub fn comes_back(bytes: &[u8]) -> bool {
+// Whether Read accepts the bytes, and Write then gives exactly this file and keeps what stands past it.
+pub fn gives(bytes: &[u8], file: &[u8]) -> bool {
     let mut distances = [7u32; 14403];
     let mut settings = [9u8; 123];
     let outcome = read_into(&mut distances, &mut settings, bytes);
@@ -71,5 +108,5 @@ pub fn comes_back(bytes: &[u8]) -> bool {
     let Written::Done(n) = written else {
         return false;
     };
-    wrote(&room, n, bytes)
+    wrote(&room, n, file)
 }

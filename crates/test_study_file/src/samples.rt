@@ -1,14 +1,13 @@
 // Records, datasets and files to try the calls on.
-use crate::reading::write;
 use study::Dataset;
 use study::MAX_TIDES;
-use study::MAX_WITHDRAWALS;
+use study::MAX_USERS;
 use study::Minima;
 use study::TABLE_SIZE;
 use test_tools::samples::entered;
 use test_tools::samples::two_tides;
 
-// Four tides on a line at 0, 3, 7 and 12, with minima that they meet.
+// Four tides on a line at 0, 3, 7 and 12, with minima that they meet; user 1 has withdrawn 32,769.
 pub fn four_tides(distances: &mut [u32], settings: &mut [u8]) -> Dataset {
     let two = two_tides(distances, settings);
     let three = entered(two, distances, settings, 2, &[7, 4]);
@@ -21,12 +20,12 @@ pub fn four_tides(distances: &mut [u32], settings: &mut [u8]) -> Dataset {
         k: four.k,
         n: four.n,
         minima,
-        withdrawn: four.withdrawn,
+        withdrawn: [32769, 0, 0, 0],
     }
 }
 
-// 120 tides, the greatest k and the greatest count.
-pub fn full_record() -> Dataset {
+// 120 tides, the greatest k, and these counts.
+pub fn full_record(withdrawn: [u16; MAX_USERS]) -> Dataset {
     let minima = Minima {
         b0: MAX_TIDES as u8,
         b: [15; 8],
@@ -35,7 +34,7 @@ pub fn full_record() -> Dataset {
         k: 8,
         n: MAX_TIDES,
         minima,
-        withdrawn: MAX_WITHDRAWALS,
+        withdrawn,
     }
 }
 
@@ -75,32 +74,22 @@ pub fn full_settings() -> [u8; MAX_TIDES] {
     settings
 }
 
-// The file of the four tides, 24 bytes, and zeros after it.
-pub fn small_file() -> [u8; 64] {
-    let mut distances = [7u32; TABLE_SIZE];
-    let mut settings = [9u8; MAX_TIDES];
-    let mut file = [0u8; 64];
-    let four = four_tides(&mut distances, &mut settings);
-    write(four, &distances, &settings, &mut file);
-    file
-}
+// The bytes of the greatest file.
+pub const NEW_LENGTH: usize = 17914;
 
-// Bit p is the other one; past the end nothing changes.
-pub fn flip(file: &mut [u8; 64], p: usize) {
-    let i = p / 8;
-    let j = (p % 8) as u32;
-    if i < 64 {
-        file[i] = file[i] ^ (128 >> j);
+// The greatest file under mark 54, and a zero after it: without the counts of users 2 to 4, which are 0 here.
+pub fn aged(file: [u8; NEW_LENGTH]) -> [u8; 17909] {
+    let mut old = [0u8; 17909];
+    old[0] = 0x54;
+    old[1] = file[1];
+    old[2] = file[2];
+    old[3] = file[3];
+    old[4] = file[4];
+    old[5] = file[5] | file[11];
+    let mut i: usize = 6;
+    while i < 17908 {
+        old[i] = file[i + 6];
+        i += 1;
     }
-}
-
-// The file with up to five other bits.
-pub fn spoiled(a: usize, b: usize, c: usize, d: usize, e: usize) -> [u8; 64] {
-    let mut file = small_file();
-    flip(&mut file, a);
-    flip(&mut file, b);
-    flip(&mut file, c);
-    flip(&mut file, d);
-    flip(&mut file, e);
-    file
+    old
 }

@@ -6,6 +6,7 @@ use crate::seen;
 use crate::seen::Seen;
 use study::Dataset;
 use study::MAX_TIDES;
+use study::MAX_USERS;
 use study::Minima;
 use study::TABLE_SIZE;
 use study::wide;
@@ -59,7 +60,7 @@ fn trial(so_far: Seen, n: u8, d: u32, k: u8, uneven: bool) -> Seen {
         k,
         n: wide(n),
         minima,
-        withdrawn: 0,
+        withdrawn: [0; MAX_USERS],
     };
     let checked = check(dataset, &distances, &settings, MAX_TIDES);
     so_far.and(checked, checked.total == plain::price(n, width(n, d)))

@@ -1,5 +1,6 @@
 // Records and datasets to try the calls on.
 use study::Dataset;
+use study::MAX_USERS;
 use study::Minima;
 ghost use Prim.Native.Nat.{_<_};
 
@@ -10,8 +11,14 @@ pub fn nonsense() -> Dataset {
         k: 0,
         n: 300,
         minima,
-        withdrawn: 7,
+        withdrawn: [7; MAX_USERS],
     }
+}
+
+// Whether these are the counts of withdrawals, from user 1 on.
+pub fn has_counts(dataset: Dataset, counts: [u16; MAX_USERS]) -> bool {
+    let held = dataset.withdrawn;
+    held[0] == counts[0] && held[1] == counts[1] && held[2] == counts[2] && held[3] == counts[3]
 }
 
 // The record that Open leaves.

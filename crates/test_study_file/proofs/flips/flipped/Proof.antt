@@ -1,14 +1,14 @@
--- `flipped` is safe and ends: the loop goes over the 192 bits of a file of 24 bytes; the bits left fall. Assumes nothing.
+-- `flipped` is safe and ends: the bits left fall. Assumes nothing.
 use borrow.Author.Needs.{needs}
 use Prim.Native.Nat.{_≤_, _-_}
-use Rattle.test_study_file.proofs.flipped.Statement.{statement}
-use Rattle.test_study_file.proofs.flipped.Tie as tie
+use Rattle.test_study_file.proofs.flips.flipped.Statement.{statement}
+use Rattle.test_study_file.proofs.flips.flipped.Tie as tie
 
 abbrev Inv-loop : tie.InvT-loop
-Inv-loop all₀ p₀ all p = p ≤ 192
+Inv-loop file bits all₀ p₀ all p = p ≤ bits
 
 abbrev μ-loop : tie.MeasureT-loop
-μ-loop all₀ p₀ all p = 192 - p
+μ-loop file bits all₀ p₀ all p = bits - p
 
 pub flipped-spec : {M : Type 1} → statement M
 flipped-spec =
