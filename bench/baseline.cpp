@@ -15,10 +15,11 @@
 #include <vector>
 
 constexpr int MOST_TIDES = 120;
-constexpr size_t LONGEST_FILE = 17908;
+constexpr size_t LONGEST_FILE = 17914;
+constexpr int USERS = 4;
 
 struct Study {
-    int k = 0, b0 = 0, withdrawals = 0;
+    int k = 0, b0 = 0, withdrawals[USERS] = {0};
     std::vector<int> b;                       // k minima
     std::vector<int> setting;                 // from 0
     std::vector<std::vector<int>> distance;   // symmetric
@@ -42,15 +43,18 @@ struct Bits {
 int read_study(const std::vector<uint8_t> &file, Study &s) {
     if (file.size() < 6) return 8;
     Bits bits{file};
-    if (bits.take(8) != 0x54) return 9;
+    int mark = bits.take(8);
+    if (mark != 0x54 && mark != 0x55) return 9;
+    if (mark == 0x55 && file.size() < 12) return 8;
+    int counts = mark == 0x55 ? USERS : 1;
     int n = bits.take(7);
     if (n > MOST_TIDES) return 10;
     s.k = bits.take(4);
     if (s.k < 1 || s.k > 8) return 2;
-    size_t length = 42 + 7 * s.k + 3 * n + 10 * n * (n > 0 ? n - 1 : 0);
+    size_t length = 26 + 16 * counts + 7 * s.k + 3 * n + 10 * n * (n > 0 ? n - 1 : 0);
     if (file.size() != (length + 7) / 8) return 8;
     s.b0 = bits.take(7);
-    s.withdrawals = bits.take(16);
+    for (int u = 0; u < counts; u++) s.withdrawals[u] = bits.take(16);
     int sum = 0;
     for (int j = 0; j < s.k; j++) {
         s.b.push_back(bits.take(7));
@@ -213,8 +217,9 @@ int main() {
         printf("block centre tides widest\n");
         for (int m = 0; m < blocks; m++)
             printf("%d %d %d %d\n", m + 1, centres[m] + 1, size[m], diameter[m]);
-        printf("reach %d widest %d withdrawn %d\n", g,
-               *std::max_element(diameter.begin(), diameter.end()), s.withdrawals);
+        printf("reach %d widest %d withdrawn", g, *std::max_element(diameter.begin(), diameter.end()));
+        for (int count : s.withdrawals) printf(" %d", count);
+        printf("\n");
         return 0;
     }
     return 1; // not reached: at the greatest distance one block takes all tides

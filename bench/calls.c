@@ -8,12 +8,12 @@
 
 enum { REPETITIONS = 25 };
 
-#define DATASET record, 12, distances, 14400, settings, 120
+#define DATASET record, 15, distances, 14400, settings, 120
 
-static uint16_t record[12];
+static uint16_t record[15];
 static uint32_t distances[14400];
 static uint8_t settings[120];
-static uint8_t file[17909];
+static uint8_t file[17915];
 static size_t length;
 
 static double now(void) {
@@ -45,7 +45,7 @@ static uint32_t reading(uint32_t *result) {
 }
 
 static uint32_t writing(uint32_t *result) {
-    static uint8_t out[17908];
+    static uint8_t out[17914];
     return tides_write(DATASET, out, sizeof out, result, 1);
 }
 
@@ -57,7 +57,7 @@ static uint32_t withdraw_enter(uint32_t *result) {
     uint8_t setting = settings[last - 1];
     record[11] = 0;
     memcpy(row, distances + (last - 1) * 120, sizeof row);
-    return tides_withdraw(DATASET, last) || tides_enter(DATASET, setting, row, last - 1u);
+    return tides_withdraw(DATASET, 1, last) || tides_enter(DATASET, setting, row, last - 1u);
 }
 
 static uint32_t judging(uint32_t *result) {

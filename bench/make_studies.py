@@ -37,7 +37,8 @@ class Random:
 
 
 def study_file(k, b0, b, settings, distance, withdrawals=0):
-    """Document 01's bits, most significant first; settings from 1."""
+    """A file of mark 55, most significant bit first; settings from 1; all
+    withdrawals are user 1's."""
     n = len(settings)
     bits = []
 
@@ -45,11 +46,12 @@ def study_file(k, b0, b, settings, distance, withdrawals=0):
         assert 0 <= value < 1 << width
         bits.append(format(value, f"0{width}b"))
 
-    put(0x54, 8)
+    put(0x55, 8)
     put(n, 7)
     put(k, 4)
     put(b0, 7)
-    put(withdrawals, 16)
+    for count in [withdrawals, 0, 0, 0]:
+        put(count, 16)
     for least in b:
         put(least, 7)
     for t in range(n):
@@ -57,7 +59,7 @@ def study_file(k, b0, b, settings, distance, withdrawals=0):
         for e in range(t):
             put(distance(t, e), 20)
     text = "".join(bits)
-    assert len(text) == 42 + 7 * k + 3 * n + 10 * n * max(n - 1, 0)
+    assert len(text) == 90 + 7 * k + 3 * n + 10 * n * max(n - 1, 0)
     text += "0" * (-len(text) % 8)
     return int(text, 2).to_bytes(len(text) // 8, "big")
 

@@ -5,7 +5,7 @@
 
 mod plain;
 
-use plain::{Study, FAR, PLACES, RECORD, ROW, TIDES};
+use plain::{Study, FAR, KEEPERS, MARK, OLD_MARK, PLACES, RECORD, ROW, TIDES};
 use std::process::exit;
 
 // ---- the library ----
@@ -35,6 +35,7 @@ extern "C" {
         record: *mut u16, record_len: usize,
         distances: *mut u32, distances_len: usize,
         settings: *mut u8, settings_len: usize,
+        keeper: u32,
         tide: u32,
     ) -> u32;
     fn tides_centres(
@@ -221,6 +222,7 @@ enum Call {
         row: Lent<u32>,
     },
     Withdraw {
+        keeper: u32,
         tide: u32,
     },
     Centres {
@@ -267,7 +269,7 @@ const REASONS: [&[usize]; CALLS] = [
     &[1, 2],
     &[1, 3, 21],
     &[1, 4, 5, 6, 7, 21, 22],
-    &[1, 21, 23, 26],
+    &[1, 14, 21, 23, 26],
     &[1, 21, 24],
     &[1, 21, 24, 25],
     &[1, 12, 21, 24],
@@ -333,7 +335,9 @@ fn ask_library(w: &mut World, call: &mut Call) -> u32 {
             Call::Enter { setting, row } => {
                 tides_enter(rp, rn, dp, dn, sp, sn, *setting, row.ptr(), row.len)
             }
-            Call::Withdraw { tide } => tides_withdraw(rp, rn, dp, dn, sp, sn, *tide),
+            Call::Withdraw { keeper, tide } => {
+                tides_withdraw(rp, rn, dp, dn, sp, sn, *keeper, *tide)
+            }
             Call::Centres { g, list, nearest, away, count } => tides_centres(
                 rp, rn, dp, dn, sp, sn, *g,
                 list.ptr(), list.len,
@@ -370,7 +374,7 @@ fn ask_plain(w: &mut World, call: &mut Call) -> u32 {
         Call::Open { k } => plain::open(r, d, s, *k),
         Call::Minima { minima } => plain::minima(r, d, s, minima.part()),
         Call::Enter { setting, row } => plain::enter(r, d, s, *setting, row.part()),
-        Call::Withdraw { tide } => plain::withdraw(r, d, s, *tide),
+        Call::Withdraw { keeper, tide } => plain::withdraw(r, d, s, *keeper, *tide),
         Call::Centres { g, list, nearest, away, count } => {
             plain::centres(r, d, s, *g, list.part(), nearest.part(), away.part(), count.part())
         }
@@ -408,6 +412,33 @@ struct Seen {
     raised: u64,    // minima that were taken with another b0
     bills: Bills,
     centred: Centred,
+    kept: Kept,
+}
+
+/// What was met of keepers and marks.
+#[derive(Default)]
+struct Kept {
+    by: [u64; KEEPERS], // withdrawals accepted of each keeper
+    stopped: u64,       // refused 26 while another keeper could go on
+    old: u64,           // files of the old mark accepted
+    new: u64,           // and of the new one
+}
+
+impl Kept {
+    fn note(&mut self, w: &World, call: &Call, answer: u32) {
+        match call {
+            Call::Withdraw { keeper, .. } if answer == 0 => self.by[*keeper as usize - 1] += 1,
+            Call::Withdraw { .. } if answer == 26 => {
+                let counts = &w.record.places[11..RECORD];
+                self.stopped += counts.iter().any(|x| *x < 65_535) as u64;
+            }
+            Call::Read { file } if answer == 0 => match file.places[0] {
+                OLD_MARK => self.old += 1,
+                _ => self.new += 1,
+            },
+            _ => {}
+        }
+    }
 }
 
 /// Accepted tariffs, and what was met in them.
@@ -494,6 +525,7 @@ impl Seen {
             raised: 0,
             bills: Bills::default(),
             centred: Centred::default(),
+            kept: Kept::default(),
         }
     }
 
@@ -547,6 +579,7 @@ impl Seen {
         }
         self.by_group[reason] += 1;
         self.by_call[c][reason] += 1;
+        self.kept.note(w, call, answer);
         if let (Call::Judge { result, .. }, 0) = (&*call, answer) {
             if result.places[0] == 1 {
                 self.yes += 1;
@@ -662,7 +695,7 @@ fn fail(what: &str, w: &World, call: &Call) -> ! {
         Call::Enter { setting, row } => {
             println!("setting {setting}, row {:?}", &row.places[..row.len])
         }
-        Call::Withdraw { tide } => println!("tide {tide}"),
+        Call::Withdraw { keeper, tide } => println!("keeper {keeper}, tide {tide}"),
         Call::Centres { g, list, nearest, away, count } => println!(
             "g {g}, list of {}, nearest of {}, away of {}, count of {}",
             list.len, nearest.len, away.len, count.len
@@ -912,7 +945,8 @@ fn get_field(file: &[u8], at: usize, width: usize) -> usize {
 fn spoil_file(rng: &mut Rng, file: &mut Vec<u8>) {
     let n = get_field(file, 8, 7);
     let k = get_field(file, 15, 4);
-    let tide = |t: usize| 42 + 7 * k + 3 * t + 10 * t * t.saturating_sub(1);
+    let counts_end = plain::counts_end(get_field(file, 0, 8) as u8);
+    let tide = |t: usize| counts_end + 7 * k + 3 * t + 10 * t * t.saturating_sub(1);
     match rng.below(16) {
         0 => {
             if !file.is_empty() {
@@ -920,15 +954,18 @@ fn spoil_file(rng: &mut Rng, file: &mut Vec<u8>) {
                 file[i] ^= 1 << rng.below(8);
             }
         }
-        1 => set_field(file, 0, 8, rng.pick(&[0x53, 0x55, 0, 255, 0xD4, 0x45])),
+        1 => set_field(file, 0, 8, rng.pick(&[0x53, 0x54, 0x55, 0x56, 0, 255, 0xD4, 0xD5, 0x45])),
         2 => set_field(file, 8, 7, rng.pick(&[120, 121, 122, 127, n ^ 1, 0])),
         3 => set_field(file, 15, 4, rng.pick(&[0, 1, 8, 9, 15, k ^ 1])),
         4 => set_field(file, 19, 7, rng.pick(&[0, 1, 2, 120, 121, 127])),
-        5 => set_field(file, 26, 16, rng.pick(&[0, 1, 65_534, 65_535])),
+        5 => {
+            let count = rng.below((counts_end - 26) / 16);
+            set_field(file, 26 + 16 * count, 16, rng.pick(&[0, 1, 65_534, 65_535]));
+        }
         6 | 7 => {
             if k > 0 {
                 let j = rng.below(k);
-                set_field(file, 42 + 7 * j, 7, rng.pick(&[0, 1, 2, 64, 120, 127]));
+                set_field(file, counts_end + 7 * j, 7, rng.pick(&[0, 1, 2, 64, 120, 127]));
             }
         }
         8 => file.truncate(rng.below(file.len() + 1)),
@@ -1000,7 +1037,7 @@ fn spoil_world(rng: &mut Rng, w: &mut World) {
             let j = rng.below(8);
             w.record.places[3 + j] = rng.within(0, 3) as u16;
         }
-        8 => w.record.places[11] = rng.pick(&[0, 65_534, 65_535]),
+        8 => w.record.places[11 + rng.below(KEEPERS)] = rng.pick(&[0, 65_534, 65_535]),
         9 => {
             let i = rng.below(PLACES);
             w.distances.places[i] ^= 1 << rng.below(32);
@@ -1106,7 +1143,7 @@ impl Run {
             match call {
                 Call::Open { .. } => self.held.clear(),
                 Call::Enter { .. } => self.held.push(point),
-                Call::Withdraw { tide } => {
+                Call::Withdraw { tide, .. } => {
                     if *tide as usize <= self.held.len() {
                         self.held.remove(*tide as usize - 1);
                     }
@@ -1173,7 +1210,7 @@ impl Run {
                 let setting = if rng.one_in(3) { 1 } else { rng.within(1, k) };
                 Call::Enter { setting: setting as u32, row: exact(rng, &row) }
             }
-            3 => Call::Withdraw { tide: rng.within(1, n.max(1)) as u32 },
+            3 => withdrawal(rng, n),
             4 => {
                 let g = match rng.below(6) {
                     0 => 0,
@@ -1201,7 +1238,7 @@ impl Run {
                 Call::Read { file: exact(rng, &file) }
             }
             _ => {
-                let need = plain::byte_length(k, n);
+                let need = plain::byte_length(MARK, k, n);
                 Call::Write { file: room(rng, need, 5), result: room(rng, 1, 1) }
             }
         };
@@ -1277,10 +1314,20 @@ fn centring(rng: &mut Rng, g: u32, n: usize) -> Call {
     }
 }
 
-/// A file made without a book: a study of its own.
+/// One of n tides withdrawn by any keeper.
+fn withdrawal(rng: &mut Rng, n: usize) -> Call {
+    Call::Withdraw { keeper: rng.within(1, KEEPERS) as u32, tide: rng.within(1, n.max(1)) as u32 }
+}
+
+/// A file made without a book: a study of its own, a third of them of the old mark.
 fn some_file(rng: &mut Rng) -> Vec<u8> {
     let n = if rng.one_in(10) { 0 } else { rng.within(1, 9) };
-    plain::file_of(&some_study(rng, n))
+    let study = some_study(rng, n);
+    if rng.one_in(3) {
+        plain::old_file_of(&study)
+    } else {
+        plain::file_of(&study)
+    }
 }
 
 fn some_study(rng: &mut Rng, n: usize) -> Study {
@@ -1296,7 +1343,7 @@ fn some_study(rng: &mut Rng, n: usize) -> Study {
         k,
         b0: m[0] as usize,
         b,
-        withdrawals: rng.pick(&[0, 1, 7, 300, 65_534, 65_535]),
+        withdrawals: [0; KEEPERS].map(|_| rng.pick(&[0, 1, 7, 300, 65_534, 65_535])),
         settings: settings.iter().map(|s| *s as usize).collect(),
         distances,
     }
@@ -1347,7 +1394,10 @@ fn spoil_call(rng: &mut Rng, call: &mut Call, w: &World) {
             }
             _ => *setting = 0,
         },
-        Call::Withdraw { tide } => *tide = wrong_number(rng, *tide, w.n()),
+        Call::Withdraw { keeper, .. } if rng.one_in(2) => {
+            *keeper = wrong_number(rng, *keeper, KEEPERS)
+        }
+        Call::Withdraw { tide, .. } => *tide = wrong_number(rng, *tide, w.n()),
         Call::Centres { g, .. } => *g = rng.next() as u32,
         Call::Judge { list, .. } => match rng.below(4) {
             0 => list.len += rng.within(1, 2).min(list.places.len() - list.len),
@@ -1364,7 +1414,7 @@ fn spoil_call(rng: &mut Rng, call: &mut Call, w: &World) {
             if rng.one_in(12) {
                 bytes = (0..rng.within(0, 60)).map(|_| rng.next() as u8).collect();
                 if !bytes.is_empty() && rng.one_in(2) {
-                    bytes[0] = 0x54;
+                    bytes[0] = rng.pick(&[MARK, OLD_MARK]);
                 }
             }
             *file = exact(rng, &bytes);
@@ -1565,7 +1615,7 @@ fn known_study() -> Study {
         k: 2,
         b0: 2,
         b: [1, 1, 0, 0, 0, 0, 0, 0],
-        withdrawals: 9,
+        withdrawals: [9, 0, 300, 65_534],
         settings: vec![1, 2, 2, 1, 2],
         distances: at.iter().map(|x| at.iter().map(|y| x.abs_diff(*y)).collect()).collect(),
     }
@@ -1627,7 +1677,8 @@ fn numbers(seen: &mut Seen, rng: &mut Rng) {
         for (mut call, most, reason) in [
             (Call::Open { k: x }, 8, 2),
             (Call::Enter { setting: x, row }, 2, 5),
-            (Call::Withdraw { tide: x }, 5, 23),
+            (Call::Withdraw { keeper: 4, tide: x }, 5, 23),
+            (Call::Withdraw { keeper: x, tide: 5 }, 4, 14),
         ] {
             let expected = if (1..=most).contains(&x) { 0 } else { reason };
             expect(
@@ -1655,7 +1706,7 @@ fn large(seen: &mut Seen, rng: &mut Rng, runs: usize) {
         } else {
             let mut s = some_study(rng, n);
             if turn % 4 == 1 {
-                s.withdrawals = 65_535;
+                s.withdrawals = [65_535; KEEPERS];
             }
             run.metric = s.distances.clone();
             run.files = vec![(plain::file_of(&s), (0..n).collect())];
@@ -1697,7 +1748,7 @@ fn large(seen: &mut Seen, rng: &mut Rng, runs: usize) {
         // pairs with high numbers: a row that breaks the rule at one or two places
         let before = run.clone();
         if run.w.n() == TIDES {
-            run.make(seen, &mut Call::Withdraw { tide: rng.within(1, 120) as u32 }, 0);
+            run.make(seen, &mut withdrawal(rng, TIDES), 0);
         }
         for _ in 0..8 {
             let n = run.w.n();
@@ -1932,9 +1983,10 @@ fn worked(seen: &mut Seen, rng: &mut Rng) {
         let mut call = Call::Enter { setting: 1, row: exact(rng, &row) };
         expect(run.make(seen, &mut call, 0), answer, "case 7");
     }
-    // case 8, and the file of the printed sheet
-    let empty = [0x54, 0x00, 0x20, 0x40, 0, 0, 0];
-    let one = [0x54, 0x02, 0x20, 0x40, 0, 0, 0];
+    // case 8 and the file of the printed sheet, as 2.7 has them
+    let bytes = |front: [u8; 4], zeros: usize| [&front[..], &vec![0; zeros]].concat();
+    let empty = bytes([0x55, 0x00, 0x20, 0x40], 9);
+    let one = bytes([0x55, 0x02, 0x20, 0x40], 9);
     let mut run = line(seen, rng, &[], &[], 1);
     let (mut call, _) = run.propose_call(rng, 8, 0, 1);
     expect(run.make(seen, &mut call, 0), 0, "Write");
@@ -1942,16 +1994,31 @@ fn worked(seen: &mut Seen, rng: &mut Rng) {
         fail("the empty book's file", &run.w, &call);
     }
     for (file, answer) in [
-        (empty.to_vec(), 0),
-        (one.to_vec(), 0),
+        (empty.clone(), 0),
+        (one, 0),
+        ([&empty[..12], &[1]].concat(), 11),
+        (bytes([0x55, 0x00, 0x20, 0x40], 2), 8),
+        (bytes([0x55, 0x00, 0x20, 0x40], 8), 8),
+        (bytes([0x55, 0x00, 0x20, 0x40], 10), 8),
+        // under 12 bytes before what follows
+        (bytes([0x55, 0xF2, 0x00, 0x40], 7), 8),
+        (bytes([0x55, 0xF2, 0x00, 0x40], 8), 10),
+        (bytes([0x55, 0x00, 0x00, 0x40], 7), 8),
+        (bytes([0x55, 0x00, 0x00, 0x40], 8), 2),
+        (bytes([0x55, 0x00, 0x20, 0x00], 9), 3),
+        // the files of document 01
+        (bytes([0x54, 0x00, 0x20, 0x40], 3), 0),
+        (bytes([0x54, 0x02, 0x20, 0x40], 3), 0),
         (vec![0x54, 0x00, 0x20, 0x40, 0, 0, 1], 11),
-        (vec![0x54, 0x00, 0x20, 0x40, 0, 0], 8),
-        (vec![0x54, 0x00, 0x20, 0x40, 0, 0, 0, 0], 8),
-        (vec![0x54, 0x00, 0x20, 0x40, 0], 8),
-        (vec![0x55, 0x00, 0x20, 0x40, 0], 8),
-        (vec![0x55, 0x00, 0x20, 0x40, 0, 0], 9),
-        (vec![0x54, 0xF2, 0x00, 0x40, 0, 0], 10),
-        (vec![0x54, 0x00, 0x00, 0x40, 0, 0], 2),
+        (bytes([0x54, 0x00, 0x20, 0x40], 2), 8),
+        (bytes([0x54, 0x00, 0x20, 0x40], 4), 8),
+        (bytes([0x54, 0x00, 0x20, 0x40], 9), 8),
+        (bytes([0x54, 0x00, 0x20, 0x40], 1), 8),
+        (bytes([0x56, 0x00, 0x20, 0x40], 1), 8),
+        (bytes([0x56, 0x00, 0x20, 0x40], 2), 9),
+        (bytes([0x53, 0x00, 0x20, 0x40], 9), 9),
+        (bytes([0x54, 0xF2, 0x00, 0x40], 2), 10),
+        (bytes([0x54, 0x00, 0x00, 0x40], 2), 2),
         (vec![0x54, 0x00, 0x20, 0x00, 0, 0, 1], 3),
     ] {
         let mut call = Call::Read { file: exact(rng, &file) };
@@ -1963,7 +2030,7 @@ fn worked(seen: &mut Seen, rng: &mut Rng) {
     let row = vec![60; 120];
     let mut call = Call::Enter { setting: 1, row: exact(rng, &row) };
     expect(run.make(seen, &mut call, 0), 22, "case 9");
-    expect(run.make(seen, &mut Call::Withdraw { tide: 120 }, 0), 0, "case 9");
+    expect(run.make(seen, &mut Call::Withdraw { keeper: 2, tide: 120 }, 0), 0, "case 9");
     let mut call = Call::Enter { setting: 1, row: exact(rng, &row[..119]) };
     expect(run.make(seen, &mut call, 0), 0, "case 9");
 }
@@ -2048,6 +2115,82 @@ fn below_the_sum(seen: &mut Seen, rng: &mut Rng) {
     let below = plain::file_of(&Study { b0: 1, ..known_study() });
     let mut read = Call::Read { file: exact(rng, &below) };
     expect(run.make(seen, &mut read, 0), 3, "a file with b0 = 1");
+}
+
+// ---- keepers and marks ----
+
+/// Document 02, 2.7: each keeper's count goes up alone; one at 65,535 is
+/// stopped while the others go on; and the order of Withdraw's refusals.
+fn keepers(seen: &mut Seen, rng: &mut Rng) {
+    let mut with = |counts: [u16; KEEPERS], keeper: u32, tide: u32, spoilt: bool, len: usize| {
+        let study = Study { withdrawals: counts, ..known_study() };
+        let mut run = Run::new(rng, 1);
+        let mut read = Call::Read { file: exact(rng, &plain::file_of(&study)) };
+        expect(run.make(seen, &mut read, 0), 0, "a study is read");
+        run.w.distances.places[0] += spoilt as u32;
+        run.w.distances.len = len;
+        let answer = run.make(seen, &mut Call::Withdraw { keeper, tide }, 0);
+        (answer, run.w.record.places[11..RECORD].to_vec())
+    };
+    let near = [1, 65_534, 65_535, 0];
+    for keeper in 1..=KEEPERS {
+        let (answer, counts) = with(near, keeper as u32, 5, false, PLACES);
+        let mut expected = near.to_vec();
+        expected[keeper - 1] = expected[keeper - 1].saturating_add(1);
+        expect(answer, if keeper == 3 { 26 } else { 0 }, "Withdraw by a keeper");
+        if counts != expected {
+            println!("FAILED: keeper {keeper} left {counts:?}, not {expected:?}");
+            exit(1);
+        }
+        // 1, 14, 21, 23, 26: the first counts
+        for (wrong, tide, spoilt, len, reason) in [
+            (0, 9, true, PLACES - 1, 1),
+            (0, 9, true, PLACES, 14),
+            (keeper as u32, 9, true, PLACES, 21),
+            (keeper as u32, 9, false, PLACES, 23),
+            (keeper as u32, 5, false, PLACES, 26),
+        ] {
+            let (answer, counts) = with([65_535; KEEPERS], wrong, tide, spoilt, len);
+            expect(answer, reason, "the order of Withdraw's refusals");
+            if counts != [65_535; KEEPERS] {
+                println!("FAILED: a refused Withdraw left {counts:?}");
+                exit(1);
+            }
+        }
+    }
+}
+
+/// Small files of both marks: each length up to some bytes more, each bit
+/// flipped. What an old file gives is written anew with its count as keeper 1's.
+fn both_marks(seen: &mut Seen, rng: &mut Rng, runs: usize) {
+    for turn in 0..runs {
+        let study = some_study(rng, turn % 4);
+        let new = plain::file_of(&study);
+        let old = plain::old_file_of(&study);
+        let mut run = Run::new(rng, 1);
+        for file in [&new, &old] {
+            for len in 0..=file.len() + 8 {
+                let mut bytes = file.clone();
+                bytes.resize(len, 0);
+                let mut call = Call::Read { file: exact(rng, &bytes) };
+                let expected = if len == file.len() { 0 } else { 8 };
+                expect(run.make(seen, &mut call, 0), expected, "a file of some length");
+            }
+            for bit in 0..8 * file.len() {
+                let mut bytes = file.clone();
+                bytes[bit / 8] ^= 0x80 >> (bit % 8);
+                run.make(seen, &mut Call::Read { file: exact(rng, &bytes) }, 0);
+            }
+        }
+        let mut read = Call::Read { file: exact(rng, &old) };
+        expect(run.make(seen, &mut read, 0), 0, "an old file");
+        let (mut call, _) = run.propose_call(rng, 8, study.n(), study.k);
+        expect(run.make(seen, &mut call, 0), 0, "Write after an old file");
+        let own = Study { withdrawals: [study.withdrawals[0], 0, 0, 0], ..study };
+        if run.files.last().unwrap().0 != plain::file_of(&own) {
+            fail("an old file written anew", &run.w, &call);
+        }
+    }
 }
 
 // ---- nearest centres ----
@@ -2139,7 +2282,7 @@ fn bill_of(seen: &mut Seen, rng: &mut Rng, heaps: &[(usize, u32)], under: &[usiz
         k,
         b0: heaps.iter().map(|h| h.0).min().unwrap(),
         b: [0; 8],
-        withdrawals: 0,
+        withdrawals: [0; KEEPERS],
         settings: (0..k).flat_map(|j| vec![j + 1; under[j]]).collect(),
         distances: (0..n).map(|i| (0..n).map(|j| apart(i, j)).collect()).collect(),
     };
@@ -2237,6 +2380,8 @@ fn main() {
     let groups: Vec<Group> = vec![
         ("worked cases", Box::new(worked)),
         ("b0 below the sum", Box::new(below_the_sum)),
+        ("keepers", Box::new(keepers)),
+        ("files of both marks", Box::new(|s, r| both_marks(s, r, 60))),
         ("nearest centres", Box::new(nearest_centres)),
         ("centres at every g", Box::new(|s, r| every_distance(s, r, 600))),
         ("tariffs", Box::new(tariffs)),
@@ -2283,6 +2428,9 @@ fn main() {
     let centred = &seen.centred;
     whole &= centred.ties > 0 && centred.least > 0 && centred.beyond > 0;
     whole &= centred.short.iter().all(|x| *x > 0);
+    let kept = &seen.kept;
+    whole &= kept.by.iter().all(|x| *x > 0) && kept.stopped > 0;
+    whole &= kept.old > 0 && kept.new > 0;
     println!("Judge said yes {} times and no {} times", seen.yes, seen.no);
     println!(
         "{} blockings of up to 7 tides also by full enumeration, none wider than twice the least",
@@ -2309,6 +2457,11 @@ fn main() {
         "Centres refused 1 for one list alone: list {}, nearest {}, nearest_distances {}",
         centred.short[0], centred.short[1], centred.short[2]
     );
+    println!(
+        "withdrawals by each keeper {:?}, {} stopped at the limit while another could go on",
+        kept.by, kept.stopped
+    );
+    println!("{} files of mark 54 accepted, {} of mark 55", kept.old, kept.new);
     if !whole {
         println!("FAILED: something that is counted above was never seen");
         exit(1);
