@@ -5,14 +5,15 @@ use mathlib.Core.Path.{_≡_, refl, sym, ap, _∙_, subst}
 use mathlib.Core.Bool.{Bool, true, false, cond, not}
 use mathlib.Core.List.{List, [], _∷_, _++_, map, flatMap, List·Memᴰ·head as here}
 use lib.Dec.{T, leb, leb→le}
-use Rattle.lists.specs.Lists.{_among_, iota, allOf, filter}
+use Rattle.lists.specs.Lists.{_among_, iota, filter}
 use Rattle.lists.proofs.Members.{filter-mem, map-mem, flatMap-mem, range-mem}
 use Rattle.study.specs.Study.{Contents}
-use Rattle.study.specs.Refusals.{Numbered, number, seven, refused, Reason, firstOf, freshReasons, isUser, heldReasons}
+use Rattle.study.specs.Refusals.{Numbered, number, seven, refused, Reason, firstOf, freshReasons, heldReasons}
 use Rattle.study.specs.declared.refusals.Number.{Number}
 use Rattle.study.specs.declared.refusals.Number.the-variants.{Seven}
 use Rattle.study.specs.Numbers.{saidBy}
 use Rattle.study.specs.Calls.{triangle, Pair, violations, firstViolation}
+use Rattle.study.proofs.LadderLaws.{ladder-either}
 use Rattle.validity.specs.Memory.{State, short, isDataset, contentsOf}
 use Rattle.dataset.specs.Answers.{freshAnswer, heldAnswer}
 use Rattle.c_api.specs.Api.{code}
@@ -91,12 +92,8 @@ module _ (s : State) where
 
   pub held-narrow : (users : List ℕ) (own : Contents → List Reason) → (isDataset s ≡ true → AllNarrow (own (contentsOf s)))
       → Narrow (heldAnswer s users own)
-  unfolding heldAnswer heldReasons freshReasons firstOf
-  held-narrow users own f = by (short s) (allOf isUser users) (isDataset s) f
-    where
-      by : (a u b : Bool) → (b ≡ true → AllNarrow (own (contentsOf s)))
-          → Narrow (cond a (refused (number 1)) (cond (not u) (refused (number 14)) (cond (not b) (refused (number 21)) (firstOf (own (contentsOf s))))))
-      by true u b h = small tt
-      by false true true h = first-narrow (own (contentsOf s)) (h refl)
-      by false true false h = small tt
-      by false false b h = small tt
+  unfolding heldAnswer heldReasons freshReasons
+  held-narrow users own f =
+      ladder-either (short s) users (isDataset s) Narrow (own (contentsOf s))
+      (first-narrow (heldReasons (short s) users (isDataset s) []) (small tt, (small tt, (small tt, tt))))
+      (λ A. first-narrow (own (contentsOf s)) (f (A .tested)))

@@ -19,11 +19,12 @@ use Rattle.study.specs.declared.Refusal.{Refusal}
 use Rattle.study.specs.declared.Answer.{Answer}
 use Rattle.study.specs.declared.Answer.the-variants.{Done, Refused}
 use Rattle.study.specs.Study.{Study, Contents, size, tide, distance, validMinima}
-use Rattle.study.specs.Refusals.{Numbered, number, seven, numbered, Verdict, accepted, refused, verdictOf, settled, Reason, firstOf}
+use Rattle.study.specs.Refusals.{number, seven, Verdict, accepted, refused, verdictOf, settled, Reason, firstOf}
 use Rattle.study.specs.Refusals.{freshReasons, isUser, heldReasons}
 use Rattle.study.specs.Calls.{openReasons, opened, opening, sumOfParts, understood, minimaReasons, withMinima, settingMinima, Pair, violations}
 use Rattle.study.specs.Calls.{enterReasons, entered, entering, countOf, withdrawReasons, withdrawn, counted, withdrawing}
 use Rattle.study.specs.Theorems.{ValidContents}
+use Rattle.study.proofs.LadderLaws.{Accepts, ladder-accepts, ladder-refuses}
 use Rattle.study.proofs.CallLaws.{enters, entered-size, withdraws, withdrawn-size}
 use Rattle.study.proofs.MinimaLaws.{understood-raised, too-much}
 use Rattle.validity.specs.Memory.{State, stateOf, short, isDataset, studyOf, contentsOf, setK, setSize, setMinima, setCounts, recordOf, distancesOf}
@@ -75,41 +76,19 @@ module _ (s : State) where
     users-own e u f = rw (e, u, f)
 
     -- what an accepted call tells
-    pub record HeldAccepted : Type 0 where
-      pub not-short : short s ≡ false
-      pub known : allOf isUser users ≡ true
-      pub tested : isDataset s ≡ true
-      pub reasons : firstOf (own (contentsOf s)) ≡ accepted
+    abbrev pub HeldAccepted : Type 0
+    HeldAccepted = Accepts (short s) users (isDataset s) (own (contentsOf s))
 
     pub accepted-held : heldAnswer s users own ≡ accepted → HeldAccepted
-    unfolding heldAnswer heldReasons freshReasons firstOf
-    accepted-held e = by (short s) (allOf isUser users) (isDataset s) refl refl refl e
-      where
-        never : (r : Numbered) → refused r ≡ accepted → ⊥
-        never r q = let z : _≡_ {A = ℕ} 0 1 = cc in omega arith
-
-        by : (a u b : Bool) → short s ≡ a → allOf isUser users ≡ u → isDataset s ≡ b
-            → cond a (refused (number 1)) (cond (not u) (refused (number 14)) (cond (not b) (refused (number 21)) (firstOf (own (contentsOf s)))))
-            ≡ accepted → HeldAccepted
-        by true u b p k q h = absurd (never (number 1) h)
-        by false true true p k q h = record { not-short = p; known = k; tested = q; reasons = h }
-        by false true false p k q h = absurd (never (number 21) h)
-        by false false b p k q h = absurd (never (number 14) h)
+    unfolding heldAnswer
+    accepted-held e = ladder-accepts (short s) users (isDataset s) (own (contentsOf s)) e
 
     -- what refuses before the call's own reasons refuses the call
     pub held-refused : {a : Answer} {x : Refusal} → a ≡ Refused x → verdictOf a ≡ heldAnswer s users (λ _. []) → verdictOf a ≡ heldAnswer s users own
-    unfolding heldAnswer heldReasons freshReasons firstOf
-    held-refused {a} {x} e f = f ∙ by (short s) (allOf isUser users) (isDataset s) (sym (ap verdictOf e) ∙ f)
-      where
-        -- the ladder, and then this
-        ladder : Bool → Bool → Bool → Verdict → Verdict
-        ladder a u b v = cond a (refused (number 1)) (cond (not u) (refused (number 14)) (cond (not b) (refused (number 21)) v))
-
-        by : (a u b : Bool) → refused (numbered x) ≡ ladder a u b accepted → ladder a u b accepted ≡ ladder a u b (firstOf (own (contentsOf s)))
-        by true u b h = refl
-        by false true true h = let z : _≡_ {A = ℕ} 0 1 = cc in absurd (omega arith)
-        by false true false h = refl
-        by false false b h = refl
+    unfolding heldAnswer
+    held-refused e f =
+        let q = ap verdictOf e in
+        q ∙ sym (ladder-refuses (short s) users (isDataset s) (own (contentsOf s)) (sym f ∙ q))
 
   -- one that names none
   pub held-own : (own : Contents → List Reason) → short s ≡ false → isDataset s ≡ true → firstOf (own (contentsOf s)) ≡ heldAnswer s [] own

@@ -4,7 +4,6 @@ pub mod RunLaws
 pub mod FileLaws
 pub mod DistanceLaws
 pub mod DecodedLaws
-pub mod ReasonLaws
 pub mod ReadLaws
 pub mod WrittenLaws
 pub mod AcceptedLaws

@@ -18,7 +18,7 @@ use Rattle.file_format.specs.Bits.{bitsAt}
 use Rattle.file_format.specs.File.{newMark, oldMark, bitLength, byteLength, markOf, countsIn, minimaAt, decoded, headReasons}
 use Rattle.file_format.specs.File.{tideReasons, readReasons}
 use Rattle.file_format.proofs.DecodedLaws.{decoded-setting}
-use Rattle.file_format.proofs.ReasonLaws.{firstOf-later, firstOf-sooner, firstOf-both, holds-none, refused-at, none-of-runs, first-of-runs}
+use Rattle.study.proofs.ReasonLaws.{firstOf-later, firstOf-sooner, firstOf-both, holds-none, refused-at, none-of-runs, first-of-runs}
 use Rattle.file_format.specs.Head.{Head, Clear}
 
 -- ---- what it says that none of a part holds

@@ -3,7 +3,7 @@ use Prim.Native.Nat.{ℕ, _+_, _-_}
 use native.Mathlib.Omega.{arith}
 use mathlib.Core.Path.{_≡_, refl, sym, ap, _∙_, subst}
 use mathlib.Core.Logic.{⊎-elim}
-use mathlib.Core.Bool.{Bool, true, false, cond, not}
+use mathlib.Core.Bool.{Bool, true, false, cond, true≢false}
 use mathlib.Core.List.{List, [], _∷_, _++_}
 use mathlib.Core.Option.{Option, none, some}
 use lib.Dec.{T, eqb, eqb→eq, T-not}
@@ -12,15 +12,16 @@ use lib.Seq.{getD-set-same, getD-set-other}
 use Rattle.lists.specs.Lists.{bit, allOf, filter}
 use Rattle.lists.proofs.Tests.{T-true, T-false, T-left, true-T, test, eq→eqb, between-T}
 use Rattle.study.specs.Study.{Contents}
-use Rattle.study.specs.Refusals.{Numbered, number, Verdict, accepted, refused, settled, firstOf, freshReasons, isUser, heldReasons}
+use Rattle.study.specs.Refusals.{Verdict, accepted, refused, settled, firstOf, isUser}
 use Rattle.study.specs.Calls.{opening, settingMinima, entering, countOf, counted, withdrawing}
+use Rattle.study.proofs.LadderLaws.{ladder-accepts}
 use Rattle.file_format.specs.File.{decoded}
 use Rattle.file_format.proofs.DecodedLaws.{counts-valid}
 use Rattle.validity.specs.Memory.{State, short}
 use Rattle.guarantee.specs.Runs.{Change, set-minima, enter, withdraw, updating, Call, call-open, call-read, call-change, call-ask, run}
 use Rattle.guarantee.specs.History.{held, onHeld, reasonsAfter, verdict, changing, changed, step, following, contentsAfter}
 use Rattle.guarantee.specs.Counts.{acceptedCalls, bringsIn, Stretch, onward, stretchAfter, lastStretch, isWithdrawal, withdrawalsBy, countIn}
-use Rattle.guarantee.proofs.Follows.{held-some, holds-valid, past-ladder, holds}
+use Rattle.guarantee.proofs.Follows.{held-some, holds-valid, holds}
 
 -- ---- one more of user v
 
@@ -81,19 +82,6 @@ start-four start = by (held start) refl
     by none e = tt
     by (some H) e = holds-valid (held-some start H e) .counts .four
 
--- while there is no dataset, no call on one is accepted
-no-dataset : (tooShort : Bool) (users : List ℕ) → firstOf (heldReasons tooShort users false []) ≡ accepted → ⊥
-unfolding heldReasons freshReasons firstOf
-no-dataset tooShort users e = by tooShort (allOf isUser users) e
-  where
-    never : (r : Numbered) → refused r ≡ accepted → ⊥
-    never r q = let z : _≡_ {A = ℕ} 0 1 = cc in omega arith
-
-    by : (a u : Bool) → cond a (refused (number 1)) (cond (not u) (refused (number 14)) (refused (number 21))) ≡ accepted → ⊥
-    by true u q = never (number 1) q
-    by false true q = never (number 21) q
-    by false false q = never (number 14) q
-
 -- ---- along the calls
 
 -- the withdrawals in a list with one call more
@@ -120,9 +108,9 @@ module _ (tooShort : Bool) (u : ℕ) (user : T (isUser u)) where
   -- an accepted change
   reckon-change : (c : Change) (s : Stretch) (h : Option Contents) → firstOf (onHeld tooShort (updating c .users) h (updating c .own)) ≡ accepted
       → Reckoned u s h → Reckoned u (onward s (call-change c) none) (changing h (updating c .makes))
-  reckon-change c s none e R = absurd (no-dataset tooShort (updating c .users) e)
+  reckon-change c s none e R = absurd (true≢false (sym (ladder-accepts tooShort (updating c .users) false [] e .tested)))
   reckon-change c s (some H) e R =
-      let K = change-counts u user c H (R .four) (past-ladder tooShort (updating c .users) (updating c .own H) e .0) in
+      let K = change-counts u user c H (R .four) (ladder-accepts tooShort (updating c .users) true (updating c .own H) e .known) in
       record { four = K .four; count = omega (arith, K .count, one-more u (call-change c) (s .calls), R .count) }
 
   -- an accepted call

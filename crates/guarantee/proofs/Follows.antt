@@ -3,13 +3,12 @@
 use Prim.Native.Nat.{ℕ}
 use native.Mathlib.Omega.{arith}
 use mathlib.Core.Path.{_≡_, refl, sym, ap, ap₂, _∙_, subst}
-use mathlib.Core.Bool.{Bool, true, false, cond, not}
+use mathlib.Core.Bool.{Bool, true, false, cond}
 use mathlib.Core.List.{List, [], _∷_}
 use mathlib.Core.Option.{Option, none, some}
-use Rattle.lists.specs.Lists.{allOf}
 use Rattle.lists.proofs.Tests.{T-true, true-T}
 use Rattle.study.specs.Study.{Contents}
-use Rattle.study.specs.Refusals.{Numbered, number, Verdict, accepted, refused, settled, Reason, firstOf, freshReasons, isUser, heldReasons}
+use Rattle.study.specs.Refusals.{Verdict, accepted, refused, settled, Reason, firstOf, freshReasons, heldReasons}
 use Rattle.study.specs.Calls.{openReasons, opening}
 use Rattle.study.specs.Theorems.{ValidContents}
 use Rattle.study.proofs.Proofs.{for-calls}
@@ -49,21 +48,6 @@ pub holds-valid : {s : State} {H : Contents} → Holds s H → ValidContents H
 holds-valid {s} A = subst ValidContents (A .contents) (for-datasets .valid s (true-T (isDataset s) (A .tested)))
 
 -- ---- what a call answers
-
--- an accepted call on what is held named users only, and was refused by none of its own reasons
-pub past-ladder : (tooShort : Bool) (users : List ℕ) (own : List Reason) → firstOf (heldReasons tooShort users true own) ≡ accepted
-    → (allOf isUser users ≡ true) × (firstOf own ≡ accepted)
-unfolding heldReasons freshReasons firstOf
-past-ladder tooShort users own e = by tooShort (allOf isUser users) refl e
-  where
-    never : (r : Numbered) → refused r ≡ accepted → ⊥
-    never r q = let z : _≡_ {A = ℕ} 0 1 = cc in omega arith
-
-    by : (a u : Bool) → allOf isUser users ≡ u → cond a (refused (number 1)) (cond (not u) (refused (number 14)) (firstOf own)) ≡ accepted
-        → (allOf isUser users ≡ true) × (firstOf own ≡ accepted)
-    by true u k q = absurd (never (number 1) q)
-    by false true k q = (k, q)
-    by false false k q = absurd (never (number 14) q)
 
 -- a call on a dataset
 answer-held : (s : State) (users : List ℕ) (own : Contents → List Reason)

@@ -21,6 +21,7 @@ use Rattle.study.specs.Refusals.{Verdict, accepted, refused, settled, Reason, f
 use Rattle.study.specs.Calls.{opened, opening, understood, withMinima, settingMinima, entered, entering, withdrawn, withdrawing, skip}
 use Rattle.study.proofs.CallLaws.{entered-size, entered-old, entered-new, entered-held, entered-row, old-or-new, skip-is, withdrawn-setting}
 use Rattle.study.proofs.CallLaws.{withdrawn-distance, withdrawn-size, skip-inside, withdraws}
+use Rattle.study.proofs.LadderLaws.{ladder-accepts}
 use Rattle.file_format.specs.File.{decoded}
 use Rattle.validity.specs.Memory.{State, short}
 use Rattle.guarantee.specs.Runs.{Change, set-minima, enter, withdraw, updating, Call, call-open, call-read, call-change, call-ask, answer, run}
@@ -28,7 +29,7 @@ use Rattle.guarantee.specs.History.{held, onHeld, reasonsAfter, verdict,
 use Rattle.guarantee.specs.Ledger.{Arrival, Ledger, noArrival, named, nameOf, fileLedger, emptyLedger, withArrival, withGone, noting, noted, noteAll}
 use Rattle.guarantee.specs.Ledger.{begun, ledgerAfter, Exactly}
 use Rattle.guarantee.specs.Theorems.{Anew}
-use Rattle.guarantee.proofs.Follows.{past-ladder, holds, answers}
+use Rattle.guarantee.proofs.Follows.{holds, answers}
 use Rattle.guarantee.proofs.Names.{stays, arrived, remaining-count, name-nth, nth-name}
 
 -- what the calls keep: the study's tides are those that remain, and no name is gone before it is given
@@ -279,7 +280,7 @@ agree-changing : (own : Contents → List Reason) (f : Contents → Contents) (g
     → Matched (changing h f) (changing l g)
 agree-changing own f g m tooShort users none l e K = tt
 agree-changing own f g m tooShort users (some H) none e K = absurd K
-agree-changing own f g m tooShort users (some H) (some L) e K = m H L (past-ladder tooShort users (own H) e .1) K
+agree-changing own f g m tooShort users (some H) (some L) e K = m H L (ladder-accepts tooShort users true (own H) e .reasons) K
 
 change-matches : (c : Change) (H : Contents) (L : Ledger) → firstOf (updating c .own H) ≡ accepted → Matches (H .study) L
     → Matches (updating c .makes H .study) (noting c L)

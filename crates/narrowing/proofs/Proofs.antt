@@ -3,7 +3,7 @@ use Prim.Native.Nat.{ℕ, suc, _≤_, _<_}
 use native.Mathlib.Omega.{arith}
 use mathlib.Core.Path.{_≡_, refl, sym, ap, ap₂, _∙_}
 use mathlib.Core.Logic.{_⊎_, inl, inr, ⊎-elim}
-use mathlib.Core.Bool.{Bool, true, false, cond, not, true≢false}
+use mathlib.Core.Bool.{Bool, true, false, not, true≢false}
 use mathlib.Core.List.{List, [], _∷_, map}
 use lib.Dec.{T}
 use lib.ListN.{length, getD, length-map, List·getD-map}
@@ -17,11 +17,11 @@ use Rattle.lists.proofs.Counting.{sum-front}
 use Rattle.study.specs.declared.Minima.{Minima}
 use Rattle.study.specs.Minima.{Acceptable}
 use Rattle.study.specs.Study.{Contents, size, validMinima}
-use Rattle.study.specs.Refusals.{number, Verdict, accepted, refused, settled, Reason, firstOf, freshReasons}
-use Rattle.study.specs.Refusals.{isUser, heldReasons}
+use Rattle.study.specs.Refusals.{Verdict, accepted, refused, settled, Reason, firstOf, freshReasons, isUser, heldReasons}
 use Rattle.study.specs.Calls.{openReasons, opening, understood, minimaReasons, settingMinima, enterReasons, entering, withdrawReasons, withdrawing}
 use Rattle.study.specs.Theorems.{ValidContents}
 use Rattle.study.proofs.CallLaws.{none-holds}
+use Rattle.study.proofs.LadderLaws.{ladder-same}
 use Rattle.study.proofs.MinimaLaws.{fit-acceptable, acceptable-T}
 use Rattle.validity.specs.Memory.{State, stateOf, setK, setMinima, short, isDataset, contentsOf, stored}
 use Rattle.validity.specs.Validity.{IsStudy}
@@ -130,19 +130,10 @@ module _ (s : State) where
       (same : (H : Contents) → ValidContents H → allOf isUser users ≡ true → own′ H ≡ own H)
       (makes-same : (H : Contents) → ValidContents H → allOf isUser users ≡ true → firstOf (own H) ≡ accepted → makes′ H ≡ makes H) where
     answer-same : heldAnswer s users′ own′ ≡ heldAnswer s users own
-    unfolding heldAnswer heldReasons freshReasons firstOf
+    unfolding heldAnswer
     answer-same =
-        ap (cond (short s) (refused (number 1)))
-        (ap (λ k. past k (isDataset s) own′) users-same ∙ by (allOf isUser users) (isDataset s) refl refl)
-      where
-        -- past short memory
-        past : Bool → Bool → (Contents → List Reason) → Verdict
-        past k b o = cond (not k) (refused (number 14)) (cond (not b) (refused (number 21)) (firstOf (o (contentsOf s))))
-
-        by : (k b : Bool) → allOf isUser users ≡ k → isDataset s ≡ b → past k b own′ ≡ past k b own
-        by true true f e = ap firstOf (same (contentsOf s) (valid e) f)
-        by true false f e = refl
-        by false b f e = refl
+        ladder-same (short s) users users′ (isDataset s) (own (contentsOf s)) (own′ (contentsOf s)) users-same
+        (λ A. ap firstOf (same (contentsOf s) (valid (A .tested)) (A .known)))
 
     held-same : (heldAnswer s users′ own′ ≡ heldAnswer s users own)
         × (settled (heldAnswer s users′ own′) (stored (makes′ (contentsOf s)) s) s ≡ settled (heldAnswer s users own) (stored (makes (contentsOf s)) s) s)

@@ -18,7 +18,7 @@ use Rattle.study.specs.Refusals.{Numbered, numbered, Verdict, accepted, refused
 use Rattle.study.specs.Theorems.{ValidContents}
 use Rattle.study.specs.Calls.{blockReasons, Figures, figures, blockRecord}
 use Rattle.file_format.specs.File.{decoded, readReasons}
-use Rattle.file_format.proofs.ReasonLaws.{firstOf-later, firstOf-sooner}
+use Rattle.study.proofs.ReasonLaws.{firstOf-later, firstOf-sooner}
 use Rattle.file_format.proofs.Proofs.{files}
 use Rattle.validity.specs.Memory.{State, stateOf, short, isDataset, studyOf, contentsOf, stored}
 use Rattle.dataset.specs.Answers.{freshAnswer, freshLeaves}

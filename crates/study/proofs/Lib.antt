@@ -5,6 +5,8 @@ pub mod Dictionary
 pub mod StudyLaws
 pub mod TriangleLaws
 pub mod CallLaws
+pub mod ReasonLaws
+pub mod LadderLaws
 pub mod MinimaLaws
 pub mod NearestLaws
 pub mod Proofs

@@ -40,6 +40,14 @@ firstOf-both xs ys = (λ e. apart (firstOf xs) (sym (firstOf-append xs ys) ∙ e
     apart : (v : Verdict) → settled v (firstOf ys) v ≡ accepted → (v ≡ accepted) × (firstOf ys ≡ accepted)
     apart accepted e = (refl, e)
     apart (refused r) e = (e, absurd (let z : _≡_ {A = ℕ} 0 1 = cc in omega arith))
+
+-- what follows xs counts only where none of xs holds
+pub firstOf-after : (xs ys zs : List Reason) → (firstOf xs ≡ accepted → firstOf ys ≡ firstOf zs) → firstOf (xs ++ ys) ≡ firstOf (xs ++ zs)
+firstOf-after xs ys zs f = firstOf-append xs ys ∙ by (firstOf xs) f ∙ sym (firstOf-append xs zs)
+  where
+    by : (v : Verdict) → (v ≡ accepted → firstOf ys ≡ firstOf zs) → settled v (firstOf ys) v ≡ settled v (firstOf zs) v
+    by accepted g = g refl
+    by (refused r) g = refl
 
 pub holds-none : (rs : List Reason) → NoneHolds rs → firstOf rs ≡ accepted
 unfolding firstOf
