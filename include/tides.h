@@ -19,17 +19,18 @@ extern "C" {
  * Each call answers 0, or the number of the first reason that holds, in the order given. For 7 it answers 7 + 256 i + 65,536 j,
  * where i < j is the first pair of tides with which the three-tide rule breaks. A refused call changes nothing.
  *
- *  1  record, memory, list, table or file too short  10  n of a file or table above 120
- *  2  k not 1 to 8                                   11  filling bits not zero
- *  3  b0 not 1 to 120, a b above k not 0, or the b's 12  judged list's length differs from n
- *     together above b0 (tides_minima: above 120)    13  table not the same both ways, or a tide not at 0 from itself
- *  4  row length differs from the tides held         14  user not 1 to 4
+ *  1  record, memory, list, table or file too short  11  filling bits not zero
+ *  2  k not 1 to 8                                   12  judged list's length differs from n
+ *  3  b0 not 1 to 120, a b above k not 0, or the b's 13  table not the same both ways, or a tide not at 0 from itself
+ *     together above b0 (tides_minima: above 120)    14  user not 1 to 4
+ *  4  row length differs from the tides held         15  new tide at distance 0 from a tide of its setting
  *  5  setting not 1 to k                             21  record and memory are no dataset
  *  6  distance above 1,048,575                       22  120 tides held already
  *  7  three-tide rule broken                         23  no tide of that number
  *  8  file under 6 bytes, of mark 55 under 12, or    24  no tides
  *     not of its length                              25  fewer than b0 tides, or fewer of a setting than its b
  *  9  mark neither 54 nor 55 (hexadecimal)           26  this user's withdrawals already 65,535
+ * 10  n of a file or table above 120
  */
 
 /* The dataset becomes empty: the given k, b0 = 1, every b = 0, no withdrawals. Any record and memory will do. Reasons: 1, 2. */
@@ -43,7 +44,10 @@ uint32_t tides_open(uint16_t *record, size_t record_length, uint32_t *distances,
 uint32_t tides_minima(uint16_t *record, size_t record_length, const uint32_t *distances, size_t distances_length,
                       const uint8_t *settings, size_t settings_length, const uint8_t *minima, size_t minima_length);
 
-/* One more tide, at the row's distances from the tides held. Reasons: 1, 21, 22, 4, 5, 6, 7. */
+/*
+ * One more tide, at the row's distances from the tides held. Reasons: 1, 21, 22, 4, 5, 6, 7, 15. Only this call refuses a duplicate (15): a
+ * dataset and a file that hold one are taken by every other call.
+ */
 uint32_t tides_enter(uint16_t *record, size_t record_length, uint32_t *distances, size_t distances_length, uint8_t *settings,
                      size_t settings_length, uint32_t setting, const uint32_t *row, size_t row_length);
 

@@ -268,7 +268,7 @@ const LOOKS: [usize; 8] = [1, 2, 3, 4, 5, 6, 8, 9];
 const REASONS: [&[usize]; CALLS] = [
     &[1, 2],
     &[1, 3, 21],
-    &[1, 4, 5, 6, 7, 21, 22],
+    &[1, 4, 5, 6, 7, 15, 21, 22],
     &[1, 14, 21, 23, 26],
     &[1, 21, 24],
     &[1, 21, 24, 25],
@@ -413,6 +413,32 @@ struct Seen {
     bills: Bills,
     centred: Centred,
     kept: Kept,
+    twins: Twins,
+}
+
+/// What was met of tides at distance 0 from each other.
+#[derive(Default)]
+struct Twins {
+    held: u64,    // calls accepted, but for Enter, of a book that holds a twin
+    entered: u64, // tides entered there
+    others: u64,  // tides entered at 0 from tides of other settings alone
+}
+
+impl Twins {
+    /// Of an accepted call and the book before it; of Read, the one after it.
+    fn note(&mut self, before: &World, after: &World, call: &Call) {
+        let w = if matches!(call, Call::Read { .. }) { after } else { before };
+        let (n, d, s) = (w.n(), &w.distances.places, &w.settings.places);
+        let twin = |i: usize, j: usize| d[ROW * i + j] == 0 && s[i] == s[j];
+        let held = (0..n).any(|i| (0..i).any(|j| twin(i, j))) as u64;
+        match call {
+            Call::Enter { row, .. } => {
+                self.entered += held;
+                self.others += row.part().contains(&0) as u64;
+            }
+            _ => self.held += held,
+        }
+    }
 }
 
 /// What was met of keepers and marks.
@@ -526,6 +552,7 @@ impl Seen {
             bills: Bills::default(),
             centred: Centred::default(),
             kept: Kept::default(),
+            twins: Twins::default(),
         }
     }
 
@@ -580,6 +607,9 @@ impl Seen {
         self.by_group[reason] += 1;
         self.by_call[c][reason] += 1;
         self.kept.note(w, call, answer);
+        if answer == 0 && !matches!(call, Call::Open { .. } | Call::Mend { .. }) {
+            self.twins.note(&before_w, w, call);
+        }
         if let (Call::Judge { result, .. }, 0) = (&*call, answer) {
             if result.places[0] == 1 {
                 self.yes += 1;
@@ -1448,6 +1478,23 @@ fn open(rng: &mut Rng, seen: &mut Seen, run: &mut Run) {
     run.make(seen, &mut call, 0);
 }
 
+/// Open; or, for a run of undamaged calls, a file of tides at any of the run's
+/// points, the same point twice among them.
+fn begin(rng: &mut Rng, seen: &mut Seen, run: &mut Run, target: usize) {
+    if target == 0 || rng.one_in(2) {
+        return open(rng, seen, run);
+    }
+    let held: Vec<usize> =
+        (0..rng.within(1, target)).map(|_| rng.below(run.metric.len())).collect();
+    let far = |p: &usize| held.iter().map(|q| run.metric[*p][*q]).collect();
+    let distances = held.iter().map(far).collect();
+    let study = Study { distances, ..some_study(rng, held.len()) };
+    let file = plain::file_of(&study);
+    run.files = vec![(file.clone(), held)];
+    let mut read = Call::Read { file: exact(rng, &file) };
+    expect(run.make(seen, &mut read, 0), 0, "a file of any tides is read");
+}
+
 /// How many tides a run aims at; seldom none.
 fn some_size(rng: &mut Rng, most: usize) -> usize {
     if rng.one_in(25) {
@@ -1466,7 +1513,7 @@ fn sound(seen: &mut Seen, rng: &mut Rng, runs: usize, most: usize, calls: usize)
         if rng.one_in(8) {
             run.step(seen, rng, target); // junk memory first
         }
-        open(rng, seen, &mut run);
+        begin(rng, seen, &mut run, target);
         for _ in 0..calls {
             run.step(seen, rng, target);
         }
@@ -1486,7 +1533,7 @@ fn faulty(
         let target = some_size(rng, most);
         let points = rng.within(1, 2 * most);
         let mut run = Run::new(rng, points);
-        open(rng, seen, &mut run);
+        begin(rng, seen, &mut run, target);
         for _ in 0..2 * target {
             run.step(seen, rng, target);
         }
@@ -1506,7 +1553,7 @@ fn lasting(seen: &mut Seen, rng: &mut Rng, runs: usize) {
     for _ in 0..runs {
         let target = some_size(rng, 8);
         let mut run = Run::new(rng, 10);
-        open(rng, seen, &mut run);
+        begin(rng, seen, &mut run, target);
         for _ in 0..3 * target {
             run.step(seen, rng, target);
         }
@@ -1554,7 +1601,7 @@ fn short(seen: &mut Seen, rng: &mut Rng) {
         expect(run.make(seen, &mut read, 0), 0, "the known file is read");
         let (mut call, _) = run.propose_call(rng, what, 5, 2);
         if let Call::Enter { row, .. } = &mut call {
-            *row = exact(rng, &[5, 2, 0, 1, 5]);
+            *row = exact(rng, &[4, 1, 1, 2, 6]);
         }
         if let Call::Read { file: f } = &mut call {
             *f = exact(rng, &file);
@@ -1673,7 +1720,7 @@ fn numbers(seen: &mut Seen, rng: &mut Rng) {
     expect(run.make(seen, &mut read, 0), 0, "the known file is read");
     let powers = (9..32).flat_map(|bits| (0..10).map(move |more| (1u32 << bits) - 1 + more));
     for x in (0..=600).chain(powers).chain([u32::MAX - 1, u32::MAX]) {
-        let row = exact(rng, &[5, 2, 0, 1, 5]);
+        let row = exact(rng, &[4, 1, 1, 2, 6]);
         for (mut call, most, reason) in [
             (Call::Open { k: x }, 8, 2),
             (Call::Enter { setting: x, row }, 2, 5),
@@ -1918,15 +1965,34 @@ fn expect(answer: u32, expected: u32, what: &str) {
     }
 }
 
-/// A book of tides on a line.
+/// A book of tides on a line; one with a twin comes in by file (document 02, 2.8).
 fn line(seen: &mut Seen, rng: &mut Rng, at: &[i32], settings: &[u8], k: u8) -> Run {
     let mut run = Run::new(rng, 1);
     expect(run.make(seen, &mut Call::Open { k: k as u32 }, 0), 0, "Open");
     for t in 0..at.len() {
         let row: Vec<u32> = (0..t).map(|e| at[t].abs_diff(at[e])).collect();
         let mut call = Call::Enter { setting: settings[t] as u32, row: exact(rng, &row) };
+        if (0..t).any(|e| at[e] == at[t] && settings[e] == settings[t]) {
+            expect(run.make(seen, &mut call, 0), 15, "Enter of a twin");
+            return line_by_file(seen, rng, at, settings, k);
+        }
         expect(run.make(seen, &mut call, 0), 0, "Enter");
     }
+    run
+}
+
+fn line_by_file(seen: &mut Seen, rng: &mut Rng, at: &[i32], settings: &[u8], k: u8) -> Run {
+    let mut run = Run::new(rng, 1);
+    let file = plain::file_of(&Study {
+        k: k as usize,
+        b0: 1,
+        b: [0; 8],
+        withdrawals: [0; KEEPERS],
+        settings: settings[..at.len()].iter().map(|x| *x as usize).collect(),
+        distances: at.iter().map(|x| at.iter().map(|y| x.abs_diff(*y)).collect()).collect(),
+    });
+    let mut read = Call::Read { file: exact(rng, &file) };
+    expect(run.make(seen, &mut read, 0), 0, "a file with a twin is read");
     run
 }
 
@@ -2115,6 +2181,45 @@ fn below_the_sum(seen: &mut Seen, rng: &mut Rng) {
     let below = plain::file_of(&Study { b0: 1, ..known_study() });
     let mut read = Call::Read { file: exact(rng, &below) };
     expect(run.make(seen, &mut read, 0), 3, "a file with b0 = 1");
+}
+
+// ---- twins ----
+
+/// Document 02, 2.8: cases with their numbers, each with its setting and its
+/// row to tides of settings 1, 2, 1 and 3 at 0, 0, 4 and 9.
+fn twins(seen: &mut Seen, rng: &mut Rng) {
+    let held = |seen: &mut Seen, rng: &mut Rng| line(seen, rng, &[0, 0, 4, 9], &[1, 2, 1, 3], 4);
+    for (setting, row, answer) in [
+        // at 0 from two tides: of the first's setting, the second's, none's
+        (1, [0, 0, 4, 9], 15),
+        (2, [0, 0, 4, 9], 15),
+        (3, [0, 0, 4, 9], 0),
+        (4, [0, 0, 4, 9], 0),
+        // at 0 from one, of its setting and of others
+        (1, [4, 4, 0, 5], 15),
+        (2, [4, 4, 0, 5], 0),
+        (3, [9, 9, 5, 0], 15),
+        (1, [9, 9, 5, 0], 0),
+        // at 0 from none, and from one that breaks the rule: 7 comes first, and 6 before it
+        (1, [1, 1, 3, 8], 0),
+        (1, [0, 1, 4, 9], 7 + 256 + 2 * 65_536),
+        (1, [0, 0, 5, 9], 7 + 256 + 3 * 65_536),
+        (1, [0, 0, 4, FAR + 1], 6),
+        (5, [0, 0, 4, 9], 5),
+    ] {
+        let mut run = held(seen, rng);
+        let mut call = Call::Enter { setting, row: exact(rng, &row) };
+        let what = format!("Enter of setting {setting} at {row:?}");
+        expect(run.make(seen, &mut call, 0), answer, &what);
+    }
+    // once its twin is withdrawn, the same tide enters
+    let mut run = held(seen, rng);
+    expect(run.make(seen, &mut Call::Withdraw { keeper: 1, tide: 1 }, 0), 0, "Withdraw");
+    for answer in [0, 15] {
+        let row = [0, 4, 9, 0];
+        let mut call = Call::Enter { setting: 1, row: exact(rng, &row[..run.w.n()]) };
+        expect(run.make(seen, &mut call, 0), answer, "Enter after a withdrawal");
+    }
 }
 
 // ---- keepers and marks ----
@@ -2381,6 +2486,7 @@ fn main() {
         ("worked cases", Box::new(worked)),
         ("b0 below the sum", Box::new(below_the_sum)),
         ("keepers", Box::new(keepers)),
+        ("twins", Box::new(twins)),
         ("files of both marks", Box::new(|s, r| both_marks(s, r, 60))),
         ("nearest centres", Box::new(nearest_centres)),
         ("centres at every g", Box::new(|s, r| every_distance(s, r, 600))),
@@ -2431,6 +2537,8 @@ fn main() {
     let kept = &seen.kept;
     whole &= kept.by.iter().all(|x| *x > 0) && kept.stopped > 0;
     whole &= kept.old > 0 && kept.new > 0;
+    let twins = &seen.twins;
+    whole &= twins.held > 0 && twins.entered > 0 && twins.others > 0;
     println!("Judge said yes {} times and no {} times", seen.yes, seen.no);
     println!(
         "{} blockings of up to 7 tides also by full enumeration, none wider than twice the least",
@@ -2462,6 +2570,11 @@ fn main() {
         kept.by, kept.stopped
     );
     println!("{} files of mark 54 accepted, {} of mark 55", kept.old, kept.new);
+    println!(
+        "{} calls accepted of books that hold a twin and {} tides entered there; \
+         {} tides entered at 0 from tides of other settings alone",
+        twins.held, twins.entered, twins.others
+    );
     if !whole {
         println!("FAILED: something that is counted above was never seen");
         exit(1);

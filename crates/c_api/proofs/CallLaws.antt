@@ -102,7 +102,7 @@ module _ (s : State) where
       narrow : (H : Contents) → ValidContents H → AllNarrow (enterReasons (H .study) setting row)
       narrow H ok = (
         small tt,
-        (small tt, (small tt, (small tt, (pair-narrow _ _ _ (omega (arith, ok .study .few)), tt)))),
+        (small tt, (small tt, (small tt, (pair-narrow _ _ _ (omega (arith, ok .study .few)), (small tt, tt))))),
       )
 
   pub withdraw-sound : (u t : ℕ) → Sound (withdrawAnswer s u t) (withdrawing u t (contentsOf s))

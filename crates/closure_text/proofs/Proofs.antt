@@ -3,12 +3,15 @@ use Prim.Native.Nat.{ℕ, _+_, _≤_, _<_}
 use native.Mathlib.Omega.{arith}
 use mathlib.Core.Path.{_≡_, refl, sym, ap, _∙_, subst}
 use mathlib.Core.Logic.{_↔_, ⊎-elim}
+use mathlib.Core.Bool.{true, false}
 use mathlib.Core.List.{List}
 use borrow.Author.Tests.{lt-ltb, le-ltb}
 use lib.ListN.{length, getD}
 use Rattle.lists.proofs.Tests.{split}
 use Rattle.lists.proofs.Tables.{length-tabulate, getD-tabulate, tabulate-is}
 use Rattle.study.specs.Study.{Tide, Study, size, noTide, tide, distance, TriangleInequality, Valid, MeasuredStudy}
+use Rattle.study.specs.Refusals.{number}
+use Rattle.study.specs.Calls.{holdsDuplicate}
 use Rattle.study.proofs.StudyLaws.{distance-both-ways, distance-itself}
 use Rattle.metric_closure.specs.Closure.{closure}
 use Rattle.metric_closure.specs.Theorems.{ForTable}
@@ -16,11 +19,11 @@ use Rattle.metric_closure.proofs.ClosureLaws.{lowered-few}
 use Rattle.metric_closure.proofs.TableLaws.{few-places}
 use Rattle.metric_closure.proofs.Proofs.{for-table}
 use Rattle.study_text.specs.declared.Rule.the-variants as RuleCase
-use Rattle.study_text.specs.Packing.{ended, textOf}
+use Rattle.study_text.specs.Packing.{refusedAt, ended, stopped, textOf}
 use Rattle.closure_text.specs.Text.{lowered, closedTide, closedStudy, closureText}
 use Rattle.closure_text.specs.Theorems.{fresh, EveryStudy, EveryText}
 use Rattle.closure_text.proofs.TextLaws.{text-measured}
-use Rattle.closure_text.proofs.ReadBack.{read-back}
+use Rattle.closure_text.proofs.ReadBack.{read-back, read-refused}
 use Rattle.closure_text.proofs.TextLength.{text-short}
 
 module _ (S : Study) where
@@ -121,9 +124,13 @@ module _ (S : Study) where
     unfolding lowered
     pairs-few = omega (arith, lowered-few (size S) (distance S), few-places (size S) (W .few))
 
-    text-read : (l : ℕ) × (textOf RuleCase.Entered (closureText S) ≡ ended (fresh M) l)
+    text-read : holdsDuplicate M ≡ false → (l : ℕ) × (textOf RuleCase.Entered (closureText S) ≡ ended (fresh M) l)
     unfolding closureText
-    text-read = read-back (lowered S) M pairs-few closed-valid
+    text-read none = read-back (lowered S) M pairs-few closed-valid none
+
+    text-refused : holdsDuplicate M ≡ true → (l : ℕ) × (textOf RuleCase.Entered (closureText S) ≡ stopped (refusedAt l (number 15)))
+    unfolding closureText
+    text-refused one = read-refused (lowered S) M pairs-few closed-valid one
 
     text-fits : length (closureText S) ≤ 131072
     unfolding closureText
@@ -139,6 +146,7 @@ for-closure S W =
       none-lowered = none-lowered S;
       short = text-fits S W;
       read-back = text-read S W;
+      read-refused = text-refused S W;
     }
 
 pub for-texts : EveryText

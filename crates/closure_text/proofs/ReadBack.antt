@@ -5,7 +5,7 @@ use mathlib.Core.Path.{_≡_, refl, sym, ap, ap₂, _∙_, subst}
 use mathlib.Core.Logic.{⊎-elim}
 use mathlib.Core.Bool.{cond}
 use mathlib.Core.List.{List, [], _∷_, _++_, flatMap, append-assoc}
-use lib.Dec.{leb, ltb, le→leb}
+use lib.Dec.{T, leb, ltb, le→leb}
 use lib.ListN.{length, take, drop, getD, List·getD-eq-default}
 use lib.Seq.{length-take-le, take-suc, take-length, drop-cons, drop-length, getD-take}
 use borrow.Author.Tests.{lt-leb, eq-eqb}
@@ -17,12 +17,14 @@ use Rattle.lists.proofs.Scans.{between-in}
 use Rattle.lists.proofs.Tables.{tabulate-is}
 use Rattle.study.specs.Minima.{MinimaFit}
 use Rattle.study.specs.Study.{Tide, Study, Contents, withTides, size, noTide, tide, distance, Valid}
-use Rattle.study.specs.Refusals.{Verdict, accepted, firstOf}
-use Rattle.study.specs.Calls.{openReasons, opened, opening, withMinima, settingMinima, violations, enterReasons, entering}
+use Rattle.study.specs.declared.Refusal.the-variants as RefusalCase
+use Rattle.study.specs.Refusals.{number, Verdict, accepted, refused, firstOf}
+use Rattle.study.specs.Calls.{openReasons, opened, opening, withMinima, settingMinima, violations, duplicated, holdsDuplicate, enterReasons, entering}
 use Rattle.study.specs.Calls.{entered as withTide}
 use Rattle.study.proofs.StudyLaws.{validMinima-T, distance-both-ways}
 use Rattle.study.proofs.TriangleLaws.{obeyed-of, triangle-of}
-use Rattle.study.proofs.CallLaws.{Enters}
+use Rattle.study.proofs.CallLaws.{Measures}
+use Rattle.study.proofs.DuplicateLaws.{duplicated-same, duplicate-at, none-duplicate, first-duplicate}
 use Rattle.study.proofs.Proofs.{for-minima}
 use Rattle.file_format.proofs.DistanceLaws.{distance-row}
 use Rattle.metric_closure.specs.Tables.{InRange}
@@ -30,9 +32,12 @@ use Rattle.sheet_text.specs.Text.{decimal, spaced}
 use Rattle.text_words.specs.declared.Cursor.{Cursor}
 use Rattle.text_words.specs.Words.{endsWord, wordOf}
 use Rattle.study_text.specs.declared.Rule.the-variants as RuleCase
+use Rattle.study_text.specs.declared.Packed.the-variants as PackedCase
+use Rattle.study_text.specs.declared.calls.Over.{Over}
 use Rattle.study_text.specs.declared.calls.Over.the-variants as OverCase
-use Rattle.study_text.specs.Packing.{called, minimaFrom, openingOf, minimaOf, headOf, tideOf, going, ended, entered}
+use Rattle.study_text.specs.Packing.{refusedAt, stop, numbersOf, called, minimaFrom, openingOf, minimaOf, headOf, tideOf, going, ended, stopped, entered}
 use Rattle.study_text.specs.Packing.{turnFrom, turnOf, further, turnsOf, textOf}
+use Rattle.study_text.specs.Reached.{overIs}
 use Rattle.study_text.proofs.Turns.{turns-over}
 use Rattle.closure_text.specs.Text.{numberLine, tideLine, studyText, loweredLine}
 use Rattle.closure_text.specs.Theorems.{fresh}
@@ -45,9 +50,11 @@ open-accepted : (k : ℕ) → 1 ≤ k → k ≤ 8 → firstOf (openReasons k) �
 unfolding firstOf openReasons
 open-accepted k l h = rw (between-in 1 8 k l h)
 
-enters-accepted : (S : Study) (x : ℕ) (row : List ℕ) → Enters S x row → firstOf (enterReasons S x row) ≡ accepted
+-- a tide that fits and obeys the triangle inequality is refused only as a duplicate
+enter-answer : (S : Study) (x : ℕ) (row : List ℕ) → Measures S x row → T (isEmpty (violations (distance S) (size S) (λ i. getD row i 0)))
+    → firstOf (enterReasons S x row) ≡ cond (duplicated (λ i. tide S i .setting) (size S) x (λ i. getD row i 0)) (refused (number 15)) accepted
 unfolding firstOf enterReasons
-enters-accepted S x row A =
+enter-answer S x row A obeyed =
     let near = every-of (length row) (λ i. leb (getD row i 0) 1048575)
     (λ i l. le→leb (getD row i 0) 1048575 (A .distance-high i (omega (arith, A .length-is)))) in
     rw (
@@ -55,7 +62,7 @@ enters-accepted S x row A =
       eq-eqb (length row) (size S) (A .length-is),
       between-in 1 (S .k) x (A .setting-low) (A .setting-high),
       T-true (every (length row) (λ i. leb (getD row i 0) 1048575)) near,
-      T-true (isEmpty (violations (distance S) (size S) (λ i. getD row i 0))) (A .obeyed),
+      T-true (isEmpty (violations (distance S) (size S) (λ i. getD row i 0))) obeyed,
     )
 
 -- ---- the first tides of a study
@@ -83,9 +90,9 @@ module _ (S : Study) (ok : Valid S) (t : ℕ) (h : t < size S) where
   pub tide-range : InRange (length (tide S t .row)) (tide S t .row)
   tide-range = record { near = λ i l. tide-near i (omega (arith, ok .row-length t h)) }
 
-  -- tide t comes in after the tides before it
-  tide-enters : Enters (first t S) (tide S t .setting) (tide S t .row)
-  tide-enters =
+  -- tide t fits after the tides before it
+  tide-measures : Measures (first t S) (tide S t .setting) (tide S t .row)
+  tide-measures =
       let n = first-size S t (omega arith) in
       record {
         room = omega (arith, ok .few);
@@ -93,12 +100,29 @@ module _ (S : Study) (ok : Valid S) (t : ℕ) (h : t < size S) where
         setting-low = ok .setting-low t h;
         setting-high = ok .setting-high t h;
         distance-high = λ i l. tide-near i (omega arith);
-        obeyed = obeyed-of (distance (first t S)) (size (first t S)) (λ i. getD (tide S t .row) i 0) (λ i j a b.
-            let q : j < t = omega arith in
-            let p : i < t = omega arith in
-            rw (first-distance S t (omega arith) i j p q, ← distance-row S t i p, ← distance-row S t j q, distance-both-ways S t i, distance-both-ways S t j)
-            (triangle-of (distance S) (distance-both-ways S) (size S) (ok .triangle) i j t (omega arith) (omega arith) h));
       }
+
+  tide-obeys : T (isEmpty (violations (distance (first t S)) (size (first t S)) (λ i. getD (tide S t .row) i 0)))
+  tide-obeys =
+      let n = first-size S t (omega arith) in
+      obeyed-of (distance (first t S)) (size (first t S)) (λ i. getD (tide S t .row) i 0) (λ i j a b.
+      let q : j < t = omega arith in
+      let p : i < t = omega arith in
+      rw (first-distance S t (omega arith) i j p q, ← distance-row S t i p, ← distance-row S t j q, distance-both-ways S t i, distance-both-ways S t j)
+      (triangle-of (distance S) (distance-both-ways S) (size S) (ok .triangle) i j t (omega arith) (omega arith) h))
+
+  -- it is a duplicate of one of them where it is one in the study
+  tide-duplicate : duplicated (λ i. tide (first t S) i .setting) (size (first t S)) (tide S t .setting) (λ i. getD (tide S t .row) i 0) ≡ duplicate-at S t
+  tide-duplicate =
+      ap (λ (n : ℕ). duplicated (λ i. tide (first t S) i .setting) n (tide S t .setting) (λ i. getD (tide S t .row) i 0)) (first-size S t (omega arith))
+      ∙ duplicated-same t (tide S t .setting) _ _ _ _ (λ i l. ap (λ (x : Tide). x .setting) (first-tide S t (omega arith) i l))
+      (λ i l. sym (distance-row S t i l))
+
+  -- so it comes in, or is refused as one
+  tide-answer : firstOf (enterReasons (first t S) (tide S t .setting) (tide S t .row)) ≡ cond (duplicate-at S t) (refused (number 15)) accepted
+  tide-answer =
+      enter-answer (first t S) (tide S t .setting) (tide S t .row) tide-measures tide-obeys
+      ∙ ap (λ b. cond b (refused (number 15)) accepted) tide-duplicate
 
   -- and makes one tide more
   tide-makes : entering (tide S t .setting) (tide S t .row) (fresh (first t S)) ≡ fresh (first (suc t) S)
@@ -233,23 +257,39 @@ after-turn {text} {t} {H} A word tide =
       left = R .left;
     }
 
--- the text's end; no turn comes after it
+-- a turn that ends the text, or stops it; no turn comes after it
+after-last : {text : List ℕ} {t : ℕ} {H : Contents} {rest : List ℕ} (A : After text t H rest) (o : Over) → t ≤ 120
+    → turnOf RuleCase.Entered text H (A .to) ≡ overIs o H → textOf RuleCase.Entered text ≡ overIs o H
+unfolding textOf turnsOf
+after-last {text} {t} {H} A o h e =
+    let all : 120 - t + suc t ≡ 121 = omega arith in
+    let last = ap (λ u. further u (turnOf RuleCase.Entered text)) (A .is) ∙ e in
+    sym (turns-over RuleCase.Entered text (entered (headOf text)) o H (suc t) (120 - t) (sym last)
+    ∙ ap (λ k. turnsOf RuleCase.Entered text k (entered (headOf text))) all)
+
+-- the text's end
 after-end : {text : List ℕ} {t : ℕ} {H : Contents} → After text t H ((10 ∷ []) ++ []) → t ≤ 120 → (l : ℕ) × (textOf RuleCase.Entered text ≡ ended H l)
-unfolding textOf turnsOf turnOf
-after-end {text} {t} {H} A h = (
-  l,
-  sym (turns-over RuleCase.Entered text (entered (headOf text)) (OverCase.End l) H (suc t) (120 - t) (sym last)
-      ∙ ap (λ k. turnsOf RuleCase.Entered text k (entered (headOf text))) all),
-)
-  where
-    l : ℕ
-    l = moved (A .to) (10 ∷ []) .line
+unfolding turnOf
+after-end {text} {t} {H} A h =
+    let l = moved (A .to) (10 ∷ []) .line in
+    (l, after-last A (OverCase.End l) h (ap (turnFrom RuleCase.Entered text H) (next-none newline-gap (A .left))))
 
-    last : turnsOf RuleCase.Entered text (suc t) (entered (headOf text)) ≡ ended H l
-    last = ap (λ u. further u (turnOf RuleCase.Entered text)) (A .is) ∙ ap (turnFrom RuleCase.Entered text H) (next-none newline-gap (A .left))
+-- what is said of a duplicate
+abbrev Refused15 : List ℕ → Type 0
+Refused15 text = (l : ℕ) × (textOf RuleCase.Entered text ≡ stopped (refusedAt l (number 15)))
 
-    all : 120 - t + suc t ≡ 121
-    all = omega arith
+-- a tide that begins with this number and is one
+after-refused : {text : List ℕ} {t : ℕ} {H : Contents} {x : ℕ} {from mid : List ℕ} → After text t H from → t ≤ 120
+    → ((c : Cursor) → Left text c from → NextIs text c x mid)
+    → ((c : Cursor) → Left text c mid → (l : ℕ) × (tideOf RuleCase.Entered text H x c ≡ stop (refusedAt l (number 15)))) → Refused15 text
+unfolding turnOf
+after-refused {text} {H = H} A h word tide =
+    let N = word (A .to) (A .left) in
+    let R = tide (N .to) (N .left) in (
+      R .0,
+      after-last A (OverCase.Stopped (PackedCase.Refused (R .0) RefusalCase.Duplicate)) h
+          (ap (turnFrom RuleCase.Entered text H) (N .is) ∙ ap entered (R .1)),
+    )
 
 -- ---- the whole text
 
@@ -264,31 +304,49 @@ module _ (pairs : ℕ) (S : Study) (few : pairs < 4294967296) (ok : Valid S) whe
       reads-then (minimaOf text) (open-reads S ok (lowered-gap pairs few) (record { bytes = head-apart S (loweredLine pairs) }))
       (λ c L. minima-reads S ok L)
 
-  tide-reads : (t : ℕ) → t < size S → (c : Cursor) → Left text c (flatMap spaced (tide S t .row) ++ lines S (suc t))
-      → Reads text (tideOf RuleCase.Entered text (fresh (first t S)) (tide S t .setting) c) (fresh (first (suc t) S)) (lines S (suc t))
-  unfolding tideOf
-  tide-reads t h c L =
-      reads-then _ (subst (λ n. ReadsRow text c n row (lines S (suc t))) long (row-all row (tide-range S ok t h) (line-stops _) (row-none L)) .row) (λ d K.
-      reads-called (enters-accepted (first t S) (tide S t .setting) row (tide-enters S ok t h)) (tide-makes S ok t h) K)
-    where
-      row : List ℕ
-      row = tide S t .row
+  -- a tide's line: its setting, its row, and what Enter makes of them
+  module _ (t : ℕ) (h : t < size S) (c : Cursor) where
+    setting-next : Left text c (lines S t) → NextIs text c (tide S t .setting) (flatMap spaced (tide S t .row) ++ lines S (suc t))
+    setting-next L =
+        let word-small : tide S t .setting < 4294967296 = omega (arith, ok .setting-high t h, ok .k-high) in
+        next-is newline-gap word-small (row-stops (tide S t .row) (lines S (suc t)) (line-stops _)) (subst (Left text c) (tide-apart S t h) L)
 
-      long : 0 + length row ≡ size (first t S)
-      long = omega (arith, ok .row-length t h, first-size S t (omega arith))
+    module _ (L : Left text c (flatMap spaced (tide S t .row) ++ lines S (suc t))) where
+      row-reads : Reads text (numbersOf text (size (first t S)) c) (tide S t .row) (lines S (suc t))
+      row-reads =
+          let long : 0 + length (tide S t .row) ≡ size (first t S) = omega (arith, ok .row-length t h, first-size S t (omega arith)) in
+          subst (λ n. ReadsRow text c n (tide S t .row) (lines S (suc t))) long (row-all (tide S t .row) (tide-range S ok t h) (line-stops _) (row-none L))
+          .row
 
-  turns-read : (t : ℕ) → t ≤ size S → After text t (fresh (first t S)) (lines S t)
-  turns-read zero h = after-head head-reads
-  turns-read (suc t) h =
-      let word-small : tide S t .setting < 4294967296 = omega (arith, ok .setting-high t h, ok .k-high) in
-      let stops = row-stops (tide S t .row) (lines S (suc t)) (line-stops _) in
-      after-turn (turns-read t (omega arith)) (λ c L. next-is newline-gap word-small stops (subst (Left text c) (tide-apart S t h) L)) (tide-reads t h)
+      tide-reads : duplicate-at S t ≡ false
+          → Reads text (tideOf RuleCase.Entered text (fresh (first t S)) (tide S t .setting) c) (fresh (first (suc t) S)) (lines S (suc t))
+      unfolding tideOf
+      tide-reads e = reads-then _ row-reads (λ d K. reads-called (tide-answer S ok t h ∙ rw e) (tide-makes S ok t h) K)
 
-  -- the study is read, up to the text's end
-  pub read-back : (l : ℕ) × (textOf RuleCase.Entered (loweredLine pairs ++ studyText S) ≡ ended (fresh S) l)
+      tide-refused : duplicate-at S t ≡ true
+          → (l : ℕ) × (tideOf RuleCase.Entered text (fresh (first t S)) (tide S t .setting) c ≡ stop (refusedAt l (number 15)))
+      unfolding tideOf
+      tide-refused e = (row-reads .to .line, rw (row-reads .is, tide-answer S ok t h, e))
+
+  -- up to the first duplicate
+  turns-read : (t : ℕ) → t ≤ size S → ((u : ℕ) → u < t → duplicate-at S u ≡ false) → After text t (fresh (first t S)) (lines S t)
+  turns-read zero h none = after-head head-reads
+  turns-read (suc t) h none =
+      after-turn (turns-read t (omega arith) (λ u l. none u (omega arith))) (setting-next t h) (λ c L. tide-reads t h c L (none t (omega arith)))
+
+  -- where there is none the study is read, up to the text's end
+  pub read-back : holdsDuplicate S ≡ false → (l : ℕ) × (textOf RuleCase.Entered (loweredLine pairs ++ studyText S) ≡ ended (fresh S) l)
   unfolding flatMap
-  read-back =
+  read-back single =
       let none : lines S (size S) ≡ 10 ∷ [] = ap (λ ts. 10 ∷ flatMap tideLine ts) (drop-length (S .tides)) in
       let all : first (size S) S ≡ S = ap (λ ts. withTides ts S) (take-length (S .tides)) in
-      let end = subst (After text (size S) (fresh (first (size S) S))) none (turns-read (size S) (omega arith)) in
+      let end = subst (After text (size S) (fresh (first (size S) S))) none (turns-read (size S) (omega arith) (none-duplicate S single)) in
       after-end (subst (λ R. After text (size S) (fresh R) (10 ∷ [])) all end) (ok .few)
+
+  -- and where there is one, the first is refused
+  pub read-refused : holdsDuplicate S ≡ true → Refused15 (loweredLine pairs ++ studyText S)
+  read-refused held =
+      let d = first-duplicate S held in
+      let t = d .0 in
+      let h = d .1 in
+      after-refused (turns-read t (omega arith) (d .3)) (omega (arith, ok .few)) (setting-next t h) (λ c L. tide-refused t h c L (d .2))

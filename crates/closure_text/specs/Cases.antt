@@ -17,6 +17,8 @@ cases =
     -- no tide; three that break the triangle inequality, which pack refuses
     ("2 3 1 1" gives done 26)
     ∷ ("1\n1 0\n1\n1 5\n1 9 2\n" gives done 36)
+    -- a duplicate stays; pack refuses it (document 02, 2.8)
+    ∷ ("1\n1 0\n1\n1 0\n" gives done 30)
     -- what is no number, too large, missing
     ∷ ("1\n1 0\n1\n1 x\n" gives notNumber 4)
     ∷ ("1\n1 0\n1\n1 4294967296\n" gives tooLarge 4)

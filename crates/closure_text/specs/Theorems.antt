@@ -3,13 +3,16 @@
 use Prim.Native.Nat.{ℕ, _≤_, _<_}
 use mathlib.Core.Path.{_≡_}
 use mathlib.Core.Logic.{_↔_}
+use mathlib.Core.Bool.{true, false}
 use mathlib.Core.List.{List}
 use lib.ListN.{length, replicate}
 use Rattle.study.specs.Limits.{maxUsers}
 use Rattle.study.specs.Study.{Study, Contents, size, tide, distance, TriangleInequality, Valid, MeasuredStudy}
+use Rattle.study.specs.Refusals.{number}
+use Rattle.study.specs.Calls.{holdsDuplicate}
 use Rattle.metric_closure.specs.Closure.{closure}
 use Rattle.study_text.specs.declared.Rule.the-variants as RuleCase
-use Rattle.study_text.specs.Packing.{ended, textOf}
+use Rattle.study_text.specs.Packing.{refusedAt, ended, stopped, textOf}
 use Rattle.closure_text.specs.Text.{lowered, closedStudy, closureText}
 
 -- a study with nothing withdrawn
@@ -25,9 +28,10 @@ pub record ForClosure (S : Study) : Type 0 where
   -- a study that obeys the triangle inequality stays as it was; then, and only then, no pair is lowered
   pub own : TriangleInequality S → closedStudy S ≡ S
   pub none-lowered : lowered S ≡ 0 ↔ TriangleInequality S
-  -- pack takes the closure's text, and reads the closure from it
+  -- pack takes the closure's text, and reads the closure from it; or refuses it, where the closure holds a duplicate (document 02, 2.8)
   pub short : length (closureText S) ≤ 131072
-  pub read-back : (l : ℕ) × (textOf RuleCase.Entered (closureText S) ≡ ended (fresh (closedStudy S)) l)
+  pub read-back : holdsDuplicate (closedStudy S) ≡ false → (l : ℕ) × (textOf RuleCase.Entered (closureText S) ≡ ended (fresh (closedStudy S)) l)
+  pub read-refused : holdsDuplicate (closedStudy S) ≡ true → (l : ℕ) × (textOf RuleCase.Entered (closureText S) ≡ stopped (refusedAt l (number 15)))
 
 -- of any study as document 01 describes it, but for the triangle inequality
 abbrev pub EveryStudy : Type 0

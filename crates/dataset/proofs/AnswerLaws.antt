@@ -11,7 +11,7 @@ use lib.ListN.{length, getD, set, replicate}
 use borrow.Author.Tests.{le-leb, lt-leb, eq-eqb, ne-eqb}
 use Rattle.lists.specs.Lists.{between, every, overwrite, allOf}
 use Rattle.lists.proofs.Tests.{T-true, T-left, true-T, split, between-T}
-use Rattle.lists.proofs.Scans.{test-passes, test-fails}
+use Rattle.lists.proofs.Scans.{every-fails, every-done, test-passes, test-fails}
 use Rattle.study.specs.Limits.{cell}
 use Rattle.study.specs.declared.Minima.{Minima}
 use Rattle.study.specs.declared.Dataset.{Dataset}
@@ -22,16 +22,17 @@ use Rattle.study.specs.Study.{Study, Contents, size, tide, distance, validMinim
 use Rattle.study.specs.Refusals.{number, seven, Verdict, accepted, refused, verdictOf, settled, Reason, firstOf}
 use Rattle.study.specs.Refusals.{freshReasons, isUser, heldReasons}
 use Rattle.study.specs.Calls.{openReasons, opened, opening, sumOfParts, understood, minimaReasons, withMinima, settingMinima, Pair, violations}
-use Rattle.study.specs.Calls.{enterReasons, entered, entering, countOf, withdrawReasons, withdrawn, counted, withdrawing}
+use Rattle.study.specs.Calls.{duplicated, enterReasons, entered, entering, countOf, withdrawReasons, withdrawn, counted, withdrawing}
 use Rattle.study.specs.Theorems.{ValidContents}
 use Rattle.study.proofs.LadderLaws.{Accepts, ladder-accepts, ladder-refuses}
 use Rattle.study.proofs.CallLaws.{enters, entered-size, withdraws, withdrawn-size}
+use Rattle.study.proofs.DuplicateLaws.{duplicated-same}
 use Rattle.study.proofs.MinimaLaws.{understood-raised, too-much}
 use Rattle.validity.specs.Memory.{State, stateOf, short, isDataset, studyOf, contentsOf, setK, setSize, setMinima, setCounts, recordOf, distancesOf}
 use Rattle.validity.specs.Memory.{settingsOf, stored}
 use Rattle.dataset.specs.Answers.{freshAnswer, freshLeaves, heldAnswer, heldLeaves, openAnswer, openLeaves, minimaAnswer, minimaLeaves, enterAnswer}
 use Rattle.dataset.specs.Answers.{enterLeaves, withdrawAnswer, withdrawLeaves}
-use Rattle.validity.proofs.ValidityLaws.{isDataset-T, valid-contents, study-size, study-distance}
+use Rattle.validity.proofs.ValidityLaws.{isDataset-T, valid-contents, study-size, study-setting, study-distance}
 use Rattle.validity.proofs.LayoutLaws.{long, own-layout}
 use Rattle.triangle.specs.Pairs.{violationOf}
 use Rattle.triangle.proofs.PairLaws.{found-nothing, found-pair, violations-same}
@@ -39,7 +40,7 @@ use Rattle.storage.proofs.PlaceLaws.{cleared-distances, cleared-settings, enter
 use Rattle.storage.specs.Places.{withRow, movedDistance, movedSetting}
 use Rattle.triangle.specs.declared.Violation.{Violation}
 use Rattle.triangle.specs.declared.Violation.the-variants as ViolationCase
-use Rattle.dataset.specs.Accepted.{Passed, testedMinima, EnterAccepted, WithdrawAccepted}
+use Rattle.dataset.specs.Accepted.{Passed, testedMinima, duplicateOf, duplicateAnswer, EnterAccepted, WithdrawAccepted}
 
 -- a refused call leaves everything
 stays : {a : Answer} {x : Refusal} {v : Verdict} (new old : State) → a ≡ Refused x → verdictOf a ≡ v → old ≡ settled v new old
@@ -202,6 +203,22 @@ module _ (s : State) (M : Minima) (P : Passed s) where
 
 -- ---- Enter
 
+-- what the scan for a duplicate answers: it found one, or passed all tides
+module _ (settings : List ℕ) (setting : ℕ) (row : List ℕ) where
+  abbrev pub differs : ℕ → Bool
+  differs i = not (duplicateOf settings setting row i)
+
+  scanned : (b : Bool) → every (length row) differs ≡ b → cond (not b) (refused (number 15)) accepted ≡ duplicateAnswer settings setting row
+  unfolding duplicateAnswer duplicated duplicateOf
+  scanned b e = ap (λ b. cond (not b) (refused (number 15)) accepted) (sym e)
+
+  pub duplicate-found : (i : ℕ) → i < length row → duplicateOf settings setting row i ≡ true
+      → refused (number 15) ≡ duplicateAnswer settings setting row
+  duplicate-found i l e = scanned false (every-fails differs (length row) i l (ap not e))
+
+  pub duplicate-none : (i : ℕ) → i ≤ length row → length row ≤ i → every i differs ≡ true → accepted ≡ duplicateAnswer settings setting row
+  duplicate-none i a b e = scanned true (every-done differs i (length row) a b e)
+
 module _ (s : State) (setting : ℕ) (row : List ℕ) where
   abbrev n : ℕ
   n = s .dataset .n
@@ -264,9 +281,16 @@ module _ (s : State) (setting : ℕ) (row : List ℕ) where
                 let f = found-pair broken i j (same ∙ q) in
                 enter-own (refused (seven i j)) (rw (past-22, past-4, kind, row-fits, f .0) (ap refused (f .1)))
 
-            pub enter-done : r ≡ ViolationCase.Nothing → accepted ≡ enterAnswer s setting row
-            unfolding enterReasons firstOf studyOf
-            enter-done q = enter-own accepted (rw (past-22, past-4, kind, row-fits, found-nothing broken (same ∙ q)))
+            -- the study's settings are those in memory
+            same-duplicate : duplicated (λ i. tide S i .setting) (size S) setting new ≡ duplicated (λ i. getD (s .settings) i 0) (length row) setting new
+            same-duplicate =
+                ap (λ (k : ℕ). duplicated (λ i. tide S i .setting) k setting new) (study-size s ∙ sym long)
+                ∙ duplicated-same (length row) setting (λ i. tide S i .setting) (λ i. getD (s .settings) i 0) new new
+                (λ i l. study-setting s i (omega arith)) (λ i l. refl)
+
+            pub enter-15 : {v : Verdict} → r ≡ ViolationCase.Nothing → v ≡ duplicateAnswer (s .settings) setting row → v ≡ enterAnswer s setting row
+            unfolding enterReasons firstOf studyOf duplicateAnswer
+            enter-15 q p = p ∙ enter-own _ (rw (past-22, past-4, kind, row-fits, found-nothing broken (same ∙ q), same-duplicate))
 
   pub enter-accepted : {a : Answer} → a ≡ Done → verdictOf a ≡ enterAnswer s setting row → EnterAccepted s setting row
   unfolding enterAnswer enterLeaves heldLeaves contentsOf

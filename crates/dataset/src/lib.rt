@@ -1,4 +1,5 @@
 // Open, Minima, Enter, Withdraw: for any record and memory of any length, the answer and what stands afterwards.
+use crate::duplicates::check_duplicate;
 use study::Answer;
 use study::Dataset;
 use study::MAX_K;
@@ -12,6 +13,9 @@ use study::Refusal;
 use study::wide;
 use triangle::Violation;
 use validity::is_short;
+
+mod duplicates;
+
 ghost use mathlib.Core.Path.{_≡_};
 ghost use lib.Dec.{T};
 ghost use mathlib.Core.List.{[], _∷_};
@@ -171,7 +175,7 @@ fn enter_answer(
     let found = triangle::first_violation(distances, row);
     match found {
         Violation::Pair(i, j) => Answer::Refused(Refusal::TriangleInequality(i, j)),
-        Violation::Nothing => Answer::Done,
+        Violation::Nothing => check_duplicate(settings, setting, row),
     }
 }
 

@@ -7,18 +7,18 @@ use Rattle.study.specs.Problem.{centresAmong, centres, centreOf, blocksAt, choi
 use Rattle.study.specs.Problem.{radius, blocking, diameter, greatestDiameter, feasible}
 use Rattle.study.specs.Study.{Study, tide, distance, meets, sufficient, problem, validMinima, Valid}
 use Rattle.study.specs.Refusals.{Verdict, accepted, firstOf}
-use Rattle.study.specs.Calls.{opened, opening, triangle, violations, enterReasons, entered, entering}
+use Rattle.study.specs.Calls.{opened, opening, triangle, violations, duplicated, enterReasons, entered, entering}
 use Rattle.study.specs.Calls.{blockReasons, figures, blockRecord, judgeReasons, approved, judgement}
 use Rattle.file_format.specs.Bits.{binary, allBits, pack, packed}
 use Rattle.file_format.specs.File.{tideFields, fields, fileWith, fileOf, bitLength, byteLength, countsUnder, countsAt}
 use Rattle.file_format.specs.File.{tideAt, minimaAt, decoded, headReasons, tideReasons, readReasons}
 use Rattle.file_format.proofs.AcceptedLaws.{accepted-valid}
-use Rattle.file_format.specs.Cases.{tideOn, line, plain, fresh, reply, case1, case2, case3, case4, case7, one-tide, cases, WorkedCases}
-use Rattle.file_format.specs.Cases.{nearest, NearestFirst, old, OldRead, studyIn, studies, ValidStudies, order, ReadInOrder}
+use Rattle.file_format.specs.Cases.{tideOn, line, plain, fresh, reply, case1, case2, case3, case4, case5, case7, one-tide, cases, WorkedCases}
+use Rattle.file_format.specs.Cases.{nearest, NearestFirst, old, OldRead, stored, ByFile, studyIn, studies, ValidStudies, order, ReadInOrder}
 
 pub worked-cases : WorkedCases
-unfolding cases case1 case2 case3 case4 case7 one-tide plain line tideOn reply firstOf
-    blockReasons figures blockRecord enterReasons entering entered judgeReasons judgement approved opening opened triangle violations
+unfolding cases case1 case2 case3 case4 case5 case7 one-tide plain line tideOn reply firstOf
+    blockReasons figures blockRecord enterReasons entering entered judgeReasons judgement approved opening opened triangle violations duplicated
     centresAmong centres centreOf blocksAt choices block labels allSufficient assignments assignable candidates radius blocking
     diameter greatestDiameter feasible tide distance meets sufficient problem validMinima
     readReasons headReasons tideReasons decoded minimaAt tideAt byteLength bitLength countsUnder countsAt
@@ -45,14 +45,14 @@ all-valid (R ∷ Rs) e q S (here r) = subst Valid (cc) (accepted-valid (fileOf (
 all-valid (R ∷ Rs) e q S (there m) = all-valid Rs (cc) (cc) S m
 
 accepts : map answer studies ≡ map (λ (S : Study). accepted) studies
-unfolding studies studyIn cases nearest case1 case2 case3 case4 case7 one-tide plain line tideOn opening opened firstOf
+unfolding studies studyIn cases nearest case1 case2 case3 case4 case5 case7 one-tide plain line tideOn opening opened firstOf
     readReasons headReasons tideReasons decoded minimaAt tideAt byteLength bitLength countsUnder countsAt
     fileOf fileWith fields tideFields packed pack allBits binary
     triangle violations distance tide validMinima every sumBelow tabulate flatMap
 accepts = refl
 
 gives-back : map back studies ≡ studies
-unfolding studies studyIn cases nearest case1 case2 case3 case4 case7 one-tide plain line tideOn opening opened
+unfolding studies studyIn cases nearest case1 case2 case3 case4 case5 case7 one-tide plain line tideOn opening opened
     decoded minimaAt tideAt bitLength countsUnder countsAt fileOf fileWith fields tideFields packed pack allBits binary tabulate flatMap
 gives-back = refl
 
@@ -70,3 +70,10 @@ unfolding old one-tide plain line tideOn opening opened reply firstOf
     readReasons headReasons tideReasons decoded minimaAt tideAt countsAt countsUnder byteLength bitLength binary
     triangle violations distance tide validMinima every sumBelow tabulate flatMap
 old-read = refl
+
+pub by-file : ByFile
+unfolding stored case3 case4 case5 one-tide plain line tideOn reply firstOf enterReasons entering entered duplicated
+    readReasons headReasons tideReasons decoded minimaAt tideAt byteLength bitLength countsUnder countsAt
+    fileOf fileWith fields tideFields packed pack allBits binary
+    triangle violations distance tide validMinima every sumBelow tabulate flatMap
+by-file = refl

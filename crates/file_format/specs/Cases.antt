@@ -1,6 +1,6 @@
--- Document 01's "Tides on a line", the cases marked P, as one list of questions and replies; cases of document 02, 2.6 and 2.7; and the
+-- Document 01's "Tides on a line", the cases marked P, as one list of questions and replies; cases of document 02, 2.6, 2.7 and 2.8; and the
 -- order of Read's reasons. The questions ask the definitions that the contracts of the calls cite. There are no proofs here: `worked-cases`,
--- `nearest-first`, `old-read`, `valid-studies` and `in-order` of CasesProof.antt prove the statements. Assumes nothing.
+-- `nearest-first`, `old-read`, `by-file`, `valid-studies` and `in-order` of CasesProof.antt prove the statements. Assumes nothing.
 use Prim.Native.Nat.{ℕ, _+_, _-_}
 use mathlib.Core.Path.{_≡_}
 use mathlib.Core.Bool.{Bool, true, false}
@@ -118,6 +118,10 @@ case3 = plain 2 (2 ∷ 0 ∷ 2 ∷ 4 ∷ [])
 unfoldable pub case4 : Study
 case4 = plain 2 (0 ∷ 10 ∷ 5 ∷ 5 ∷ 5 ∷ [])
 
+-- case 5: three tides at one place
+unfoldable pub case5 : Study
+case5 = plain 1 (0 ∷ 0 ∷ 0 ∷ [])
+
 -- case 7: two tides at distance 3
 unfoldable pub case7 : Study
 case7 = plain 1 (0 ∷ 3 ∷ [])
@@ -141,7 +145,7 @@ cases =
     -- 4
     ∷ (block-of case4 gives value (blocked (figuresOf 2 5 5) (1 ∷ 2 ∷ 1 ∷ 1 ∷ 2 ∷ []) (recordOf 1 3 5 ∷ recordOf 2 2 5 ∷ [])))
     -- 5
-    ∷ (block-of (plain 1 (0 ∷ 0 ∷ 0 ∷ [])) gives value (blocked (figuresOf 1 0 0) (1 ∷ 1 ∷ 1 ∷ []) (recordOf 1 3 0 ∷ [])))
+    ∷ (block-of case5 gives value (blocked (figuresOf 1 0 0) (1 ∷ 1 ∷ 1 ∷ []) (recordOf 1 3 0 ∷ [])))
     ∷ (block-of (plain 1 (0 ∷ 5 ∷ [])) gives value (blocked (figuresOf 2 0 0) (1 ∷ 2 ∷ []) (recordOf 1 1 0 ∷ recordOf 2 1 0 ∷ [])))
     -- 6
     ∷ (block-of (plain 3 (0 ∷ 5 ∷ [])) gives refusal (number 25))
@@ -200,6 +204,24 @@ old =
 -- the definitions give these contents
 abbrev pub OldRead : Type 0
 OldRead = AsGiven old
+
+-- ---- document 02, 2.8: cases 3, 4 and 5 come in by file
+
+-- the tide that would be their first duplicate is refused, and their files are read; at 0 from a tide of another setting a tide enters
+unfoldable pub stored : List WorkedCase
+stored =
+    (enter (plain 2 (2 ∷ 0 ∷ [])) 1 (0 ∷ 2 ∷ []) gives refusal (number 15))
+    ∷ (enter (plain 2 (0 ∷ 10 ∷ 5 ∷ [])) 1 (5 ∷ 5 ∷ 0 ∷ []) gives refusal (number 15))
+    ∷ (enter one-tide 1 (0 ∷ []) gives refusal (number 15))
+    ∷ (read (fileOf (fresh case3)) gives value (holds (fresh case3)))
+    ∷ (read (fileOf (fresh case4)) gives value (holds (fresh case4)))
+    ∷ (read (fileOf (fresh case5)) gives value (holds (fresh case5)))
+    ∷ (enter (line 2 1 [] (1 ∷ []) (0 ∷ [])) 2 (0 ∷ []) gives value (holds (fresh (line 2 1 [] (1 ∷ 2 ∷ []) (0 ∷ 0 ∷ [])))))
+    ∷ []
+
+-- the definitions give these answers
+abbrev pub ByFile : Type 0
+ByFile = AsGiven stored
 
 -- ---- every study asked about is valid; so its minima have all eight b's and pass reason 3
 

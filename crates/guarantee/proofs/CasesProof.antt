@@ -5,7 +5,7 @@ use Rattle.lists.specs.Lists.{every, sumBelow, countBelow, tabulate}
 use Rattle.study.specs.Problem.{centresAmong, centres, centreOf, nearestDistance, blocksAt, nearestBlock}
 use Rattle.study.specs.Study.{noTide, tide, distance, meets, sufficient, problem, validMinima}
 use Rattle.study.specs.Refusals.{firstOf, freshReasons, heldReasons}
-use Rattle.study.specs.Calls.{openReasons, opened, opening, understood, minimaReasons, withMinima, settingMinima, triangle, violations}
+use Rattle.study.specs.Calls.{openReasons, opened, opening, understood, minimaReasons, withMinima, settingMinima, triangle, violations, duplicated}
 use Rattle.study.specs.Calls.{enterReasons, entered, entering}
 use Rattle.study.specs.Calls.{withdrawReasons, withdrawn, shortened, counted, withdrawing, centresReasons, centreNumbers, nearestNumbers, nearestDistances}
 use Rattle.study.specs.Calls.{centresWritten, blockReasons, judgeReasons}
@@ -15,24 +15,30 @@ use Rattle.study_file.specs.Answers.{writeReasons}
 use Rattle.guarantee.specs.Runs.{updating, inquiring, lent}
 use Rattle.guarantee.specs.History.{reasonsAfter, verdict, changed, step, following, toldAfter, outputs}
 use Rattle.guarantee.specs.Counts.{acceptedCalls}
-use Rattle.guarantee.specs.Cases.{order, CallsInOrder, OneRun, OneStretch, minimaCases, MinimaLeft, EquallyNear}
+use Rattle.guarantee.specs.Cases.{order, CallsInOrder, OneRun, OnceMore, OneStretch, minimaCases, MinimaLeft, EquallyNear}
 
 pub in-order : CallsInOrder
 unfolding order verdict reasonsAfter heldReasons freshReasons updating inquiring readReasons headReasons openReasons minimaReasons
     enterReasons withdrawReasons centresReasons
-    blockReasons judgeReasons writeReasons firstOf noTide sufficient meets violations triangle distance tide fileOf fileWith fields tideFields packed pack
+    blockReasons judgeReasons writeReasons firstOf noTide sufficient meets violations duplicated triangle distance tide fileOf fileWith fields tideFields packed pack
     allBits binary countBelow sumBelow every tabulate flatMap
 in-order = refl
 
 pub one-run : OneRun
 unfolding following step verdict reasonsAfter heldReasons freshReasons changed updating enterReasons entering entered
     withdrawReasons withdrawing withdrawn shortened counted firstOf
-    violations triangle distance tide noTide every flatMap
+    violations duplicated triangle distance tide noTide every flatMap
 one-run = refl
+
+pub once-more : OnceMore
+unfolding following step verdict reasonsAfter heldReasons freshReasons changed updating enterReasons entering entered
+    withdrawReasons withdrawing withdrawn shortened counted firstOf
+    violations duplicated triangle distance tide noTide every flatMap
+once-more = refl
 
 pub one-stretch : OneStretch
 unfolding acceptedCalls step verdict reasonsAfter heldReasons freshReasons changed updating openReasons opening opened enterReasons entering entered
-    withdrawReasons withdrawing withdrawn shortened counted firstOf violations triangle distance tide noTide every flatMap
+    withdrawReasons withdrawing withdrawn shortened counted firstOf violations duplicated triangle distance tide noTide every flatMap
 one-stretch = refl
 
 pub minima-left : MinimaLeft

@@ -1,4 +1,4 @@
--- The five records of specs/Theorems.antt. Assumes nothing.
+-- The six records of specs/Theorems.antt. Assumes nothing.
 use Prim.Native.Nat.{ℕ, _<_}
 use native.Mathlib.Omega.{arith}
 use mathlib.Core.Path.{_≡_, refl, sym, ap, _∙_, subst}
@@ -17,10 +17,11 @@ use Rattle.pricing.specs.Tariff.{total, shares}
 use Rattle.pricing.specs.Theorems.{StudyShares}
 use Rattle.guarantee.specs.Runs.{find-centres, make-blocks, price-blocks, Query, inquiring, Call, call-ask, reasons, answer, Response, response, run}
 use Rattle.guarantee.specs.History.{reasonsAfter, verdict, contentsAfter, studyIn, studyAfter, learnt}
-use Rattle.guarantee.specs.Theorems.{Guaranteed, CanonicalBlock, blocked, Demand1, Demand2, Demand3, charged, ForTariff, centred, CentresTold, ForCentres}
+use Rattle.guarantee.specs.Theorems.{Guaranteed, CanonicalBlock, blocked, Demand1, Demand2, Demand3, charged, ForTariff, centred, CentresTold, ForCentres, DuplicateFree}
 use Rattle.guarantee.proofs.Follows.{held-some, holds-valid, holds, as-short, settles}
 use Rattle.guarantee.proofs.LedgerLaws.{exactly, anew}
 use Rattle.guarantee.proofs.CountLaws.{counted-after}
+use Rattle.guarantee.proofs.FreeLaws.{free-after}
 use Rattle.guarantee.proofs.BlockLaws.{block-25, block-guaranteed, block-canonical, block-charged, block-shared}
 use Rattle.guarantee.proofs.CentresLaws.{centres-told}
 use Rattle.guarantee.proofs.DemandLaws.{unchanged, unwritten, only-reads, as-contracts, files-and-datasets}
@@ -170,3 +171,6 @@ for-tariff =
 
 pub for-centres : ForCentres
 for-centres = record { tells = centres-tell }
+
+pub duplicate-free : DuplicateFree
+duplicate-free = record { stays = free-after }

@@ -1,11 +1,11 @@
--- Calls by computation: where two reasons hold at once the earlier one counts, a run with refused calls in it, the calls that counts of
+-- Calls by computation: where two reasons hold at once the earlier one counts, runs with refused calls in them, the calls that counts of
 -- withdrawals look at, the minima that Minima leaves, and equally near centres. Assumes nothing.
 use Prim.Native.Nat.{ℕ}
 use mathlib.Core.Path.{_≡_}
 use mathlib.Core.Bool.{Bool, true, false}
 use mathlib.Core.List.{List, [], _∷_, map}
 use mathlib.Core.Option.{Option, none, some}
-use lib.ListN.{replicate}
+use lib.ListN.{take, replicate}
 use Rattle.study.specs.Limits.{maxTides, maxUsers, maxWithdrawals, maxSettings}
 use Rattle.study.specs.declared.Minima.{Minima}
 use Rattle.study.specs.declared.BlockRecord.{BlockRecord}
@@ -32,6 +32,14 @@ holding M tides = counting M tides (replicate maxUsers 0)
 -- user 2 is at the limit, the others are not
 abbrev pub one-full : List ℕ
 one-full = 0 ∷ maxWithdrawals ∷ 0 ∷ 0 ∷ []
+
+-- tides of two settings
+abbrev pub twoSettings : List Tide → Option Contents
+twoSettings tides = some (record { study = record { k = 2; minima = minima 1 0; tides = tides }; withdrawals = replicate maxUsers 0 })
+
+-- one tide, and at 0 from it one of another setting
+abbrev pub mixed : List Tide
+mixed = record { setting = 1; row = [] } ∷ record { setting = 2; row = 0 ∷ [] } ∷ []
 
 -- two tides at 3
 abbrev pub two : List Tide
@@ -76,12 +84,18 @@ order =
     ∷ case none (call-ask (make-blocks [] [])) 21
     ∷ case none (call-open 9) 2
     ∷ case none (call-read []) 8
-    -- Enter: 22 before 4, 4 before 5, 5 before 6, 6 before 7
+    -- Enter: 22 before 4, 4 before 5, 5 before 6, 6 before 7, 7 before 15
     ∷ case (holding (minima 1 0) (replicate maxTides noTide)) (call-change (enter 1 [])) 22
     ∷ case (holding (minima 1 0) two) (call-change (enter 2 (1 ∷ []))) 4
     ∷ case (holding (minima 1 0) two) (call-change (enter 2 (0 ∷ 1048576 ∷ []))) 5
     ∷ case (holding (minima 1 0) two) (call-change (enter 1 (0 ∷ 1048576 ∷ []))) 6
     ∷ record { tooShort = false; held = holding (minima 1 0) two; call = call-change (enter 1 (1 ∷ 1 ∷ [])); gives = refused (seven 1 2) }
+    ∷ record { tooShort = false; held = holding (minima 1 0) two; call = call-change (enter 1 (0 ∷ 1 ∷ [])); gives = refused (seven 1 2) }
+    -- 15 at 0 from a tide of the same setting, whatever other tides are there; not at 0 from one of another setting
+    ∷ case (holding (minima 1 0) two) (call-change (enter 1 (3 ∷ 0 ∷ []))) 15
+    ∷ case (twoSettings mixed) (call-change (enter 1 (0 ∷ 0 ∷ []))) 15
+    ∷ case (twoSettings mixed) (call-change (enter 2 (0 ∷ 0 ∷ []))) 15
+    ∷ record { tooShort = false; held = twoSettings (take 1 mixed); call = call-change (enter 2 (0 ∷ [])); gives = accepted }
     -- Withdraw: 14 before 23, 23 before 26; a user at the limit is stopped, the others go on
     ∷ case (counting (minima 1 0) two one-full) (call-change (withdraw 5 3)) 14
     ∷ case (counting (minima 1 0) two one-full) (call-change (withdraw 2 3)) 23
@@ -125,6 +139,13 @@ OneRun =
     ∷ call-change (withdraw 0 1)
     ∷ [])
     ≡ counting (minima 2 0) (record { setting = 1; row = [] } ∷ record { setting = 1; row = 2 ∷ [] } ∷ []) (0 ∷ 0 ∷ 1 ∷ 0 ∷ [])
+
+-- document 02, 2.8: a tide at 0 from the first is refused; once that one is withdrawn, it enters
+abbrev pub OnceMore : Type 0
+OnceMore =
+    following false (holding (minima 1 0) two)
+    (call-change (enter 1 (0 ∷ 3 ∷ [])) ∷ call-change (withdraw 2 1) ∷ call-change (enter 1 (3 ∷ [])) ∷ [])
+    ≡ counting (minima 1 0) two (0 ∷ 1 ∷ 0 ∷ 0 ∷ [])
 
 -- the first tide enters
 abbrev pub first-tide : Call

@@ -1,5 +1,5 @@
--- What is proved of every list of calls; there are no proofs here. `demand1`, `demand2`, `demand3`, `for-tariff` and `for-centres` of
--- proofs/Proofs.antt prove the five records of these names. Assumes nothing.
+-- What is proved of every list of calls; there are no proofs here. `demand1`, `demand2`, `demand3`, `for-tariff`, `for-centres` and
+-- `duplicate-free` of proofs/Proofs.antt prove the six records of these names. Assumes nothing.
 use Prim.Native.Nat.{ℕ, suc, _+_, _*_, _≤_, _<_}
 use mathlib.Core.Path.{_≡_}
 use mathlib.Core.Logic.{_⊎_, _↔_}
@@ -8,14 +8,14 @@ use mathlib.Core.List.{List, [], _∷_, _++_}
 use mathlib.Core.Option.{none, some}
 use lib.Dec.{T}
 use lib.ListN.{length, take}
-use Rattle.lists.specs.Lists.{at, greatest, overwrite, over}
+use Rattle.lists.specs.Lists.{_among_, at, greatest, overwrite, over}
 use Rattle.study.specs.declared.Minima.{Minima}
 use Rattle.study.specs.declared.BlockRecord.{BlockRecord}
 use Rattle.study.specs.Problem.{centres, centreOf, labels, radius, blocking, diameter, greatestDiameter, Feasible}
 use Rattle.study.specs.Study.{Study, Contents, size, distance, problem, Renumbered}
 use Rattle.study.specs.Theorems.{Canonical, IsNearest}
 use Rattle.study.specs.Refusals.{number, Numbered, accepted, refused, settled, Reply, value, refusal, firstOf, isUser}
-use Rattle.study.specs.Calls.{opening, countOf, CentreLists, centresWritten, Figures, blockRecord}
+use Rattle.study.specs.Calls.{opening, holdsDuplicate, countOf, CentreLists, centresWritten, Figures, blockRecord}
 use Rattle.file_format.specs.File.{newMark, oldMark, markOf, decoded}
 use Rattle.file_format.specs.Theorems.{Bytes, OldFile}
 use Rattle.validity.specs.Memory.{State, short, isDataset, contentsOf}
@@ -214,3 +214,13 @@ pub record CentresTold (S : Study) (g count : ℕ) (l₀ l : CentreLists) : Type
 pub record ForCentres : Type 0 where
   pub tells : (start : State) (calls : List Call) (S : Study) (g count : ℕ) (l₀ l : CentreLists) → studyAfter start calls ≡ some S
       → response (run start calls) (call-ask (find-centres g l₀)) ≡ centred count l → CentresTold S g count l₀ l
+
+-- ---- duplicates (document 02, 2.8: twins)
+
+-- for every start and every list of calls
+pub record DuplicateFree : Type 0 where
+  -- where the start holds none, and no file that is read holds one, none is held afterwards
+  pub stays : (start : State) (calls : List Call)
+      → ((H : Contents) → held start ≡ some H → holdsDuplicate (H .study) ≡ false)
+      → ((file : List ℕ) → call-read file among calls → holdsDuplicate (decoded file .study) ≡ false)
+      → (H : Contents) → held (run start calls) ≡ some H → holdsDuplicate (H .study) ≡ false

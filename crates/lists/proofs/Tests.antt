@@ -1,12 +1,12 @@
 -- Boolean tests: what it says that one passes or fails. Assumes nothing.
 use Prim.Native.Nat.{ℕ, zero, suc, _≤_, _<_}
 use native.Mathlib.Omega.{arith}
-use mathlib.Core.Path.{_≡_, refl, sym, subst}
+use mathlib.Core.Path.{_≡_, refl, sym, ap₂, subst}
 use mathlib.Core.Logic.{_⊎_, inl, inr, ⊎-elim, _↔_}
 use mathlib.Core.Bool.{Bool, true, false, cond, _&&_, not}
 use mathlib.Core.List.{List, [], _∷_}
-use lib.Dec.{T, leb, eqb, leb→le, le→leb, nleb→lt, eqb-refl}
-use Rattle.lists.specs.Lists.{between, each, every}
+use lib.Dec.{T, leb, eqb, leb→le, le→leb, nleb→lt, eqb-refl, T-not, not-T}
+use Rattle.lists.specs.Lists.{between, each, every, any}
 
 pub and-T : (a b : Bool) → T a → T b → T (a && b)
 and-T true b s t = t
@@ -103,3 +103,39 @@ not-every (suc n) p t = by (every n p) (p n) (λ s. not-every n p s) (λ s. s) t
     by false b f h s = let r = f tt in (r .0, omega (arith, r .1), r .2)
     by true false f h s = (n, omega arith, h tt)
     by true true f h s = absurd s
+
+pub every-same : (n : ℕ) (p q : ℕ → Bool) → ((i : ℕ) → i < n → p i ≡ q i) → every n p ≡ every n q
+unfolding every
+every-same zero p q e = refl
+every-same (suc n) p q e = ap₂ (λ a b. a && b) (every-same n p q (λ i l. e i (omega arith))) (e n (omega arith))
+
+-- ---- any
+
+module _ (n : ℕ) (p : ℕ → Bool) where
+  pub any-at : T (any n p) → (i : ℕ) × (i < n) × T (p i)
+  any-at t = let r = not-every n (λ i. not (p i)) t in (r .0, r .1, not-not (p (r .0)) (r .2))
+
+  pub any-of : (i : ℕ) → i < n → T (p i) → T (any n p)
+  any-of i l t = not-T (every n (λ i. not (p i))) (λ h. T-not (p i) (every-at n (λ i. not (p i)) h i l) t)
+
+  pub none-at : any n p ≡ false → (i : ℕ) → i < n → p i ≡ false
+  none-at e i l = T-false (p i) (not-T (p i) (λ t. subst T e (any-of i l t)))
+
+  pub none-of : ((i : ℕ) → i < n → p i ≡ false) → any n p ≡ false
+  none-of f = T-false (any n p) (not-T (any n p) (λ t. let r = any-at t in subst T (f (r .0) (r .1)) (r .2)))
+
+-- the first of them
+pub any-first : (n : ℕ) (p : ℕ → Bool) → T (any n p) → (i : ℕ) × (i < n) × T (p i) × ((j : ℕ) → j < i → T (not (p j)))
+unfolding every
+any-first zero p t = absurd t
+any-first (suc n) p t = by (test (any n p)) (λ s. any-first n p s)
+  where
+    by : T (any n p) ⊎ T (not (any n p)) → (T (any n p) → (i : ℕ) × (i < n) × T (p i) × ((j : ℕ) → j < i → T (not (p j))))
+        → (i : ℕ) × (i < suc n) × T (p i) × ((j : ℕ) → j < i → T (not (p j)))
+    by (inl s) ih = let r = ih s in (r .0, omega (arith, r .1), r .2, r .3)
+    by (inr s) ih = (n, omega arith, last, λ j l. not-T (p j) (λ q. T-not (any n p) s (any-of n p j l q)))
+      where
+        last : T (p n)
+        last = let r = any-at (suc n) p t in
+            ⊎-elim (λ l. absurd (T-not (any n p) s (any-of n p (r .0) l (r .2)))) (λ l. let e : r .0 ≡ n = omega (arith, r .1) in subst (λ i. T (p i)) e (r .2))
+            (split (r .0) n)

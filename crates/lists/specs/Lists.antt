@@ -1,7 +1,7 @@
 -- Finite lists, and sums, counts and tables over the numbers below a bound. Everything here computes. Assumes nothing.
 use Prim.Native.Nat.{ℕ, zero, suc, _+_, max, min}
 use mathlib.Core.Path.{_≡_}
-use mathlib.Core.Bool.{Bool, true, false, cond, _&&_}
+use mathlib.Core.Bool.{Bool, true, false, cond, not, _&&_}
 use mathlib.Core.List.{List, [], _∷_, _++_, map, flatMap, List·Memᴰ}
 use lib.Dec.{leb, eqb}
 use lib.ListN.{length, drop, getD}
@@ -31,6 +31,10 @@ iota k (suc n) = k ∷ iota (suc k) n
 unfoldable pub every : ℕ → (ℕ → Bool) → Bool
 every zero p = true
 every (suc n) p = every n p && p n
+
+-- p holds of at least one
+abbrev pub any : ℕ → (ℕ → Bool) → Bool
+any n p = not (every n (λ i. not (p i)))
 
 -- f 0 + f 1 + .. + f (n - 1)
 unfoldable pub sumBelow : ℕ → (ℕ → ℕ) → ℕ

@@ -1,5 +1,5 @@
 -- Tides counted by setting, and whether the counts meet the minima. Assumes nothing.
-use Prim.Native.Nat.{ℕ, zero, suc, _+_, _≤_, _<_}
+use Prim.Native.Nat.{ℕ, suc, _+_, _≤_, _<_}
 use native.Mathlib.Omega.{arith}
 use native.Mathlib.Numerals.{add-one}
 use native.Mathlib.Decide.{ℕ-discrete}
@@ -10,7 +10,8 @@ use lib.Dec.{leb, eqb}
 use lib.ListN.{length, getD, set, replicate, length-replicate, getD-replicate, length-set}
 use lib.Seq.{ext-getD, getD-set-same, getD-set-other}
 use borrow.Author.Tests.{eq-eqb, ne-eqb}
-use Rattle.lists.specs.Lists.{every, bit, countBelow}
+use Rattle.lists.specs.Lists.{bit, countBelow}
+use Rattle.lists.proofs.Tests.{every-same}
 use Rattle.lists.proofs.Counting.{count-next}
 use Rattle.lists.proofs.Counts.{count-zero, count-most}
 use Rattle.lists.proofs.Tables.{length-tabulate, getD-tabulate}
@@ -106,11 +107,6 @@ pub tally-step : {s counts : List ℕ} {t one found : ℕ} (r : ℕ) → r ≡ g
 tally-step {one = one} r e h = record { more = λ p A q. tallied-more one r A q e (omega arith) }
 
 -- ---- the minima, from the counts
-
-pub every-same : (n : ℕ) (p q : ℕ → Bool) → ((i : ℕ) → i < n → p i ≡ q i) → every n p ≡ every n q
-unfolding every
-every-same zero p q e = refl
-every-same (suc n) p q e = ap₂ (λ a b. a && b) (every-same n p q (λ i l. e i (omega arith))) (e n (omega arith))
 
 pub met-meets : (M : Minima) {s : List ℕ} {p : ℕ → Bool} {n found : ℕ} {counts : List ℕ} → Tallied s p n found counts
     → met M found counts ≡ meets M n (λ t. getD s t 0) p

@@ -15,7 +15,7 @@ use Rattle.lists.proofs.Tests.{T-true, T-false, not-not, test, split, between-T
 use Rattle.study.specs.declared.Minima.{Minima}
 use Rattle.study.specs.Study.{Tide, Study, Contents, size, noTide, tide, distance, validMinima, TriangleInequality, Valid, MeasuredStudy, ValidCounts}
 use Rattle.study.specs.Refusals.{Numbered, Verdict, accepted, refused, value, refusal, replied, Reason, firstOf}
-use Rattle.study.specs.Calls.{openReasons, opened, opening, understood, minimaReasons, withMinima, settingMinima, violations}
+use Rattle.study.specs.Calls.{openReasons, opened, opening, understood, minimaReasons, withMinima, settingMinima, violations, duplicated}
 use Rattle.study.specs.Calls.{enterReasons, measuredReasons, entered, entering}
 use Rattle.study.specs.Calls.{countOf, withdrawReasons, removeAt, shortened, withdrawn, counted, withdrawing, skip}
 use Rattle.study.specs.Theorems.{ValidContents}
@@ -129,7 +129,7 @@ module _ (s : ℕ) (row : List ℕ) (S : Study) where
   unfolding distance
   entered-row t a = cond-yes (ltb t n) _ _ (lt→ltb t n a) ∙ ap (λ (x : Tide). getD (x .row) t 0) entered-new
 
-  entered-column : (t : ℕ) → t < n → distance E n t ≡ getD row t 0
+  pub entered-column : (t : ℕ) → t < n → distance E n t ≡ getD row t 0
   entered-column t a = distance-both-ways E n t ∙ entered-row t a
 
   pub old-or-new : (t : ℕ) → t < size E → (t < n) ⊎ (t ≡ n)
@@ -190,7 +190,7 @@ pub record Measures (S : Study) (s : ℕ) (row : List ℕ) : Type 0 where
   pub distance-high : (i : ℕ) → i < size S → getD row i 0 ≤ 1048575
 
 -- by the tests of 22, 4, 5 and 6
-measures-by : (S : Study) (s : ℕ) (row : List ℕ) → T (not (leb 120 (size S))) → T (not (not (eqb (length row) (size S))))
+pub measures-by : (S : Study) (s : ℕ) (row : List ℕ) → T (not (leb 120 (size S))) → T (not (not (eqb (length row) (size S))))
     → T (not (not (between 1 (S .k) s))) → T (not (not (every (length row) (λ i. leb (getD row i 0) 1048575)))) → Measures S s row
 measures-by S s row room long set near =
     let b = between-T 1 (S .k) s .0 (not-not (between 1 (S .k) s) set) in
@@ -212,7 +212,7 @@ measures S s row e =
 
 module _ (s : ℕ) (row : List ℕ) (S : Study) where
   -- what holds of the numbers before and of the new one holds of all
-  each-number : (Q : ℕ → Type 0) → ((t : ℕ) → t < size S → Q t) → Q (size S) → (t : ℕ) → t < size (entered s row S) → Q t
+  pub each-number : (Q : ℕ → Type 0) → ((t : ℕ) → t < size S → Q t) → Q (size S) → (t : ℕ) → t < size (entered s row S) → Q t
   each-number Q old new t l = ⊎-elim (old t) (λ q. subst Q (sym q) new) (old-or-new s row S t l)
 
   -- the same of the tides
@@ -252,6 +252,7 @@ pub record Enters (S : Study) (s : ℕ) (row : List ℕ) : Type 0 where
   pub setting-high : s ≤ S .k
   pub distance-high : (i : ℕ) → i < size S → getD row i 0 ≤ 1048575
   pub obeyed : T (isEmpty (violations (distance S) (size S) (λ i. getD row i 0)))
+  pub new : T (not (duplicated (λ i. tide S i .setting) (size S) s (λ i. getD row i 0)))
 
 pub enters : (S : Study) (s : ℕ) (row : List ℕ) → firstOf (enterReasons S s row) ≡ accepted → Enters S s row
 unfolding enterReasons
@@ -265,6 +266,7 @@ enters S s row e =
       setting-high = m .setting-high;
       distance-high = m .distance-high;
       obeyed = not-not (isEmpty (violations (distance S) (size S) (λ i. getD row i 0))) (h .1 .1 .1 .1 .0);
+      new = h .1 .1 .1 .1 .1 .0;
     }
 
 -- its tide fits
@@ -278,14 +280,18 @@ enters-measures A =
       distance-high = A .distance-high;
     }
 
-pub entered-valid : (s : ℕ) (row : List ℕ) (S : Study) → Valid S → Enters S s row → Valid (entered s row S)
-entered-valid s row S ok A =
-    measured-valid (entered-measured s row S (valid-measured ok) (enters-measures A)) (entered-triangle s row S (A .obeyed) (ok .triangle))
+-- a duplicate or not, a tide that obeys the triangle inequality makes a valid study
+pub obeying-valid : (s : ℕ) (row : List ℕ) (S : Study) → Valid S → Measures S s row
+    → T (isEmpty (violations (distance S) (size S) (λ i. getD row i 0))) → Valid (entered s row S)
+obeying-valid s row S ok m obeyed =
+    measured-valid (entered-measured s row S (valid-measured ok) m) (entered-triangle s row S obeyed (ok .triangle))
 
 pub entering-valid : (s : ℕ) (row : List ℕ) (H : Contents) → ValidContents H → firstOf (enterReasons (H .study) s row) ≡ accepted
     → ValidContents (entering s row H)
 unfolding entering
-entering-valid s row H ok e = record { study = entered-valid s row (H .study) (ok .study) (enters (H .study) s row e); counts = ok .counts }
+entering-valid s row H ok e =
+    let A = enters (H .study) s row e in
+    record { study = obeying-valid s row (H .study) (ok .study) (enters-measures A) (A .obeyed); counts = ok .counts }
 
 -- ---- Withdraw
 
@@ -302,11 +308,11 @@ skip-suc i t = ap (λ b. cond b (suc t) (suc (suc t))) (leb·suc-suc (suc t) i) 
     push false = refl
 
 -- skip keeps the order, strictly and not
-record Order (i t u : ℕ) : Type 0 where
-  strict : t < u → skip i t < skip i u
-  weak : t ≤ u → skip i t ≤ skip i u
+pub record Order (i t u : ℕ) : Type 0 where
+  pub strict : t < u → skip i t < skip i u
+  pub weak : t ≤ u → skip i t ≤ skip i u
 
-skip-order : (i t u : ℕ) → Order i t u
+pub skip-order : (i t u : ℕ) → Order i t u
 skip-order i t u = by (skip-is i t) (skip-is i u)
   where
     by : ((t < i) × (skip i t ≡ t)) ⊎ ((i ≤ t) × (skip i t ≡ suc t)) → ((u < i) × (skip i u ≡ u)) ⊎ ((i ≤ u) × (skip i u ≡ suc u)) → Order i t u

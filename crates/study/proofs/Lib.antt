@@ -7,6 +7,7 @@ pub mod TriangleLaws
 pub mod CallLaws
 pub mod ReasonLaws
 pub mod LadderLaws
+pub mod DuplicateLaws
 pub mod MinimaLaws
 pub mod NearestLaws
 pub mod Proofs

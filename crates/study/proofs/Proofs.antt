@@ -3,18 +3,20 @@ use Prim.Native.Nat.{ℕ, _<_}
 use native.Mathlib.Omega.{arith}
 use mathlib.Core.Path.{sym, subst}
 use mathlib.Core.Bool.{true}
+use mathlib.Core.List.{List}
 use lib.Dec.{T}
 use lib.ListN.{length}
 use Rattle.study.specs.declared.Minima.{Minima}
 use Rattle.study.specs.Problem.{Problem, centres, labels, radius, blocking}
 use Rattle.study.specs.Study.{Study, problem, validMinima, Valid}
-use Rattle.study.specs.Theorems.{Lawful, Canonical, ForProblem, ForNearest, ForStudy, ForCalls, ForMinima}
+use Rattle.study.specs.Theorems.{Lawful, Canonical, ForProblem, ForNearest, ForStudy, ForCalls, ForMinima, ForDuplicates}
 use Rattle.study.proofs.ProblemLaws.{cover, apart, assignments-are, assignable-by, greatestDiameter-is, feasible-T}
 use Rattle.study.proofs.Approximation.{two-approximation, one-block, feasible-radius, blocking-assigns, feasible-exactly, assignable-exactly}
 use Rattle.study.proofs.Dictionary.{blocking-precedes, blocking-found}
 use Rattle.study.proofs.NearestLaws.{centre-le, nearest-block, nearest-only, some-centre}
 use Rattle.study.proofs.StudyLaws.{study-symmetric, study-lawful, study-reordered, ample-T}
 use Rattle.study.proofs.CallLaws.{opening-valid, minima-valid, entering-valid, withdrawing-valid}
+use Rattle.study.proofs.DuplicateLaws.{none-entered, one-entered, still-valid}
 use Rattle.study.proofs.MinimaLaws.{acceptable-T, valid-understood, newly-below, below-invalid, minima-accepted}
 
 pub canonical : (P : Problem) → Lawful P → T (P .enough (λ t. true)) → Canonical P
@@ -81,3 +83,7 @@ for-minima S M =
         λ m. (r .0 (a .1 (m .0)), below-invalid (S .k) M (m .1)),
       );
     }
+
+pub for-duplicates : (S : Study) (setting : ℕ) (row : List ℕ) → ForDuplicates S setting row
+for-duplicates S s row =
+    record { none-after = none-entered s row S; one-after = one-entered s row S; still-valid = λ ok e. still-valid s row S e ok }

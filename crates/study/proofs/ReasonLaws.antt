@@ -4,7 +4,7 @@ use native.Mathlib.Nat.{le-refl}
 use native.Mathlib.Omega.{arith}
 use mathlib.Core.Path.{_≡_, refl, sym, ap, _∙_, subst}
 use mathlib.Core.Logic.{⊎-elim, _↔_}
-use mathlib.Core.Bool.{Bool, true, false, cond}
+use mathlib.Core.Bool.{Bool, true, false, cond, not}
 use mathlib.Core.List.{List, [], _∷_, _++_, flatMap}
 use lib.Dec.{T}
 use lib.ListN.{getD, take}
@@ -61,6 +61,27 @@ unfolding firstOf
 refused-at [] i h t = absurd t
 refused-at (r ∷ rs) zero h t = cond-yes (r .holds) _ _ t
 refused-at (r ∷ rs) (suc i) h t = cond-no (r .holds) _ _ (h .0) ∙ refused-at rs i (h .1) t
+
+-- none of these gives that refusal
+abbrev pub Others : Numbered → List Reason → Type 0
+Others x [] = Unit {0}
+Others x (r ∷ rs) = (r .because ≡ x → ⊥) × Others x rs
+
+-- refused by the last reason, which none before it can stand for: none before it holds, and it does
+pub refused-last : (rs : List Reason) (last : Reason) → Others (last .because) rs → firstOf (rs ++ (last ∷ [])) ≡ refused (last .because)
+    → NoneHolds rs × T (last .holds)
+unfolding firstOf
+refused-last [] last others e = (tt, by (last .holds) e)
+  where
+    by : (b : Bool) → cond b (refused (last .because)) accepted ≡ refused (last .because) → T b
+    by true q = tt
+    by false q = absurd (let z : _≡_ {A = ℕ} 0 1 = cc in omega arith)
+refused-last (r ∷ rs) last others e = by (r .holds) (refused-last rs last (others .1)) e
+  where
+    by : (b : Bool) → (firstOf (rs ++ (last ∷ [])) ≡ refused (last .because) → NoneHolds rs × T (last .holds))
+        → cond b (refused (r .because)) (firstOf (rs ++ (last ∷ []))) ≡ refused (last .because) → (T (not b) × NoneHolds rs) × T (last .holds)
+    by true ih q = absurd (others .0 cc)
+    by false ih q = let h = ih q in ((tt, h .0), h .1)
 
 -- the reasons h k, h (k + 1), .. : m lists
 module _ (h : ℕ → List Reason) where

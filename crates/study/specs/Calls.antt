@@ -5,7 +5,7 @@ use mathlib.Core.Bool.{Bool, true, cond, not, _&&_}
 use mathlib.Core.List.{List, [], _∷_, _++_, map, flatMap}
 use lib.Dec.{leb, eqb, ltb}
 use lib.ListN.{length, getD, set, replicate}
-use Rattle.lists.specs.Lists.{between, each, iota, every, sumBelow, countBelow, tabulate, over, filter, isEmpty}
+use Rattle.lists.specs.Lists.{between, each, iota, every, any, sumBelow, countBelow, tabulate, over, filter, isEmpty}
 use Rattle.study.specs.Limits.{maxTides, maxSettings, maxDistance, maxUsers, maxWithdrawals}
 use Rattle.study.specs.declared.Minima.{Minima}
 use Rattle.study.specs.declared.BlockRecord.{BlockRecord}
@@ -14,7 +14,7 @@ use Rattle.study.specs.declared.Blocked.the-variants as BlockedCase
 use Rattle.study.specs.declared.Judged.{Judged}
 use Rattle.study.specs.declared.Judged.the-variants as JudgedCase
 use Rattle.study.specs.Problem.{centres, nearestDistance, nearestBlock, block, labels, radius, blocking, diameter, greatestDiameter, feasible}
-use Rattle.study.specs.Study.{Tide, Study, Contents, withTides, withStudy, size, distance, sufficient, problem, validMinima}
+use Rattle.study.specs.Study.{Tide, Study, Contents, withTides, withStudy, size, tide, distance, sufficient, problem, validMinima}
 use Rattle.study.specs.Refusals.{Numbered, number, seven, numbered, Reply, value, refusal, Reason, _⇒_}
 
 -- ---- Open
@@ -75,15 +75,26 @@ abbrev pub firstViolation : List Pair → Numbered
 firstViolation [] = number 7
 firstViolation (p ∷ ps) = seven (suc (p .lower)) (suc (p .upper))
 
--- 22 full, 4 a row of another length, 5 the setting, 6 a distance, 7 the first violation
+-- document 02, 2.8: a tide of this setting, at `new i` from each of n tides, is a duplicate (twin) of one of them: at 0 from it, and of its
+-- setting
+unfoldable pub duplicated : (ℕ → ℕ) → ℕ → ℕ → (ℕ → ℕ) → Bool
+duplicated settings n setting new = any n (λ i. eqb (new i) 0 && eqb (settings i) setting)
+
+-- a study holds a duplicate: some tide is one of a tide before it. Such a study is a study like any other
+unfoldable pub holdsDuplicate : Study → Bool
+holdsDuplicate S = any (size S) (λ u. duplicated (λ t. tide S t .setting) u (tide S u .setting) (distance S u))
+
+-- 22 full, 4 a row of another length, 5 the setting, 6 a distance, 7 the first violation, 15 a duplicate
 unfoldable pub enterReasons : Study → ℕ → List ℕ → List Reason
 enterReasons S setting row =
-    let violated = violations (distance S) (size S) (λ i. getD row i 0) in
+    let new : ℕ → ℕ = λ i. getD row i 0 in
+    let violated = violations (distance S) (size S) new in
     (leb maxTides (size S) ⇒ number 22)
     ∷ (not (eqb (length row) (size S)) ⇒ number 4)
     ∷ (not (between 1 (S .k) setting) ⇒ number 5)
     ∷ (not (every (length row) (λ i. leb (getD row i 0) maxDistance)) ⇒ number 6)
     ∷ (not (isEmpty violated) ⇒ firstViolation violated)
+    ∷ (duplicated (λ i. tide S i .setting) (size S) setting new ⇒ number 15)
     ∷ []
 
 -- a tide whose distances may break the triangle inequality (document 02, 2.1: a measured table): 22, 4, 5, 6 as above

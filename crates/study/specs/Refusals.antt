@@ -35,6 +35,7 @@ numbered RefusalCase.FillBits = number 11
 numbered RefusalCase.ListLength = number 12
 numbered RefusalCase.NotSymmetric = number 13
 numbered RefusalCase.NoSuchUser = number 14
+numbered RefusalCase.Duplicate = number 15
 numbered RefusalCase.NotDataset = number 21
 numbered RefusalCase.Full = number 22
 numbered RefusalCase.NoSuchTide = number 23

@@ -1,9 +1,9 @@
--- What is proved of the definitions; there are no proofs here. `for-problem`, `for-nearest`, `for-study`, `for-calls` and `for-minima` of
--- Proofs.antt prove the records `For..`. Assumes nothing.
+-- What is proved of the definitions; there are no proofs here. `for-problem`, `for-nearest`, `for-study`, `for-calls`, `for-minima` and
+-- `for-duplicates` of Proofs.antt prove the records `For..`. Assumes nothing.
 use Prim.Native.Nat.{ℕ, suc, _+_, _*_, _≤_, _<_}
 use mathlib.Core.Path.{_≡_}
 use mathlib.Core.Logic.{_⊎_, _↔_}
-use mathlib.Core.Bool.{Bool, true, not}
+use mathlib.Core.Bool.{Bool, true, false, not}
 use mathlib.Core.List.{List}
 use lib.Dec.{T, eqb}
 use lib.ListN.{length, getD, take}
@@ -13,9 +13,9 @@ use Rattle.study.specs.declared.Minima.{Minima}
 use Rattle.study.specs.Problem.{Problem, centres, centreOf, nearestDistance, nearestBlock, block, labels, assignments, assignable}
 use Rattle.study.specs.Problem.{candidates, radius, blocking, diameter, greatestDiameter, Feasible, feasible}
 use Rattle.study.specs.Study.{Study, Contents, size, tide, problem, validMinima, Valid, ValidCounts, Renumbered}
-use Rattle.study.specs.Refusals.{accepted, firstOf}
-use Rattle.study.specs.Calls.{openReasons, opening, sumOfParts, understood, minimaReasons, settingMinima, enterReasons, entering}
-use Rattle.study.specs.Calls.{withdrawReasons, withdrawing}
+use Rattle.study.specs.Refusals.{number, accepted, refused, firstOf}
+use Rattle.study.specs.Calls.{openReasons, opening, sumOfParts, understood, minimaReasons, settingMinima, holdsDuplicate, enterReasons, entered}
+use Rattle.study.specs.Calls.{entering, withdrawReasons, withdrawing}
 use Rattle.study.specs.Minima.{Acceptable}
 
 -- ---- what the theorems ask of a problem
@@ -146,3 +146,11 @@ pub record ForMinima (S : Study) (M : Minima) : Type 0 where
   pub as-before : T (validMinima (S .k) M) → (firstOf (minimaReasons S M) ≡ accepted) × (understood M ≡ M)
   -- newly accepted are those with b0 below the sum, and no others
   pub newly : ((firstOf (minimaReasons S M) ≡ accepted) × T (not (validMinima (S .k) M))) ↔ (Acceptable (S .k) M × (M .b0 < sumOfParts M))
+
+-- what Enter does about duplicates (document 02, 2.8: twins), for every study and tide
+pub record ForDuplicates (S : Study) (setting : ℕ) (row : List ℕ) : Type 0 where
+  -- where none is held and Enter is accepted, none is held after
+  pub none-after : holdsDuplicate S ≡ false → firstOf (enterReasons S setting row) ≡ accepted → holdsDuplicate (entered setting row S) ≡ false
+  -- with a tide that is refused 15 one would be held, and a valid study would still be one
+  pub one-after : firstOf (enterReasons S setting row) ≡ refused (number 15) → holdsDuplicate (entered setting row S) ≡ true
+  pub still-valid : Valid S → firstOf (enterReasons S setting row) ≡ refused (number 15) → Valid (entered setting row S)

@@ -70,6 +70,8 @@ pub enum Refusal {
     NotSymmetric,
     // A user who is not 1 to 4 (document 02).
     NoSuchUser,
+    // A new tide at distance 0 from a tide of its setting (document 02).
+    Duplicate,
     NotDataset,
     Full,
     NoSuchTide,

@@ -30,6 +30,7 @@ pub fn numbered(refusal: Refusal) -> Number
         Refusal::ListLength => Number::Alone(12),
         Refusal::NotSymmetric => Number::Alone(13),
         Refusal::NoSuchUser => Number::Alone(14),
+        Refusal::Duplicate => Number::Alone(15),
         Refusal::NotDataset => Number::Alone(21),
         Refusal::Full => Number::Alone(22),
         Refusal::NoSuchTide => Number::Alone(23),

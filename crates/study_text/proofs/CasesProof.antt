@@ -5,7 +5,7 @@ use Rattle.lists.specs.Lists.{every, sumBelow, tabulate}
 use Rattle.study.specs.Study.{noTide, tide, distance, validMinima}
 use Rattle.study.specs.Refusals.{firstOf}
 use Rattle.study.specs.Calls.{openReasons, opened, opening, understood, minimaReasons, withMinima, settingMinima}
-use Rattle.study.specs.Calls.{triangle, violations, enterReasons, entered, entering}
+use Rattle.study.specs.Calls.{triangle, violations, duplicated, enterReasons, entered, entering}
 use Rattle.file_format.specs.Bits.{binary, allBits, pack, packed}
 use Rattle.file_format.specs.File.{tideFields, fields, fileWith, fileOf}
 use Rattle.text_words.specs.Words.{newlines, endsWord, begins, commentAfter, past, startOf, wordOf}
@@ -18,7 +18,7 @@ pub worked-cases : TextCases
 unfolding cases packAnswer textOf turnsOf turnOf tideOf headOf minimaOf openingOf minimaFrom numbersOf numberOf
     nextOf wordAt numeralOf valueFrom withDigit digit wordOf startOf past commentAfter begins endsWord newlines
     openReasons opening opened understood minimaReasons settingMinima withMinima validMinima enterReasons entering entered
-    violations triangle distance tide noTide firstOf every sumBelow tabulate flatMap
+    violations duplicated triangle distance tide noTide firstOf every sumBelow tabulate flatMap
     fileOf fileWith fields tideFields packed pack allBits binary
 worked-cases = refl
 
@@ -26,7 +26,7 @@ pub one-tide : OneTideFile
 unfolding packLeaves textOf turnsOf turnOf tideOf headOf minimaOf openingOf minimaFrom numbersOf numberOf
     nextOf wordAt numeralOf valueFrom withDigit digit wordOf startOf past commentAfter begins endsWord newlines
     openReasons opening opened understood minimaReasons settingMinima withMinima validMinima enterReasons entering entered
-    violations triangle distance tide noTide firstOf every sumBelow tabulate flatMap
+    violations duplicated triangle distance tide noTide firstOf every sumBelow tabulate flatMap
     fileOf fileWith fields tideFields packed pack allBits binary
 one-tide = refl
 
@@ -34,6 +34,6 @@ pub raised-file : RaisedFile
 unfolding packLeaves textOf turnsOf turnOf tideOf headOf minimaOf openingOf minimaFrom numbersOf numberOf
     nextOf wordAt numeralOf valueFrom withDigit digit wordOf startOf past commentAfter begins endsWord newlines
     openReasons opening opened understood minimaReasons settingMinima withMinima validMinima enterReasons entering entered
-    violations triangle distance tide noTide firstOf every sumBelow tabulate flatMap
+    violations duplicated triangle distance tide noTide firstOf every sumBelow tabulate flatMap
     fileOf fileWith fields tideFields packed pack allBits binary
 raised-file = refl

@@ -42,6 +42,10 @@ cases =
     ∷ ("1\n1\n257" gives refusedAt 3 (number 3))
     ∷ ("1\n1 0\n257" gives refusedAt 3 (number 5))
     ∷ ("1 1 0\n1\n1 3\n1 1\n1\n" gives refusedAt 5 (seven 1 2))
+    -- a duplicate (document 02, 2.8) with its line; 7 before it; none of another setting
+    ∷ ("1 1 0\n1\n1 3\n1 3\n0\n" gives refusedAt 5 (number 15))
+    ∷ ("1 1 0\n1\n1 3\n1 1 0\n" gives refusedAt 4 (seven 1 2))
+    ∷ ("2 1 0 0\n1\n2 0\n" gives refusedAt 4 (number 1))
     -- no room for the file
     ∷ ("1 1 0\n1\n1 3\n" gives refusedAt 4 (number 1))
     ∷ []

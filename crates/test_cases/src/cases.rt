@@ -12,6 +12,7 @@ use test_exhaustive::exhaustive;
 use test_exhaustive::exhaustive::Order;
 use test_exhaustive::small::Small;
 use test_exhaustive::small::table;
+use test_exhaustive::stored::has_duplicate;
 use test_tools::answers::blocked_number;
 use test_tools::answers::is_done;
 use test_tools::tally::Tally;
@@ -136,6 +137,7 @@ pub fn case_2(so_far: Tally) -> Tally {
     blocks(blocks(so_far, pairs(2), expected), pairs(1), expected)
 }
 
+// Cases 3, 4 and 5 hold a duplicate, so that they come in by file (document 02, 2.8).
 pub fn case_3(so_far: Tally) -> Tally {
     let small = line(4, [2, 0, 2, 4, 0, 0, 0], 2);
     let t = blocks(
@@ -149,12 +151,14 @@ pub fn case_3(so_far: Tally) -> Tally {
         },
     );
     t.see(is_approved(judged(small, [1, 1, 2, 2, 0, 0, 0]), 2))
+        .see(has_duplicate(small))
 }
 
 pub fn case_4(so_far: Tally) -> Tally {
+    let small = line(5, [0, 10, 5, 5, 5, 0, 0], 2);
     blocks(
-        so_far,
-        line(5, [0, 10, 5, 5, 5, 0, 0], 2),
+        so_far.see(has_duplicate(small)),
+        small,
         Expected {
             count: 2,
             radius: 5,
@@ -165,9 +169,10 @@ pub fn case_4(so_far: Tally) -> Tally {
 }
 
 pub fn case_5(so_far: Tally) -> Tally {
+    let small = line(3, [0; 7], 1);
     let t = blocks(
-        so_far,
-        line(3, [0; 7], 1),
+        so_far.see(has_duplicate(small)),
+        small,
         Expected {
             count: 1,
             radius: 0,

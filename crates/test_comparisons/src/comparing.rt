@@ -13,6 +13,7 @@ use test_exhaustive::exhaustive::Plain;
 use test_exhaustive::partitions::diameter;
 use test_exhaustive::partitions::members;
 use test_exhaustive::small::Small;
+use test_exhaustive::stored::has_duplicate;
 use test_exhaustive::studies;
 use test_random::next;
 use test_tools::answers::all_blank;
@@ -92,8 +93,8 @@ fn other_by_number(small: Small, plain: Plain) -> bool {
 }
 
 // Studies in which Block gives what the plain blocker gives, those of them that are refused 24 and 25, that have several blocks,
-// in which a candidate above the radius has no assignment, in which Minima raises b0, and in which the order by number would give
-// another list.
+// in which a candidate above the radius has no assignment, in which Minima raises b0, in which the order by number would give another list,
+// and which hold a duplicate, so that they come in by file.
 pub struct Compared {
     agreed: Tally,
     no_tides: Tally,
@@ -102,6 +103,7 @@ pub struct Compared {
     gaps: Tally,
     raised: Tally,
     by_number: Tally,
+    by_file: Tally,
 }
 
 impl Compared {
@@ -118,6 +120,7 @@ impl Compared {
                 .see(done && exhaustive::gap_above(small, plain.radius)),
             raised: self.raised.see(studies::is_below(small.minima)),
             by_number: self.by_number.see(done && other_by_number(small, plain)),
+            by_file: self.by_file.see(has_duplicate(small)),
         }
     }
 
@@ -130,6 +133,7 @@ impl Compared {
             .print(b"with no assignment at a greater candidate");
         self.raised.print(b"with b0 below the sum of the b's");
         self.by_number.print(b"with another list by number");
+        self.by_file.print(b"with a duplicate, by file");
     }
 }
 
@@ -142,6 +146,7 @@ fn none() -> Compared {
         gaps: tally::new(),
         raised: tally::new(),
         by_number: tally::new(),
+        by_file: tally::new(),
     }
 }
 

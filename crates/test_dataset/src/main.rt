@@ -15,6 +15,7 @@ use test_tools::samples::two_tides;
 use test_tools::tally;
 use test_tools::tally::Tally;
 
+mod duplicates;
 mod samples;
 mod spoiled;
 mod withdrawing;
@@ -280,6 +281,7 @@ fn last_places(so_far: Tally, distances: &[u32], before: u32, last: u32) -> Tall
 
 fn print_enter() {
     enter_done(enter_pairs(enter_refused(tally::new()))).print(b"enter");
+    duplicates::trials(tally::new()).print(b"duplicates");
     withdrawing::trials(tally::new()).print(b"withdraw");
 }
 

@@ -3,4 +3,5 @@ pub mod centres;
 pub mod exhaustive;
 pub mod partitions;
 pub mod small;
+pub mod stored;
 pub mod studies;

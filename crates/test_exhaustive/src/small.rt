@@ -1,4 +1,6 @@
 // Studies of up to seven tides, counted from 0, and the datasets that the calls make of them.
+use crate::stored::has_duplicate;
+use crate::stored::read_study;
 use study::Dataset;
 use study::Minima;
 use test_tools::samples::entered;
@@ -85,8 +87,11 @@ impl Small {
         next
     }
 
-    // Open, Minima, and Enter for each tide.
+    // Read of its file, where it holds a duplicate; otherwise Open, Minima, and Enter for each tide.
     pub fn held(self, distances: &mut [u32], settings: &mut [u8]) -> Dataset {
+        if has_duplicate(self) {
+            return read_study(self, distances, settings);
+        }
         let empty = opened(distances, settings, self.k);
         let set = with_minima(empty, distances, settings, self.minima);
         self.enter_all(set, distances, settings)

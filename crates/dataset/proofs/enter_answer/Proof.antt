@@ -1,7 +1,7 @@
 -- `enter_answer` meets its contract: one law for each way out. Assumes nothing.
 use native.Mathlib.Omega.{arith}
 use borrow.Author.Needs.{needs}
-use Rattle.dataset.proofs.AnswerLaws.{enter-22, enter-4, enter-5, enter-6, enter-7, enter-done}
+use Rattle.dataset.proofs.AnswerLaws.{enter-22, enter-4, enter-5, enter-6, enter-7, enter-15}
 use Rattle.lists.proofs.Scans.{between-in, between-low, between-high, test-passes, test-fails}
 use Rattle.dataset.proofs.enter_answer.Statement.{statement}
 use Rattle.dataset.proofs.enter_answer.Tie as tie
@@ -44,16 +44,22 @@ returns-6 c =
     enter-7 _ _ _ (at-room .before .before .before .before .pre) (at-room .if1 .left) (at-setting .before .before .if2 .left) setting range
     (at-search .first-violation .ensures) _ _ (c .before .found .given .1)
 
+check-duplicate-requires : tie.Need-check-duplicate-requires
+check-duplicate-requires c κs =
+    let at-length = c .before .before .before .before .before .before .before in
+    let at-room = at-length .before in
+    omega (arith, at-room .before .before .before .before .pre .long .settings, at-length .if2 .left, at-room .if1 .left)
+
 returns-7 : tie.Need-returns-7
 returns-7 c =
-    let at-search = c .before .before in
+    let at-search = c .before .before .before in
     let at-range = at-search .before .before in
     let at-setting = at-range .before in
     let at-room = at-setting .before .before .before in
     let setting = between-in 1 _ _ (at-setting .before .if3 .left) (at-setting .if4 .left) in
     let range = test-passes (at-range .row-in-range .ensures) (at-search .before .if5 .left) in
-    enter-done _ _ _ (at-room .before .before .before .before .pre) (at-room .if1 .left) (at-setting .before .before .if2 .left) setting range
-    (at-search .first-violation .ensures) (c .enum-told .given .1)
+    enter-15 _ _ _ (at-room .before .before .before .before .pre) (at-room .if1 .left) (at-setting .before .before .if2 .left) setting range
+    (at-search .first-violation .ensures) (c .before .enum-told .given .1) (c .check-duplicate .ensures)
 
 pub enter-answer-spec : {M : Type 1} → statement M
 enter-answer-spec =
@@ -68,5 +74,6 @@ enter-answer-spec =
     first-violation-requires
     (λ c. search needs)
     (λ c. search needs)
+    check-duplicate-requires
     returns-6
     returns-7)

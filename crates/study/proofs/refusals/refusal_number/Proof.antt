@@ -25,6 +25,7 @@ small RefusalCase.FillBits = omega arith
 small RefusalCase.ListLength = omega arith
 small RefusalCase.NotSymmetric = omega arith
 small RefusalCase.NoSuchUser = omega arith
+small RefusalCase.Duplicate = omega arith
 small RefusalCase.NotDataset = omega arith
 small RefusalCase.Full = omega arith
 small RefusalCase.NoSuchTide = omega arith
