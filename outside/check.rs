@@ -434,7 +434,7 @@ impl Twins {
         match call {
             Call::Enter { row, .. } => {
                 self.entered += held;
-                self.others += row.part().contains(&0) as u64;
+                self.others += row.places[..row.len].contains(&0) as u64;
             }
             _ => self.held += held,
         }

@@ -70,5 +70,5 @@ free-start (some H) f = f H refl
 pub free-after : (start : State) (calls : List Call) → ((H : Contents) → held start ≡ some H → holdsDuplicate (H .study) ≡ false)
     → CleanFiles calls → (H : Contents) → held (run start calls) ≡ some H → holdsDuplicate (H .study) ≡ false
 unfolding contentsAfter
-free-after start calls none clean H e =
-    subst Free (sym (holds start calls) ∙ e) (free-following (short start) calls (held start) clean (free-start (held start) none))
+free-after start calls begin clean H e =
+    subst Free (sym (holds start calls) ∙ e) (free-following (short start) calls (held start) clean (free-start (held start) begin))

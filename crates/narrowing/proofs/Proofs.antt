@@ -10,13 +10,13 @@ use lib.ListN.{length, getD, length-map, List·getD-map}
 use lib.Seq.{ext-getD}
 use borrow.Author.Tests.{lt-ltb, le-ltb}
 use Rattle.lists.specs.Lists.{between, allOf}
-use Rattle.lists.proofs.Tests.{T-left, true-T, not-not, split, between-T}
+use Rattle.lists.proofs.Tests.{T-left, T-false, true-T, not-not, test, split, between-T}
 use Rattle.lists.proofs.Scans.{between-high}
 use Rattle.lists.proofs.Counts.{sum-suc}
 use Rattle.lists.proofs.Counting.{sum-front}
 use Rattle.study.specs.declared.Minima.{Minima}
 use Rattle.study.specs.Minima.{Acceptable}
-use Rattle.study.specs.Study.{Contents, size, validMinima}
+use Rattle.study.specs.Study.{Study, Contents, size, validMinima}
 use Rattle.study.specs.Refusals.{Verdict, accepted, refused, settled, Reason, firstOf, freshReasons, isUser, heldReasons}
 use Rattle.study.specs.Calls.{openReasons, opening, understood, minimaReasons, settingMinima, enterReasons, entering, withdrawReasons, withdrawing}
 use Rattle.study.specs.Theorems.{ValidContents}
@@ -111,7 +111,16 @@ module _ (k : ℕ) (M : Minima) where
   valid-uncut : T (not (not (valid? M))) → narrowMinima M ≡ M
   valid-uncut t = taken-uncut (acceptable-T k M .0 (not-not (valid? M) t))
 
--- ---- a call given other arguments: the same reasons, and the same contents where none of them holds
+-- ---- a tide's setting
+
+-- one that is cut is refused 5, as it is given and as it is cut, whatever the later reasons make of it
+enter-same : (S : Study) (x : ℕ) (row : List ℕ) → S .k < 255 → firstOf (enterReasons S (narrowed x) row) ≡ firstOf (enterReasons S x row)
+unfolding firstOf enterReasons
+enter-same S x row few =
+    ⊎-elim (λ t. ap (λ y. firstOf (enterReasons S y row)) (narrow-small x (omega (arith, between-T 1 (S .k) x .0 t .1))))
+    (λ t. rw (between-same (S .k) x few, T-false (between 1 (S .k) x) t)) (test (between 1 (S .k) x))
+
+-- ---- a call given other arguments: the same first reason, and the same contents where none holds
 
 module _ (s : State) where
   leaves-same : {v w : Verdict} {new new′ : Contents} → w ≡ v → (v ≡ accepted → new′ ≡ new) → settled w (stored new′ s) s ≡ settled v (stored new s) s
@@ -126,14 +135,14 @@ module _ (s : State) where
 
   -- of a user who is none nothing else matters
   module _ (users users′ : List ℕ) (users-same : allOf isUser users′ ≡ allOf isUser users)
-      {own own′ : Contents → List Reason} {makes makes′ : Contents → Contents}
-      (same : (H : Contents) → ValidContents H → allOf isUser users ≡ true → own′ H ≡ own H)
+      (own own′ : Contents → List Reason) {makes makes′ : Contents → Contents}
+      (same : (H : Contents) → ValidContents H → allOf isUser users ≡ true → firstOf (own′ H) ≡ firstOf (own H))
       (makes-same : (H : Contents) → ValidContents H → allOf isUser users ≡ true → firstOf (own H) ≡ accepted → makes′ H ≡ makes H) where
     answer-same : heldAnswer s users′ own′ ≡ heldAnswer s users own
     unfolding heldAnswer
     answer-same =
         ladder-same (short s) users users′ (isDataset s) (own (contentsOf s)) (own′ (contentsOf s)) users-same
-        (λ A. ap firstOf (same (contentsOf s) (valid (A .tested)) (A .known)))
+        (λ A. same (contentsOf s) (valid (A .tested)) (A .known))
 
     held-same : (heldAnswer s users′ own′ ≡ heldAnswer s users own)
         × (settled (heldAnswer s users′ own′) (stored (makes′ (contentsOf s)) s) s ≡ settled (heldAnswer s users own) (stored (makes (contentsOf s)) s) s)
@@ -178,14 +187,14 @@ unchanged s =
           let e : openAnswer s (narrowed k) ≡ openAnswer s k = rw (between-same 8 k (omega arith)) in
           (e, leaves-same s e (λ a. ap opening (between-uncut 8 k (omega arith) (none-holds (openReasons k) (fresh-own s (openReasons k) a .1) .0))));
       on-minima = λ M.
-          held-same s [] [] refl (λ H ok k. rw (valid-same (H .study .k) M))
+          held-same s [] [] refl _ _ (λ H ok k. rw (valid-same (H .study .k) M))
           (λ H ok k a. ap (λ N. settingMinima N H) (valid-uncut (H .study .k) M (none-holds (minimaReasons (H .study) M) a .0)));
       on-enter = λ x row.
-          held-same s [] [] refl (λ H ok k. rw (between-same (H .study .k) x (omega (arith, ok .study .k-high))))
+          held-same s [] [] refl _ _ (λ H ok k. enter-same (H .study) x row (omega (arith, ok .study .k-high)))
           (λ H ok k a. ap (λ y. entering y row H)
           (between-uncut (H .study .k) x (omega (arith, ok .study .k-high)) (none-holds (enterReasons (H .study) x row) a .1 .1 .0)));
       on-withdraw = λ u t.
-          held-same s (u ∷ []) (narrowed u ∷ []) (users-same u)
+          held-same s (u ∷ []) (narrowed u ∷ []) (users-same u) _ _
           (λ H ok k. rw (user-uncut u k, between-same (size (H .study)) t (omega (arith, ok .study .few))))
           (λ H ok k a. ap₂ (λ v x. withdrawing v x H) (user-uncut u k)
           (between-uncut (size (H .study)) t (omega (arith, ok .study .few)) (none-holds (withdrawReasons H u t) a .0)));
