@@ -3,9 +3,7 @@ use crate::small::Small;
 use crate::small::at;
 use study::Dataset;
 use study::MAX_TIDES;
-use study::TABLE_SIZE;
 use study_file::Written;
-use test_tools::samples::nonsense;
 use test_tools::samples::opened;
 use test_tools::samples::with_minima;
 use test_tools::slices::front;
@@ -33,59 +31,61 @@ pub fn has_duplicate(small: Small) -> bool {
     false
 }
 
-// The distance that a dataset holds of tides i and j; 0 past the last tide.
-fn stored_distance(small: Small, i: usize, j: usize) -> u32 {
-    if small.n <= i {
-        return 0;
+// Place p of the seven rows of seven, in memory; past the last tide nothing is put.
+fn put_distance(small: Small, distances: &mut [u32], p: usize) {
+    if 49 <= p {
+        return;
     }
-    if small.n <= j {
-        return 0;
+    let i = p / 7;
+    let j = p % 7;
+    let place = i * MAX_TIDES + j;
+    if i < small.n && j < small.n && place < distances.len() {
+        distances[place] = small.distance(i, j);
     }
-    small.distance(i, j)
 }
 
-fn stored_distances(small: Small) -> [u32; TABLE_SIZE] {
-    let mut distances = [0u32; TABLE_SIZE];
+fn put_distances(small: Small, distances: &mut [u32]) {
     let mut p: usize = 0;
     while p < 49 {
-        distances[p / 7 * MAX_TIDES + p % 7] = stored_distance(small, p / 7, p % 7);
+        put_distance(small, distances, p);
         p += 1;
     }
-    distances
 }
 
-fn stored_settings(small: Small) -> [u8; MAX_TIDES] {
+fn put_setting(settings: &mut [u8], t: usize, setting: u8) {
+    if t < settings.len() {
+        settings[t] = setting;
+    }
+}
+
+fn put_settings(small: Small, settings: &mut [u8]) {
     let kinds = small.settings;
-    let mut settings = [0u8; MAX_TIDES];
+    let n = small.n;
     let mut t: usize = 0;
-    while t < 7 {
-        if t < small.n {
-            settings[t] = kinds[t];
-        }
+    while t < n {
+        put_setting(settings, t, at(kinds, t));
         t += 1;
     }
-    settings
 }
 
 // The study's file in the front of the bytes, and its length; 0 where Write is refused.
-fn write_study(small: Small, file: &mut [u8]) -> usize {
-    let distances = stored_distances(small);
-    let settings = stored_settings(small);
-    let mut empty_distances = [0u32; TABLE_SIZE];
-    let mut empty_settings = [0u8; MAX_TIDES];
-    let empty = opened(&mut empty_distances, &mut empty_settings, small.k);
-    let mut record = with_minima(empty, &empty_distances, &empty_settings, small.minima);
+fn write_study(small: Small, distances: &mut [u32], settings: &mut [u8], file: &mut [u8]) -> usize {
+    let empty = opened(distances, settings, small.k);
+    let mut record = with_minima(empty, distances, settings, small.minima);
     record.n = small.n;
-    match study_file::write(record, &distances, &settings, file) {
+    put_distances(small, distances);
+    put_settings(small, settings);
+    match study_file::write(record, distances, settings, file) {
         Written::Done(n) => n,
         Written::Refused(_) => 0,
     }
 }
 
-// The record that Read leaves of the study's file.
+// The record that Read leaves of the study's file, over cleared memory.
 pub fn read_study(small: Small, distances: &mut [u32], settings: &mut [u8]) -> Dataset {
     let mut file = [0u8; 99];
-    let n = write_study(small, &mut file);
-    let outcome = study_file::read(nonsense(), distances, settings, front(&file, n));
+    let n = write_study(small, distances, settings, &mut file);
+    let cleared = opened(distances, settings, 1);
+    let outcome = study_file::read(cleared, distances, settings, front(&file, n));
     outcome.dataset
 }
