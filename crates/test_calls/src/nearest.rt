@@ -9,18 +9,18 @@ use test_tools::slices::same_front;
 use test_tools::tally::Tally;
 use test_tools::tally::answer_number;
 
-// Two tides on a line, at 0 and 10.
+// Two tides on a line, at 0 and 10, of setting 1.
 fn ends(distances: &mut [u32], settings: &mut [u8]) -> Dataset {
-    let empty = opened(distances, settings, 1);
+    let empty = opened(distances, settings, 2);
     let one = entered(empty, distances, settings, 1, &[]);
     entered(one, distances, settings, 1, &[10])
 }
 
-// Those two, a third at 5, and a fourth at 10.
+// Those two, a third at 5, and a fourth at 10, of setting 2.
 fn four_tides(distances: &mut [u32], settings: &mut [u8]) -> Dataset {
     let two = ends(distances, settings);
     let three = entered(two, distances, settings, 1, &[5, 5]);
-    entered(three, distances, settings, 1, &[10, 0, 5])
+    entered(three, distances, settings, 2, &[10, 0, 5])
 }
 
 // The number of centres at g, with the three lists filled; 99 where Centres refuses.

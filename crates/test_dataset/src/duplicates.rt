@@ -67,9 +67,13 @@ fn after_withdrawal(
 ) -> Tally {
     let gone = dataset::withdraw(two, distances, settings, 1, 1);
     let left = gone.dataset;
+    enter_again(so_far.outcome(gone, 0), left, distances, settings)
+}
+
+fn enter_again(so_far: Tally, left: Dataset, distances: &mut [u32], settings: &mut [u8]) -> Tally {
+    let again = dataset::enter(left, distances, settings, 1, &[3]);
     so_far
-        .outcome(gone, 0)
-        .outcome(dataset::enter(left, distances, settings, 1, &[3]), 0)
+        .outcome(again, 0)
         .setting(settings, 1, 1)
         .place(distances, 1, 3)
 }
