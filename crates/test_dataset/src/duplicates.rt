@@ -1,4 +1,5 @@
 // Enter of a tide at distance 0 from tides held (document 02, 2.8): refused 15 where one of them has its setting.
+use crate::enter_third;
 use study::Dataset;
 use study::Outcome;
 use test_tools::samples::entered;
@@ -6,44 +7,29 @@ use test_tools::samples::opened;
 use test_tools::samples::two_tides;
 use test_tools::tally::Tally;
 
-// k = 3, and two tides at 0, of settings 1 and 2.
-fn two_at_once(distances: &mut [u32], settings: &mut [u8]) -> Dataset {
-    let empty = opened(distances, settings, 3);
-    let one = entered(empty, distances, settings, 1, &[]);
-    entered(one, distances, settings, 2, &[0])
-}
-
+// k = 3, two tides at 0, of settings 1 and 2, and a third where they are.
 fn third_at_once(setting: u8) -> Outcome {
     let mut distances = [7u32; 14403];
     let mut settings = [9u8; 123];
-    let two = two_at_once(&mut distances, &mut settings);
+    let empty = opened(&mut distances, &mut settings, 3);
+    let one = entered(empty, &mut distances, &mut settings, 1, &[]);
+    let two = entered(one, &mut distances, &mut settings, 2, &[0]);
     dataset::enter(two, &mut distances, &mut settings, setting, &[0, 0])
 }
 
-// At 0 from two tides, one of them of the same setting, first or last; then none.
-fn at_once(so_far: Tally) -> Tally {
+// At 0 from two tides, one of them of the same setting, first or last; then none. Of two tides at 3, of settings 1 and 2, at 0 from one: of the
+// other's setting, and of its own. 6 and 7 come before 15.
+fn answers(so_far: Tally) -> Tally {
     so_far
         .outcome(third_at_once(1), 15)
         .outcome(third_at_once(2), 15)
         .outcome(third_at_once(3), 0)
-}
-
-fn third(setting: u8, row: &[u32]) -> Outcome {
-    let mut distances = [7u32; 14403];
-    let mut settings = [9u8; 123];
-    let two = two_tides(&mut distances, &mut settings);
-    dataset::enter(two, &mut distances, &mut settings, setting, row)
-}
-
-// Two tides at 3, of settings 1 and 2: at 0 from one of them, of the other's setting and of its own; 6 and 7 come before 15.
-fn apart(so_far: Tally) -> Tally {
-    so_far
-        .outcome(third(2, &[0, 3]), 0)
-        .outcome(third(1, &[3, 0]), 0)
-        .outcome(third(1, &[0, 3]), 15)
-        .outcome(third(2, &[3, 0]), 15)
-        .outcome(third(1, &[0, 1048576]), 6)
-        .pair(third(1, &[0, 1]), 1, 2)
+        .outcome(enter_third(2, &[0, 3]), 0)
+        .outcome(enter_third(1, &[3, 0]), 0)
+        .outcome(enter_third(1, &[0, 3]), 15)
+        .outcome(enter_third(2, &[3, 0]), 15)
+        .outcome(enter_third(1, &[0, 1048576]), 6)
+        .pair(enter_third(1, &[0, 1]), 1, 2)
 }
 
 // A refusal leaves the record, and in memory the places of a third tide.
@@ -66,14 +52,9 @@ fn after_withdrawal(
     settings: &mut [u8],
 ) -> Tally {
     let gone = dataset::withdraw(two, distances, settings, 1, 1);
-    let left = gone.dataset;
-    enter_again(so_far.outcome(gone, 0), left, distances, settings)
-}
-
-fn enter_again(so_far: Tally, left: Dataset, distances: &mut [u32], settings: &mut [u8]) -> Tally {
-    let again = dataset::enter(left, distances, settings, 1, &[3]);
+    let next = entered(gone.dataset, distances, settings, 1, &[3]);
     so_far
-        .outcome(again, 0)
+        .see(next.n == 2)
         .setting(settings, 1, 1)
         .place(distances, 1, 3)
 }
@@ -82,6 +63,6 @@ pub fn trials(so_far: Tally) -> Tally {
     let mut distances = [7u32; 14403];
     let mut settings = [9u8; 123];
     let two = two_tides(&mut distances, &mut settings);
-    let t = refused(apart(at_once(so_far)), two, &mut distances, &mut settings);
+    let t = refused(answers(so_far), two, &mut distances, &mut settings);
     after_withdrawal(t, two, &mut distances, &mut settings)
 }
