@@ -19,9 +19,8 @@ use Rattle.guarantee.specs.Cases.{order, CallsInOrder, OneRun, OnceMore,
 
 pub in-order : CallsInOrder
 unfolding order verdict reasonsAfter heldReasons freshReasons updating inquiring readReasons headReasons openReasons minimaReasons
-    enterReasons withdrawReasons centresReasons
-    blockReasons judgeReasons writeReasons firstOf noTide sufficient meets violations duplicated triangle distance tide fileOf fileWith fields tideFields packed pack
-    allBits binary countBelow sumBelow every tabulate flatMap
+    enterReasons withdrawReasons centresReasons blockReasons judgeReasons writeReasons firstOf noTide sufficient meets violations duplicated
+    triangle distance tide fileOf fileWith fields tideFields packed pack allBits binary countBelow sumBelow every tabulate flatMap
 in-order = refl
 
 pub one-run : OneRun

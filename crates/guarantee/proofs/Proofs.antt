@@ -17,7 +17,8 @@ use Rattle.pricing.specs.Tariff.{total, shares}
 use Rattle.pricing.specs.Theorems.{StudyShares}
 use Rattle.guarantee.specs.Runs.{find-centres, make-blocks, price-blocks, Query, inquiring, Call, call-ask, reasons, answer, Response, response, run}
 use Rattle.guarantee.specs.History.{reasonsAfter, verdict, contentsAfter, studyIn, studyAfter, learnt}
-use Rattle.guarantee.specs.Theorems.{Guaranteed, CanonicalBlock, blocked, Demand1, Demand2, Demand3, charged, ForTariff, centred, CentresTold, ForCentres, DuplicateFree}
+use Rattle.guarantee.specs.Theorems.{Guaranteed, CanonicalBlock, blocked, Demand1, Demand2, Demand3, charged, ForTariff, centred, CentresTold}
+use Rattle.guarantee.specs.Theorems.{ForCentres, DuplicateFree}
 use Rattle.guarantee.proofs.Follows.{held-some, holds-valid, holds, as-short, settles}
 use Rattle.guarantee.proofs.LedgerLaws.{exactly, anew}
 use Rattle.guarantee.proofs.CountLaws.{counted-after}

@@ -1,21 +1,19 @@
 -- Duplicates (document 02, 2.8: twins): which calls bring one in, and which do not. Assumes nothing.
-use Prim.Native.Nat.{ℕ, suc, _≤_, _<_}
-use native.Mathlib.Nat.{not-suc-le-zero}
+use Prim.Native.Nat.{ℕ, _<_}
 use native.Mathlib.Omega.{arith}
 use mathlib.Core.Path.{_≡_, refl, sym, ap, ap₂, _∙_, subst}
-use mathlib.Core.Logic.{⊎-elim}
 use mathlib.Core.Bool.{Bool, true, false, not, _&&_}
 use mathlib.Core.List.{List, [], _∷_}
 use lib.Dec.{T, eqb, T-not}
-use lib.ListN.{length, getD, take}
+use lib.ListN.{getD, take}
 use Rattle.lists.specs.Lists.{every, any, isEmpty}
 use Rattle.lists.proofs.Tests.{T-true, T-false, true-T, not-not, eq→eqb, every-same, any-of, none-at, none-of, any-first}
 use Rattle.study.specs.declared.Minima.{Minima}
 use Rattle.study.specs.Study.{Tide, Study, size, tide, distance, Valid}
-use Rattle.study.specs.Refusals.{Numbered, number, accepted, refused, Reason, _⇒_, firstOf}
+use Rattle.study.specs.Refusals.{number, accepted, refused, _⇒_, firstOf}
 use Rattle.study.specs.Calls.{opened, withMinima, Pair, violations, firstViolation, duplicated, holdsDuplicate, enterReasons, entered, withdrawn, skip}
-use Rattle.study.proofs.CallLaws.{NoneHolds, entered-size, entered-old, entered-new, entered-held, entered-column, each-number, measures-by, obeying-valid, enters}
-use Rattle.study.proofs.CallLaws.{skip-order, withdrawn-setting, withdrawn-distance, skip-inside}
+use Rattle.study.proofs.CallLaws.{NoneHolds, entered-size, entered-old, entered-new, entered-held, entered-column, each-number}
+use Rattle.study.proofs.CallLaws.{measures-by, obeying-valid, enters, skip-order, withdrawn-setting, withdrawn-distance, skip-inside}
 use Rattle.study.proofs.ReasonLaws.{refused-last}
 
 -- by settings and distances alone

@@ -97,7 +97,8 @@ enterReasons S setting row =
     ∷ (duplicated (λ i. tide S i .setting) (size S) setting new ⇒ number 15)
     ∷ []
 
--- a tide whose distances may break the triangle inequality (document 02, 2.1: a measured table): 22, 4, 5, 6 as above
+-- a tide whose distances may break the triangle inequality, and which may be a duplicate (document 02, 2.1: a measured table): 22, 4, 5, 6 as
+-- above
 unfoldable pub measuredReasons : Study → ℕ → List ℕ → List Reason
 measuredReasons S setting row =
     (leb maxTides (size S) ⇒ number 22)

@@ -1,6 +1,6 @@
 -- A study as text: k, the minima b0 and b1 to bk, then each tide's setting and its distances to the earlier tides. The calls that the
 -- text makes, in its order, what they come to, and the study file. A tide comes in by Enter; or as measured, where the triangle
--- inequality may fail: there all but that is asked. Assumes nothing.
+-- inequality may fail and a tide may be a duplicate: there all but these is asked. Assumes nothing.
 use Prim.Native.Nat.{ℕ, zero, suc}
 use mathlib.Core.Bool.{cond}
 use mathlib.Core.List.{List, [], _∷_, _++_}

@@ -18,7 +18,7 @@ ghost use lib.ListN.{length};
 ghost use Rattle.study_text.specs.Packing.{reportOf, packAnswer, packLeaves, answered, written};
 ghost use Rattle.study_text.specs.Reached.{Live, finishedOf};
 
-// How a text's tides come in: by Enter; or as measured, where the triangle inequality may fail.
+// How a text's tides come in: by Enter; or as measured, where the triangle inequality may fail and a tide may be a duplicate.
 pub enum Rule {
     Entered,
     Measured,

@@ -1,4 +1,4 @@
-// A tide as it was measured: its distances may break the triangle inequality.
+// A tide as it was measured: its distances may break the triangle inequality, and it may be a duplicate.
 use crate::Rule;
 use study::Answer;
 use study::Dataset;
