@@ -1,4 +1,5 @@
--- The text of a valid study is read back: each call that the text makes is accepted, and together they make the study. Assumes nothing.
+-- The text of a valid study is read back: each call that the text makes is accepted, and together they make the study; or the first tide that
+-- is a duplicate is refused. Assumes nothing.
 use Prim.Native.Nat.{ℕ, zero, suc, _+_, _-_, _≤_, _<_}
 use native.Mathlib.Omega.{arith}
 use mathlib.Core.Path.{_≡_, refl, sym, ap, ap₂, _∙_, subst}

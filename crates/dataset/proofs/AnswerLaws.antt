@@ -219,6 +219,14 @@ module _ (settings : List ℕ) (setting : ℕ) (row : List ℕ) where
   pub duplicate-none : (i : ℕ) → i ≤ length row → length row ≤ i → every i differs ≡ true → accepted ≡ duplicateAnswer settings setting row
   duplicate-none i a b e = scanned true (every-done differs i (length row) a b e)
 
+-- what the code has found out once it is past 22, 4, 5 and 6
+pub record EnterTested (s : State) (setting : ℕ) (row : List ℕ) : Type 0 where
+  pub passed : Passed s
+  pub room : s .dataset .n < 120
+  pub long : length row ≡ s .dataset .n
+  pub kind : between 1 (s .dataset .k) setting ≡ true
+  pub row-fits : every (length row) (λ i. leb (getD row i 0) 1048575) ≡ true
+
 module _ (s : State) (setting : ℕ) (row : List ℕ) where
   abbrev n : ℕ
   n = s .dataset .n
@@ -262,35 +270,41 @@ module _ (s : State) (setting : ℕ) (row : List ℕ) where
           unfolding enterReasons firstOf studyOf
           enter-6 f = enter-own (refused (number 6)) (rw (past-22, past-4, kind, f))
 
-          module _ (row-fits : every (length row) in-range ≡ true) {r : Violation}
-              (e : r ≡ violationOf (violations (cell (s .distances)) (length row) new)) where
-            abbrev broken : List Pair
-            broken = violations (distance S) (size S) new
+  -- past 22, 4, 5 and 6
+  module _ (A : EnterTested s setting row) {r : Violation} (e : r ≡ violationOf (violations (cell (s .distances)) (length row) new)) where
+    abbrev broken : List Pair
+    broken = violations (distance S) (size S) new
 
-            -- the study's distances are those in memory
-            same : violationOf broken ≡ r
-            same =
-                ap (λ (k : ℕ). violationOf (violations (distance S) k new)) (study-size s ∙ sym long)
-                ∙ ap violationOf (violations-same (distance S) (cell (s .distances)) (length row) new new
-                (λ i j a b. study-distance s (P .study) i j (omega arith) (omega arith)) (λ i a. refl))
-                ∙ sym e
+    -- the study's distances are those in memory
+    same : violationOf broken ≡ r
+    same =
+        let inside = A .long in
+        ap (λ (k : ℕ). violationOf (violations (distance S) k new)) (study-size s ∙ sym inside)
+        ∙ ap violationOf (violations-same (distance S) (cell (s .distances)) (length row) new new
+        (λ i j a b. study-distance s (A .passed .study) i j (omega arith) (omega arith)) (λ i a. refl))
+        ∙ sym e
 
-            pub enter-7 : (i j : ℕ) → r ≡ ViolationCase.Pair i j → refused (seven i j) ≡ enterAnswer s setting row
-            unfolding enterReasons firstOf studyOf
-            enter-7 i j q =
-                let f = found-pair broken i j (same ∙ q) in
-                enter-own (refused (seven i j)) (rw (past-22, past-4, kind, row-fits, f .0) (ap refused (f .1)))
+    -- the study's settings are those in memory
+    same-duplicate : duplicated (λ i. tide S i .setting) (size S) setting new ≡ duplicated (λ i. getD (s .settings) i 0) (length row) setting new
+    same-duplicate =
+        let inside = A .long in
+        ap (λ (k : ℕ). duplicated (λ i. tide S i .setting) k setting new) (study-size s ∙ sym inside)
+        ∙ duplicated-same (length row) setting (λ i. tide S i .setting) (λ i. getD (s .settings) i 0) new new
+        (λ i l. study-setting s i (omega arith)) (λ i l. refl)
 
-            -- the study's settings are those in memory
-            same-duplicate : duplicated (λ i. tide S i .setting) (size S) setting new ≡ duplicated (λ i. getD (s .settings) i 0) (length row) setting new
-            same-duplicate =
-                ap (λ (k : ℕ). duplicated (λ i. tide S i .setting) k setting new) (study-size s ∙ sym long)
-                ∙ duplicated-same (length row) setting (λ i. tide S i .setting) (λ i. getD (s .settings) i 0) new new
-                (λ i l. study-setting s i (omega arith)) (λ i l. refl)
+    pub enter-7 : (i j : ℕ) → r ≡ ViolationCase.Pair i j → refused (seven i j) ≡ enterAnswer s setting row
+    unfolding enterReasons firstOf studyOf
+    enter-7 i j q =
+        let f = found-pair broken i j (same ∙ q) in
+        enter-own (A .passed) (refused (seven i j))
+        (rw (past-22 (A .passed) (A .room), past-4 (A .passed) (A .room) (A .long), A .kind, A .row-fits, f .0) (ap refused (f .1)))
 
-            pub enter-15 : {v : Verdict} → r ≡ ViolationCase.Nothing → v ≡ duplicateAnswer (s .settings) setting row → v ≡ enterAnswer s setting row
-            unfolding enterReasons firstOf studyOf duplicateAnswer
-            enter-15 q p = p ∙ enter-own _ (rw (past-22, past-4, kind, row-fits, found-nothing broken (same ∙ q), same-duplicate))
+    pub enter-15 : {v : Verdict} → r ≡ ViolationCase.Nothing → v ≡ duplicateAnswer (s .settings) setting row → v ≡ enterAnswer s setting row
+    unfolding enterReasons firstOf studyOf duplicateAnswer
+    enter-15 q p =
+        let none = found-nothing broken (same ∙ q) in
+        p ∙ enter-own (A .passed) _
+        (rw (past-22 (A .passed) (A .room), past-4 (A .passed) (A .room) (A .long), A .kind, A .row-fits, none, same-duplicate))
 
   pub enter-accepted : {a : Answer} → a ≡ Done → verdictOf a ≡ enterAnswer s setting row → EnterAccepted s setting row
   unfolding enterAnswer enterLeaves heldLeaves contentsOf
