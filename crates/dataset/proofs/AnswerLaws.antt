@@ -314,8 +314,8 @@ module _ (s : State) (setting : ℕ) (row : List ℕ) where
       let w = enters (studyOf s) setting row (h .reasons) in
       record {
         passed = passed-by s (h .not-short) (h .tested);
-        room = omega (arith, w .room, study-size s);
-        length-is = w .length-is ∙ study-size s;
+        room = omega (arith, w .measures .room, study-size s);
+        length-is = w .measures .length-is ∙ study-size s;
         leaves = ap (λ v. settled v (stored (entering setting row (contentsOf s)) s) s) q;
       }
 

@@ -1,14 +1,14 @@
 -- Inner promises of the calls: what a call may rely on once it is accepted, or once short memory and 21 are past. Assumes nothing.
 use Prim.Native.Nat.{ℕ, _≤_, _<_}
 use mathlib.Core.Path.{_≡_}
-use mathlib.Core.Bool.{Bool, true, false, cond, _&&_}
+use mathlib.Core.Bool.{Bool, true, false, cond}
 use mathlib.Core.List.{List}
-use lib.Dec.{leb, eqb}
+use lib.Dec.{leb}
 use lib.ListN.{length, getD}
 use Rattle.study.specs.Limits.{maxTides, maxUsers, maxWithdrawals}
 use Rattle.study.specs.declared.Minima.{Minima}
 use Rattle.study.specs.Refusals.{number, Verdict, accepted, refused}
-use Rattle.study.specs.Calls.{sumOfParts, understood, duplicated, entering, countOf, withdrawing}
+use Rattle.study.specs.Calls.{sumOfParts, understood, alike, duplicated, entering, countOf, withdrawing}
 use Rattle.validity.specs.Memory.{State, short, isDataset, contentsOf, stored}
 use Rattle.dataset.specs.Answers.{enterLeaves, withdrawLeaves}
 use Rattle.validity.specs.Validity.{IsStudy, Long}
@@ -26,7 +26,7 @@ testedMinima M = cond (leb (sumOfParts M) maxTides) (understood M) M
 
 -- a new tide is a duplicate of tide i, by the settings in memory
 unfoldable pub duplicateOf : List ℕ → ℕ → List ℕ → ℕ → Bool
-duplicateOf settings setting row i = eqb (getD row i 0) 0 && eqb (getD settings i 0) setting
+duplicateOf settings setting row i = alike (getD settings i 0) setting (getD row i 0)
 
 -- the last of Enter's reasons, by the settings in memory
 unfoldable pub duplicateAnswer : List ℕ → ℕ → List ℕ → Verdict

@@ -246,11 +246,7 @@ module _ (s : ℕ) (row : List ℕ) (S : Study) where
 
 -- what an accepted Enter tells
 pub record Enters (S : Study) (s : ℕ) (row : List ℕ) : Type 0 where
-  pub room : size S < 120
-  pub length-is : length row ≡ size S
-  pub setting-low : 1 ≤ s
-  pub setting-high : s ≤ S .k
-  pub distance-high : (i : ℕ) → i < size S → getD row i 0 ≤ 1048575
+  pub measures : Measures S s row
   pub obeyed : T (isEmpty (violations (distance S) (size S) (λ i. getD row i 0)))
   pub new : T (not (duplicated (λ i. tide S i .setting) (size S) s (λ i. getD row i 0)))
 
@@ -258,26 +254,10 @@ pub enters : (S : Study) (s : ℕ) (row : List ℕ) → firstOf (enterReasons S 
 unfolding enterReasons
 enters S s row e =
     let h = none-holds (enterReasons S s row) e in
-    let m = measures-by S s row (h .0) (h .1 .0) (h .1 .1 .0) (h .1 .1 .1 .0) in
     record {
-      room = m .room;
-      length-is = m .length-is;
-      setting-low = m .setting-low;
-      setting-high = m .setting-high;
-      distance-high = m .distance-high;
+      measures = measures-by S s row (h .0) (h .1 .0) (h .1 .1 .0) (h .1 .1 .1 .0);
       obeyed = not-not (isEmpty (violations (distance S) (size S) (λ i. getD row i 0))) (h .1 .1 .1 .1 .0);
       new = h .1 .1 .1 .1 .1 .0;
-    }
-
--- its tide fits
-enters-measures : {S : Study} {s : ℕ} {row : List ℕ} → Enters S s row → Measures S s row
-enters-measures A =
-    record {
-      room = A .room;
-      length-is = A .length-is;
-      setting-low = A .setting-low;
-      setting-high = A .setting-high;
-      distance-high = A .distance-high;
     }
 
 -- a duplicate or not, a tide that obeys the triangle inequality makes a valid study
@@ -291,7 +271,7 @@ pub entering-valid : (s : ℕ) (row : List ℕ) (H : Contents) → ValidContents
 unfolding entering
 entering-valid s row H ok e =
     let A = enters (H .study) s row e in
-    record { study = obeying-valid s row (H .study) (ok .study) (enters-measures A) (A .obeyed); counts = ok .counts }
+    record { study = obeying-valid s row (H .study) (ok .study) (A .measures) (A .obeyed); counts = ok .counts }
 
 -- ---- Withdraw
 

@@ -2,7 +2,7 @@
 use Prim.Native.Nat.{ℕ, _<_}
 use native.Mathlib.Omega.{arith}
 use mathlib.Core.Path.{_≡_, refl, sym, ap, ap₂, _∙_, subst}
-use mathlib.Core.Bool.{Bool, true, false, not, _&&_}
+use mathlib.Core.Bool.{Bool, true, false, not}
 use mathlib.Core.List.{List, [], _∷_}
 use lib.Dec.{T, eqb, T-not}
 use lib.ListN.{getD, take}
@@ -11,7 +11,8 @@ use Rattle.lists.proofs.Tests.{T-true, T-false, true-T, not-not, eq→eqb, ever
 use Rattle.study.specs.declared.Minima.{Minima}
 use Rattle.study.specs.Study.{Tide, Study, size, tide, distance, Valid}
 use Rattle.study.specs.Refusals.{number, accepted, refused, _⇒_, firstOf}
-use Rattle.study.specs.Calls.{opened, withMinima, Pair, violations, firstViolation, duplicated, holdsDuplicate, enterReasons, entered, withdrawn, skip}
+use Rattle.study.specs.Calls.{opened, withMinima, Pair, violations, firstViolation, alike, duplicated, holdsDuplicate, enterReasons, entered}
+use Rattle.study.specs.Calls.{withdrawn, skip}
 use Rattle.study.proofs.CallLaws.{NoneHolds, entered-size, entered-old, entered-new, entered-held, entered-column, each-number}
 use Rattle.study.proofs.CallLaws.{measures-by, obeying-valid, enters, skip-order, withdrawn-setting, withdrawn-distance, skip-inside}
 use Rattle.study.proofs.ReasonLaws.{refused-last}
@@ -21,7 +22,7 @@ pub duplicated-same : (n x : ℕ) (f g d e : ℕ → ℕ) → ((i : ℕ) → i <
     → duplicated f n x d ≡ duplicated g n x e
 unfolding duplicated
 duplicated-same n x f g d e s p =
-    ap not (every-same n _ _ (λ i l. ap not (ap₂ (λ a b. eqb a 0 && eqb b x) (p i l) (s i l))))
+    ap not (every-same n _ _ (λ i l. ap not (ap₂ (λ y c. alike y x c) (s i l) (p i l))))
 
 -- whether tide u is a duplicate of a tide before it
 abbrev pub duplicate-at : Study → ℕ → Bool
@@ -114,19 +115,18 @@ module _ (i : ℕ) (S : Study) (held : i < size S) where
   abbrev W : Study
   W = withdrawn i S
 
-  -- tide u and tide t, of one setting and at 0
-  abbrev alike : Study → ℕ → ℕ → Bool
-  alike R u t = eqb (distance R u t) 0 && eqb (tide R t .setting) (tide R u .setting)
+  -- tide u is a duplicate of tide t
+  abbrev twice : Study → ℕ → ℕ → Bool
+  twice R u t = alike (tide R t .setting) (tide R u .setting) (distance R u t)
 
-  -- tides that stay are alike as before
-  stayed : (u t : ℕ) → alike W u t ≡ alike S (skip i u) (skip i t)
-  stayed u t =
-      ap₂ (λ a b. a && b) (ap (λ d. eqb d 0) (withdrawn-distance i S u t)) (ap₂ eqb (withdrawn-setting i S t) (withdrawn-setting i S u))
+  -- tides that stay are duplicates as before
+  stayed : (u t : ℕ) → twice W u t ≡ twice S (skip i u) (skip i t)
+  stayed u t = λ j. alike (withdrawn-setting i S t j) (withdrawn-setting i S u j) (withdrawn-distance i S u t j)
 
   none-stayed : (u : ℕ) → duplicate-at S (skip i u) ≡ false → duplicate-at W u ≡ false
   unfolding duplicated
   none-stayed u none =
-      none-of u (alike W u) (λ t l. stayed u t ∙ none-at (skip i u) (alike S (skip i u)) none (skip i t) (skip-order i t u .strict l))
+      none-of u (twice W u) (λ t l. stayed u t ∙ none-at (skip i u) (twice S (skip i u)) none (skip i t) (skip-order i t u .strict l))
 
   pub none-withdrawn : holdsDuplicate S ≡ false → holdsDuplicate W ≡ false
   unfolding holdsDuplicate

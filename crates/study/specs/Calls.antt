@@ -75,10 +75,13 @@ abbrev pub firstViolation : List Pair → Numbered
 firstViolation [] = number 7
 firstViolation (p ∷ ps) = seven (suc (p .lower)) (suc (p .upper))
 
--- document 02, 2.8: a tide of this setting, at `new i` from each of n tides, is a duplicate (twin) of one of them: at 0 from it, and of its
--- setting
+-- document 02, 2.8: tides of settings x and y, d apart, are duplicates (twins): at distance 0, of the same setting
+abbrev pub alike : ℕ → ℕ → ℕ → Bool
+alike x y d = eqb d 0 && eqb x y
+
+-- a tide of this setting, at `new i` from each of n tides, is a duplicate of one of them
 unfoldable pub duplicated : (ℕ → ℕ) → ℕ → ℕ → (ℕ → ℕ) → Bool
-duplicated settings n setting new = any n (λ i. eqb (new i) 0 && eqb (settings i) setting)
+duplicated settings n setting new = any n (λ i. alike (settings i) setting (new i))
 
 -- a study holds a duplicate: some tide is one of a tide before it. Such a study is a study like any other
 unfoldable pub holdsDuplicate : Study → Bool
