@@ -4,7 +4,7 @@ use native.Mathlib.Omega.{arith}
 use native.Mathlib.Numerals.{add-one}
 use mathlib.Core.Path.{_≡_, refl, sym, ap, ap₂, _∙_, subst}
 use mathlib.Core.Bool.{Bool, true, false, _&&_}
-use mathlib.Core.List.{List, [], _++_}
+use mathlib.Core.List.{List, [], _∷_, _++_}
 use lib.Dec.{T, leb, leb→le}
 use lib.ListN.{length, getD, drop}
 use borrow.Author.Tests.{le-leb, lt-leb}
@@ -14,11 +14,12 @@ use Rattle.lists.proofs.Tables.{overwrite-none, overwrite-ext, getD-overwrite}
 use Rattle.study.specs.Limits.{cell, maxDistance}
 use Rattle.study.specs.declared.Minima.{Minima}
 use Rattle.study.specs.declared.Refusal.{Refusal}
+use Rattle.study.specs.declared.BlockRecord.{BlockRecord}
 use Rattle.study.specs.declared.Answer.{Answer}
 use Rattle.study.specs.declared.Answer.the-variants.{Done, Refused}
 use Rattle.study.specs.Problem.{Problem, centres, block, labels, radius, blocking, diameter, greatestDiameter}
 use Rattle.study.specs.Study.{Study, size, sufficient, problem}
-use Rattle.study.specs.Refusals.{number, numbered, Verdict, accepted, refused, verdictOf, settled, value, refusal, replied, firstOf}
+use Rattle.study.specs.Refusals.{number, numbered, Verdict, accepted, refused, verdictOf, value, refusal, firstOf}
 use Rattle.study.specs.Calls.{blockReasons, Figures, figures, blockRecord}
 use Rattle.study.proofs.CallLaws.{none-holds}
 use Rattle.study.proofs.Proofs.{for-problem, for-study}
@@ -28,14 +29,21 @@ use Rattle.radius_search.specs.Inputs.{inputProblem}
 use Rattle.blocking_core.specs.Core.{Blocks}
 use Rattle.validity.specs.Memory.{State, studyOf, contentsOf}
 use Rattle.validity.proofs.ValidityLaws.{study-size, valid-study}
-use Rattle.dataset.specs.Accepted.{Passed}
-use Rattle.dataset.proofs.AnswerLaws.{held-own, accepted-held, passed-by}
+use Rattle.access.specs.Calls.{nobody, Output, verdict, reasons, lent, answer, reply, output}
+use Rattle.access.specs.Passed.{Passed, heldAnswer}
+use Rattle.access.proofs.AccessLaws.{held-own, accepted-held, passed-by, replies-refusal, unwritten, replies, writes}
 use Rattle.blocking.specs.declared.block.BlockRows.{BlockRows}
-use Rattle.blocking.specs.Answers.{blockAnswer, blockReply, blockList, blockRecords}
+use Rattle.blocking.specs.Calls.{makesBlocks}
 use Rattle.blocking.proofs.ProblemOfArrays.{problem-of-arrays, sized-arrays, valid-arrays, meets-same}
-use Rattle.blocking.specs.Rows.{rowAt, RowsOf}
+use Rattle.blocking.specs.Rows.{rowAt, Lending, RowsOf}
 use Rattle.blocking.proofs.TidesLaws.{past-24, tide-there}
-use Rattle.blocking.specs.Accepted.{TidesChecked, BlockAccepted}
+use Rattle.blocking.specs.Accepted.{TidesChecked, blockAnswer, BlockAccepted}
+
+-- Block's answer by lengths is the call's answer
+pub made-answer : (s : State) (list : List ℕ) {room : ℕ} (records : List BlockRecord) → length records ≡ room
+    → blockAnswer s (length list) room ≡ answer s (makesBlocks list records)
+unfolding blockAnswer makesBlocks answer verdict reasons heldAnswer
+made-answer s list records k = ap (blockAnswer s (length list)) (sym k)
 
 module _ (s : State) (list room : ℕ) where
   abbrev n : ℕ
@@ -100,7 +108,7 @@ module _ (s : State) (list room : ℕ) where
   unfolding blockAnswer contentsOf blockReasons
   block-accepted e f =
       let q : accepted ≡ blockAnswer s list room = sym (ap verdictOf e) ∙ f in
-      let h = accepted-held s [] (λ H. blockReasons (H .study) list room) (sym q) in
+      let h = accepted-held s nobody (λ H. blockReasons (H .study) list room) (sym q) in
       let w = none-holds (blockReasons S list room) (h .reasons) in
       let fits = not-not (leb (size S) list && leb (size S) room) (w .1 .1 .0) in
       record {
@@ -111,26 +119,6 @@ module _ (s : State) (list room : ℕ) where
         record-room = omega (arith, study-size s, leb→le (size S) room (T-right (leb (size S) list) (leb (size S) room) fits));
         answer = q;
       }
-
-  -- a refused call has no rows
-  module _ {a : Answer} {x : Refusal} (e : a ≡ Refused x) (f : verdictOf a ≡ blockAnswer s list room) where
-    refusing : refused (numbered x) ≡ blockAnswer s list room
-    refusing = sym (ap verdictOf e) ∙ f
-
-    pub block-refusal : refusal (numbered x) ≡ blockReply s list room
-    unfolding blockReply
-    block-refusal = ap (λ v. replied v (figures S)) refusing
-
-    pub no-rows : (rows : BlockRows) → rows .count ≡ 0 → RowsOf s list room rows
-    unfolding blockRecords
-    no-rows rows z =
-        record {
-          fits = omega arith;
-          few = omega arith;
-          records = λ l k.
-              ap (λ c. overwrite c (rowAt rows) l) z ∙ sym (overwrite-none (rowAt rows) l)
-              ∙ ap (λ v. settled v (overwrite (figures S .blocks) (blockRecord S) l) l) (refusing ∙ ap (blockAnswer s list) (sym k));
-        }
 
   module _ (A : BlockAccepted s list room) where
     abbrev d : List ℕ
@@ -152,7 +140,7 @@ module _ (s : State) (list room : ℕ) where
     same = problem-of-arrays s (A .passed .study)
 
     module _ {c r w : ℕ} {cs sizes diameters : List ℕ} (B : Blocks d n (meeting M n g) c r w cs sizes diameters) where
-      figures-are : record { blocks = c; radius = r; widest = w } ≡ figures S
+      pub figures-are : record { blocks = c; radius = r; widest = w } ≡ figures S
       unfolding figures
       figures-are =
           subst
@@ -160,16 +148,12 @@ module _ (s : State) (list room : ℕ) where
           (record { blocks = length (centres Q (radius Q)); radius = radius Q; widest = greatestDiameter Q (labels (blocking Q)) }))
           (sym same) (rw (B .count-is, B .radius-of, B .widest-of))
 
-      pub block-value : value (record { blocks = c; radius = r; widest = w }) ≡ blockReply s list room
-      unfolding blockReply
-      block-value = ap value figures-are ∙ ap (λ v. replied v (figures S)) (A .answer)
-
       -- the rows with the centres as tide numbers
       module _ {numbers : List ℕ} (old : List ℕ) (e : numbers ≡ overwrite c (λ i. getD cs i 0 + 1) old) where
-        abbrev rows : BlockRows
+        abbrev pub rows : BlockRows
         rows = record { count = c; centres = numbers; tides = sizes; diameters = diameters }
 
-        row-is : (i : ℕ) → i < c → rowAt rows i ≡ blockRecord S i
+        pub row-is : (i : ℕ) → i < c → rowAt rows i ≡ blockRecord S i
         unfolding blockRecord arrayProblem
         row-is i l =
             subst
@@ -186,18 +170,6 @@ module _ (s : State) (list room : ℕ) where
             number =
                 ap (λ z. getD z i 0) e ∙ getD-overwrite (λ i. getD cs i 0 + 1) old c i 0 l ∙ add-one (getD cs i 0) ∙ ap suc (B .centre-of i l)
 
-        pub block-rows : RowsOf s list room rows
-        unfolding blockRecords
-        block-rows =
-            record {
-              fits = omega (arith, B .few, A .record-room);
-              few = omega (arith, B .few, A .passed .study .few);
-              records = λ l k.
-                  overwrite-ext (rowAt rows) l c (blockRecord S) row-is
-                  ∙ ap₂ (λ z v. settled v (overwrite z (blockRecord S) l) l) (ap (λ (F : Figures). F .blocks) figures-are)
-                  (A .answer ∙ ap (blockAnswer s list) (sym k));
-            }
-
 -- the blocking gives every tide a block
 blocking-long : (s : State) → Passed s → T (sufficient (studyOf s) (λ t. true)) → length (blocking (problem (studyOf s))) ≡ s .dataset .n
 unfolding problem
@@ -205,17 +177,66 @@ blocking-long s P w =
     let S = studyOf s in
     for-problem (problem S) (for-study S (valid-study s (P .study)) .lawful) .canonical w .assignment .long ∙ study-size s
 
--- the list
-pub block-list : (s : State) (old : List ℕ) (room : ℕ) {new : List ℕ} → BlockAccepted s (length old) room
-    → new ≡ blocking (inputProblem (s .distances) (s .settings) (s .dataset .n) (s .dataset .minima)) ++ drop (s .dataset .n) old → new ≡ blockList s old room
-unfolding blockList
-block-list s old room A e =
-    e
-    ∙ ap₂ (λ (Q : Problem) (k : ℕ). blocking Q ++ drop k old) (sym (problem-of-arrays s (A .passed .study))) (sym (blocking-long s (A .passed) (A .enough)))
-    ∙ ap (λ v. settled v (over (blocking (problem (studyOf s))) old) old) (A .answer)
+-- ---- what the core hands back, whatever records are lent
 
-pub block-list-stays : (s : State) (list : List ℕ) (room : ℕ) {a : Answer} {x : Refusal} → a ≡ Refused x → verdictOf a ≡ blockAnswer s (length list) room
-    → list ≡ blockList s list room
-unfolding blockList
-block-list-stays s list room e f =
-    ap (λ v. settled v (over (blocking (problem (studyOf s))) list) list) (sym (ap verdictOf e) ∙ f)
+module _ (s : State) (list : List ℕ) (room : ℕ) where
+  abbrev of-study : Study
+  of-study = studyOf s
+
+  -- a refused call has no rows, and leaves the list
+  module _ {a : Answer} {x : Refusal} (e : a ≡ Refused x) (f : verdictOf a ≡ blockAnswer s (length list) room) where
+    refusing : (records : List BlockRecord) → length records ≡ room → refused (numbered x) ≡ answer s (makesBlocks list records)
+    refusing records k = sym (ap verdictOf e) ∙ f ∙ made-answer s list records k
+
+    pub block-refusal : Lending room (λ records. refusal (numbered x) ≡ reply s (makesBlocks list records))
+    block-refusal records k = replies-refusal s (makesBlocks list records) (refusing records k)
+
+    pub no-rows : (rows : BlockRows) → rows .count ≡ 0 → RowsOf s (makesBlocks list) room rows
+    unfolding makesBlocks lent
+    no-rows rows z =
+        record {
+          fits = omega arith;
+          few = omega arith;
+          records = λ l k.
+              ap (λ c. overwrite c (rowAt rows) l) z ∙ sym (overwrite-none (rowAt rows) l)
+              ∙ ap (λ (o : Output). o .records) (unwritten s (makesBlocks list l) (refusing l k));
+        }
+
+    pub block-list-stays : Lending room (λ records. list ∷ [] ≡ output s (makesBlocks list records) .lists)
+    unfolding makesBlocks lent
+    block-list-stays records k = ap (λ (o : Output). o .lists) (unwritten s (makesBlocks list records) (refusing records k))
+
+  -- an accepted one hands back the study's blocks
+  module _ (A : BlockAccepted s (length list) room) where
+    accepting : (records : List BlockRecord) → length records ≡ room → accepted ≡ answer s (makesBlocks list records)
+    accepting records k = A .answer ∙ made-answer s list records k
+
+    module _ {c r w : ℕ} {cs sizes diameters : List ℕ}
+        (B : Blocks (s .distances) (s .dataset .n) (meeting (s .dataset .minima) (s .dataset .n) (s .settings)) c r w cs sizes diameters) where
+      pub block-value : Lending room (λ records. value (c ∷ r ∷ w ∷ []) ≡ reply s (makesBlocks list records))
+      unfolding makesBlocks contentsOf
+      block-value records k =
+          ap (λ (F : Figures). value (F .blocks ∷ F .radius ∷ F .widest ∷ [])) (figures-are s (length list) room A B)
+          ∙ replies s _ (A .passed) (accepting records k)
+
+      module _ {numbers : List ℕ} (old : List ℕ) (e : numbers ≡ overwrite c (λ i. getD cs i 0 + 1) old) where
+        pub block-rows : RowsOf s (makesBlocks list) room (rows s (length list) room A B old e)
+        unfolding makesBlocks contentsOf
+        block-rows =
+            record {
+              fits = omega (arith, B .few, A .record-room);
+              few = omega (arith, B .few, A .passed .study .few);
+              records = λ l k.
+                  overwrite-ext (rowAt (rows s (length list) room A B old e)) l c (blockRecord of-study) (row-is s (length list) room A B old e)
+                  ∙ ap (λ (F : Figures). overwrite (F .blocks) (blockRecord of-study) l) (figures-are s (length list) room A B)
+                  ∙ ap (λ (o : Output). o .records) (writes s _ (A .passed) (accepting l k));
+            }
+
+    pub block-list : {new : List ℕ}
+        → new ≡ blocking (inputProblem (s .distances) (s .settings) (s .dataset .n) (s .dataset .minima)) ++ drop (s .dataset .n) list
+        → Lending room (λ records. new ∷ [] ≡ output s (makesBlocks list records) .lists)
+    unfolding makesBlocks contentsOf
+    block-list {new} e records k =
+        ap (λ l. l ∷ []) (e
+        ∙ ap₂ (λ (Q : Problem) (k : ℕ). blocking Q ++ drop k list) (sym (problem-of-arrays s (A .passed .study))) (sym (blocking-long s (A .passed) (A .enough))))
+        ∙ ap (λ (o : Output). o .lists) (writes s _ (A .passed) (accepting records k))

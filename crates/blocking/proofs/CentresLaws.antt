@@ -5,7 +5,7 @@ use native.Mathlib.Numerals.{add-one}
 use mathlib.Core.Path.{_≡_, refl, sym, ap, ap₂, _∙_, subst}
 use mathlib.Core.Logic.{_⊎_, inl, inr}
 use mathlib.Core.Bool.{Bool, false}
-use mathlib.Core.List.{List, [], _∷_, _++_, map}
+use mathlib.Core.List.{List, [], _∷_, _++_, map, headD}
 use lib.Dec.{leb→le, leb}
 use lib.ListN.{length, getD, take, drop, length-map, List·getD-map}
 use lib.Seq.{take-append-seam}
@@ -30,8 +30,10 @@ use Rattle.radius_search.specs.Front.{CentresAt}
 use Rattle.radius_search.proofs.FrontLaws.{front-at}
 use Rattle.validity.specs.Memory.{State, studyOf, contentsOf}
 use Rattle.validity.proofs.ValidityLaws.{study-size, valid-study}
-use Rattle.dataset.proofs.AnswerLaws.{held-own, accepted-held, passed-by}
-use Rattle.blocking.specs.Answers.{centreLists, centresAnswer, centresFront, centresLeaves}
+use Rattle.access.specs.Calls.{nobody, Output, verdict, reasons, lent, answer, output}
+use Rattle.access.specs.Passed.{heldAnswer}
+use Rattle.access.proofs.AccessLaws.{held-own, accepted-held, passed-by, unwritten, inquiry-passed, writes}
+use Rattle.blocking.specs.Calls.{centreLists, allThree, findsCentres, centresFront}
 use Rattle.blocking.proofs.ProblemOfArrays.{problem-of-arrays}
 use Rattle.blocking.proofs.TidesLaws.{past-24, tide-there}
 use Rattle.blocking.specs.Accepted.{TidesChecked, CentresAccepted}
@@ -52,21 +54,21 @@ module _ (s : State) (l : CentreLists) where
   roomy = leb (size S) (length (l .list)) ∷ leb (size S) (length (l .nearest)) ∷ leb (size S) (length (l .away)) ∷ []
 
   module _ {first : Answer} (F : TidesChecked s first) (done : first ≡ Done) where
-    centres-own : (v : Verdict) → firstOf (centresReasons S l) ≡ v → v ≡ centresAnswer s l
-    unfolding centresAnswer contentsOf
-    centres-own v q = sym q ∙ held-own s (λ H. centresReasons (H .study) l) (F .passed done .not-short) (F .passed done .tested)
+    centres-own : (v : Verdict) → firstOf (centresReasons S l) ≡ v → (g : ℕ) → v ≡ answer s (findsCentres g l)
+    unfolding findsCentres answer verdict reasons heldAnswer contentsOf
+    centres-own v q g = sym q ∙ held-own s (λ H. centresReasons (H .study) l) (F .passed done .not-short) (F .passed done .tested)
 
-    one-short : allRoomy S l ≡ false → refused (number 1) ≡ centresAnswer s l
+    one-short : allRoomy S l ≡ false → (g : ℕ) → refused (number 1) ≡ answer s (findsCentres g l)
     unfolding centresReasons firstOf
     one-short e = centres-own (refused (number 1)) (rw (past-24 F done, e))
 
     -- a list is too short
-    pub centres-1 : (length (l .list) < n) ⊎ ((length (l .nearest) < n) ⊎ (length (l .away) < n)) → refused (number 1) ≡ centresAnswer s l
+    pub centres-1 : (length (l .list) < n) ⊎ ((length (l .nearest) < n) ⊎ (length (l .away) < n)) → (g : ℕ) → refused (number 1) ≡ answer s (findsCentres g l)
     centres-1 (inl h) = one-short (each-fails roomy 0 (lt-leb (size S) (length (l .list)) (omega (arith, study-size s))))
     centres-1 (inr (inl h)) = one-short (each-fails roomy 1 (lt-leb (size S) (length (l .nearest)) (omega (arith, study-size s))))
     centres-1 (inr (inr h)) = one-short (each-fails roomy 2 (lt-leb (size S) (length (l .away)) (omega (arith, study-size s))))
 
-    pub centres-done : n ≤ length (l .list) → n ≤ length (l .nearest) → n ≤ length (l .away) → accepted ≡ centresAnswer s l
+    pub centres-done : n ≤ length (l .list) → n ≤ length (l .nearest) → n ≤ length (l .away) → (g : ℕ) → accepted ≡ answer s (findsCentres g l)
     unfolding centresReasons firstOf
     centres-done a b c =
         centres-own accepted
@@ -77,11 +79,11 @@ module _ (s : State) (l : CentreLists) where
           le-leb (size S) (length (l .away)) (omega (arith, study-size s)),
         ))
 
-  pub centres-accepted : {a : Answer} → a ≡ Done → verdictOf a ≡ centresAnswer s l → CentresAccepted s l
-  unfolding centresAnswer contentsOf centresReasons
+  pub centres-accepted : {a : Answer} → a ≡ Done → ((g : ℕ) → verdictOf a ≡ answer s (findsCentres g l)) → CentresAccepted s l
+  unfolding findsCentres answer verdict reasons heldAnswer contentsOf centresReasons
   centres-accepted e f =
-      let q : accepted ≡ centresAnswer s l = sym (ap verdictOf e) ∙ f in
-      let h = accepted-held s [] (λ H. centresReasons (H .study) l) (sym q) in
+      let q : (g : ℕ) → accepted ≡ answer s (findsCentres g l) = λ g. sym (ap verdictOf e) ∙ f g in
+      let h = accepted-held s nobody (λ H. centresReasons (H .study) l) (sym (q 0)) in
       let w = none-holds (centresReasons S l) (h .reasons) in
       let fits = each-at roomy (not-not (each roomy) (w .1 .0)) in
       record {
@@ -103,25 +105,30 @@ module _ (s : State) (l : CentreLists) where
     numbers = centreNumbers S g
 
     -- a refused call hands back nothing and leaves the lists
-    pub centres-refused : {a : Answer} {x : Refusal} → a ≡ Refused x → verdictOf a ≡ centresAnswer s l
-        → (0 ≡ length (centresFront s g l)) × (l ≡ centresLeaves s g l)
-    unfolding centresFront centresLeaves
+    pub centres-refused : {a : Answer} {x : Refusal} → a ≡ Refused x → verdictOf a ≡ answer s (findsCentres g l)
+        → (0 ≡ length (centresFront s g l)) × (allThree l ≡ output s (findsCentres g l) .lists)
+    unfolding centresFront findsCentres lent
     centres-refused {a} {x} e f =
-        let q : refused (numbered x) ≡ centresAnswer s l = sym (ap verdictOf e) ∙ f in
-        (ap (λ v. length (settled v numbers [])) q, ap (λ v. settled v (centresWritten S g l) l) q)
+        let q : refused (numbered x) ≡ answer s (findsCentres g l) = sym (ap verdictOf e) ∙ f in
+        (ap (λ v. length (settled v numbers [])) q, ap (λ (o : Output). o .lists) (unwritten s (findsCentres g l) q))
 
-    -- the front is a part of the list that is left
-    pub centres-part : {count : ℕ} {new : CentreLists} → count ≡ length (centresFront s g l) → new ≡ centresLeaves s g l
+    -- the front of the list that is left
+    front-of : (v : Verdict) → answer s (findsCentres g l) ≡ v
+        → take (length (settled v numbers [])) (headD (output s (findsCentres g l) .lists) []) ≡ settled v numbers []
+    unfolding findsCentres centresWritten contentsOf headD
+    front-of accepted e =
+        ap (λ (o : Output). take (length numbers) (headD (o .lists) [])) (sym (writes s _ (inquiry-passed s _ e) (sym e)))
+        ∙ take-append-seam numbers (drop (length numbers) (l .list))
+    front-of (refused x) e = refl
+
+    -- it is a part of that list
+    pub centres-part : {count : ℕ} {new : CentreLists} → count ≡ length (centresFront s g l) → allThree new ≡ output s (findsCentres g l) .lists
         → (count ≡ length (take count (new .list))) × (take count (new .list) ≡ centresFront s g l)
-    unfolding centresFront centresLeaves centresWritten
+    unfolding centresFront headD
     centres-part {count} {new} e f = (e ∙ ap length (sym part), part)
       where
-        of : (v : Verdict) → take (length (settled v numbers [])) (settled v (centresWritten S g l) l .list) ≡ settled v numbers []
-        of accepted = take-append-seam numbers (drop (length numbers) (l .list))
-        of (refused x) = refl
-
         part : take count (new .list) ≡ centresFront s g l
-        part = ap₂ (λ (c : ℕ) (k : CentreLists). take c (k .list)) e f ∙ of (centresAnswer s l)
+        part = ap₂ (λ (c : ℕ) (ls : List (List ℕ)). take c (headD ls [])) e f ∙ front-of (answer s (findsCentres g l)) refl
 
     module _ (A : CentresAccepted s l) where
       abbrev found : List ℕ
@@ -166,13 +173,13 @@ module _ (s : State) (l : CentreLists) where
         pub centres-filled : {list nearest away : List ℕ} → list ≡ overwrite count (λ i. getD cs i 0 + 1) (l .list)
             → nearest ≡ overwrite n (nearestBlock (within (s .distances) n) (take count cs)) (l .nearest)
             → away ≡ overwrite n (nearestDistance (within (s .distances) n) (take count cs)) (l .away)
-            → (count ≡ length (centresFront s g l)) × (centreLists list nearest away ≡ centresLeaves s g l)
-        unfolding centresFront centresLeaves centresWritten nearestNumbers nearestDistances overwrite
+            → (count ≡ length (centresFront s g l)) × (allThree (centreLists list nearest away) ≡ output s (findsCentres g l) .lists)
+        unfolding centresFront findsCentres centresWritten nearestNumbers nearestDistances overwrite contentsOf
         centres-filled a b c = (
-          sym long ∙ ap (λ v. length (settled v numbers [])) (A .answer),
-          lists-are
+          sym long ∙ ap (λ v. length (settled v numbers [])) (A .answer g),
+          ap allThree (lists-are {k = centresWritten S g l}
               (a ∙ ap₂ (λ x y. x ++ y) written (ap (λ z. drop z (l .list)) (sym long)))
               (b ∙ table-is nearestBlock (l .nearest) (C .front .front))
-              (c ∙ table-is nearestDistance (l .away) (C .front .front))
-              ∙ ap (λ v. settled v (centresWritten S g l) l) (A .answer),
+              (c ∙ table-is nearestDistance (l .away) (C .front .front)))
+              ∙ ap (λ (o : Output). o .lists) (writes s _ (A .passed) (A .answer g)),
         )

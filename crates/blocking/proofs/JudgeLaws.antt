@@ -15,16 +15,17 @@ use Rattle.study.specs.declared.Answer.{Answer}
 use Rattle.study.specs.declared.Answer.the-variants.{Done, Refused}
 use Rattle.study.specs.Problem.{Problem, block, labels, greatestDiameter, feasible}
 use Rattle.study.specs.Study.{Study, size, meets, problem}
-use Rattle.study.specs.Refusals.{number, numbered, Verdict, accepted, refused, verdictOf, value, refusal, replied, firstOf}
+use Rattle.study.specs.Refusals.{number, numbered, Verdict, accepted, refused, verdictOf, value, refusal, firstOf}
 use Rattle.study.specs.Calls.{judgeReasons, approved, approval, disapproval, judgement}
 use Rattle.study.proofs.CallLaws.{none-holds}
 use Rattle.promise.specs.Promise.{meeting}
 use Rattle.radius_theory.specs.Arrays.{arrayProblem}
 use Rattle.validity.specs.Memory.{State, studyOf, contentsOf}
 use Rattle.validity.proofs.ValidityLaws.{study-size}
-use Rattle.dataset.proofs.AnswerLaws.{held-own, accepted-held, passed-by}
-use Rattle.dataset.specs.Accepted.{Passed}
-use Rattle.blocking.specs.Answers.{judgeAnswer, judgeReply}
+use Rattle.access.specs.Calls.{nobody, verdict, reasons, answer, reply}
+use Rattle.access.specs.Passed.{Passed, heldAnswer}
+use Rattle.access.proofs.AccessLaws.{held-own, accepted-held, passed-by, replies-refusal, replies}
+use Rattle.blocking.specs.Calls.{judgementNumbers, judgesList}
 use Rattle.blocking.proofs.ProblemOfArrays.{problem-of-arrays, sized-arrays}
 use Rattle.blocking_core.specs.Measured.{widestOf}
 use Rattle.blocking_core.proofs.MeasuredLaws.{widest-diameter}
@@ -39,15 +40,15 @@ module _ (s : State) (list : List ℕ) where
   S = studyOf s
 
   module _ {first : Answer} (F : TidesChecked s first) (done : first ≡ Done) where
-    judge-own : (v : Verdict) → firstOf (judgeReasons S list) ≡ v → v ≡ judgeAnswer s list
-    unfolding judgeAnswer contentsOf
+    judge-own : (v : Verdict) → firstOf (judgeReasons S list) ≡ v → v ≡ answer s (judgesList list)
+    unfolding judgesList answer verdict reasons heldAnswer contentsOf
     judge-own v q = sym q ∙ held-own s (λ H. judgeReasons (H .study) list) (F .passed done .not-short) (F .passed done .tested)
 
-    pub judge-12 : (length list ≡ n → ⊥) → refused (number 12) ≡ judgeAnswer s list
+    pub judge-12 : (length list ≡ n → ⊥) → refused (number 12) ≡ answer s (judgesList list)
     unfolding judgeReasons firstOf
     judge-12 h = judge-own (refused (number 12)) (rw (past-24 F done, ne-eqb (length list) (size S) (λ e. h (e ∙ study-size s))))
 
-    pub judge-done : length list ≡ n → accepted ≡ judgeAnswer s list
+    pub judge-done : length list ≡ n → accepted ≡ answer s (judgesList list)
     unfolding judgeReasons firstOf
     judge-done h = judge-own accepted (rw (past-24 F done, eq-eqb (length list) (size S) (h ∙ sym (study-size s))))
 
@@ -55,13 +56,13 @@ module _ (s : State) (list : List ℕ) where
   pub record JudgeAccepted : Type 0 where
     pub passed : Passed s
     pub long : length list ≡ n
-    pub answer : accepted ≡ judgeAnswer s list
+    pub answer : accepted ≡ answer s (judgesList list)
 
-  pub judge-accepted : {a : Answer} → a ≡ Done → verdictOf a ≡ judgeAnswer s list → JudgeAccepted
-  unfolding judgeAnswer contentsOf judgeReasons
+  pub judge-accepted : {a : Answer} → a ≡ Done → verdictOf a ≡ answer s (judgesList list) → JudgeAccepted
+  unfolding judgesList answer verdict reasons heldAnswer contentsOf judgeReasons
   judge-accepted e f =
-      let q : accepted ≡ judgeAnswer s list = sym (ap verdictOf e) ∙ f in
-      let h = accepted-held s [] (λ H. judgeReasons (H .study) list) (sym q) in
+      let q : accepted ≡ answer s (judgesList list) = sym (ap verdictOf e) ∙ f in
+      let h = accepted-held s nobody (λ H. judgeReasons (H .study) list) (sym q) in
       let w = none-holds (judgeReasons S list) (h .reasons) in
       record {
         passed = passed-by s (h .not-short) (h .tested);
@@ -69,9 +70,8 @@ module _ (s : State) (list : List ℕ) where
         answer = q;
       }
 
-  pub judge-refused : {a : Answer} {x : Refusal} → a ≡ Refused x → verdictOf a ≡ judgeAnswer s list → refusal (numbered x) ≡ judgeReply s list
-  unfolding judgeReply
-  judge-refused {a} {x} e f = ap (λ v. replied v (judgement S list)) (sym (ap verdictOf e) ∙ f)
+  pub judge-refused : {a : Answer} {x : Refusal} → a ≡ Refused x → verdictOf a ≡ answer s (judgesList list) → refusal (numbered x) ≡ reply s (judgesList list)
+  judge-refused {a} {x} e f = replies-refusal s (judgesList list) (sym (ap verdictOf e) ∙ f)
 
   module _ (A : JudgeAccepted) where
     abbrev M : Minima
@@ -100,21 +100,22 @@ module _ (s : State) (list : List ℕ) where
         ap₂ (λ (k : ℕ) (P : Problem). every k (λ t. between 1 255 (labels list t)) && feasible P (labels list)) (study-size s)
         (problem-of-arrays s (A .passed .study))
 
-    judged : (b : Bool) → numbers && sufficient ≡ b → value (cond b (approval (greatestDiameter (problem S) (labels list))) disapproval) ≡ judgeReply s list
-    unfolding judgeReply judgement
+    judged : (b : Bool) → numbers && sufficient ≡ b
+        → value (judgementNumbers (cond b (approval (greatestDiameter (problem S) (labels list))) disapproval)) ≡ reply s (judgesList list)
+    unfolding judgesList judgement contentsOf
     judged b e =
-        ap (λ z. value (cond z (approval (greatestDiameter (problem S) (labels list))) disapproval)) (sym e ∙ sym approved-is)
-        ∙ ap (λ v. replied v (judgement S list)) (A .answer)
+        ap (λ z. value (judgementNumbers (cond z (approval (greatestDiameter (problem S) (labels list))) disapproval))) (sym e ∙ sym approved-is)
+        ∙ replies s _ (A .passed) (A .answer)
 
-    pub judge-number : {r : Bool} → r ≡ numbers → r ≡ false → value disapproval ≡ judgeReply s list
+    pub judge-number : {r : Bool} → r ≡ numbers → r ≡ false → value (judgementNumbers disapproval) ≡ reply s (judgesList list)
     judge-number e f = judged false (rw (sym e ∙ f))
 
-    pub judge-few : {q r : Bool} → q ≡ numbers → q ≡ true → r ≡ sufficient → r ≡ false → value disapproval ≡ judgeReply s list
+    pub judge-few : {q r : Bool} → q ≡ numbers → q ≡ true → r ≡ sufficient → r ≡ false → value (judgementNumbers disapproval) ≡ reply s (judgesList list)
     judge-few d c e f = judged false (rw (sym d ∙ c, sym e ∙ f))
 
     pub judge-yes : {q r : Bool} {w : ℕ} → q ≡ numbers → q ≡ true → r ≡ sufficient → r ≡ true → w ≡ widestOf (s .distances) n (labels list) n
-        → value (approval w) ≡ judgeReply s list
+        → value (judgementNumbers (approval w)) ≡ reply s (judgesList list)
     judge-yes d c e f h =
-        ap (λ z. value (approval z)) (h ∙ widest-diameter (s .distances) n (meeting M n (s .settings)) (labels list)
+        ap (λ z. value (judgementNumbers (approval z))) (h ∙ widest-diameter (s .distances) n (meeting M n (s .settings)) (labels list)
         ∙ ap (λ (P : Problem). greatestDiameter P (labels list)) (sym (problem-of-arrays s (A .passed .study))))
         ∙ judged true (rw (sym d ∙ c, sym e ∙ f))

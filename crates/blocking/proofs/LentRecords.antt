@@ -7,8 +7,8 @@
 -- `&mut` goes to its callee for good: all that is known of it at exit is the last value that the callee's contract says.
 -- The parameters:
 --     P            what the core hands back (`Handed`): a struct of an answer and the rows, with the answer's type (`PlainType`)
---     φ            φ s list room r is what both contracts say of the answer r, where s is the dataset and its memory, and list and room are
---                  the lengths of the list and the records
+--     asked        the call, lent a list and records
+--     φ            φ s c r is what both contracts say of the answer r to the call c, where s is the dataset and its memory
 --     CORE, NAME   the names of the core and of the call
 -- From them come the core's contract (`core-ended`, `core-clauses`), the call's (`ended`, `clauses`) and the call's code (`function`). A
 -- call's proof is an instance of `lent-meets`: that its own contracts and its own code are these is seen by computing. Assumes nothing.
@@ -64,8 +64,8 @@ use Rattle.lists.specs.Lists.{overwrite}
 use Rattle.study.specs.declared.BlockRecord.{BlockRecord}
 use Rattle.study.specs.declared.Dataset.{Dataset}
 use Rattle.validity.specs.Memory.{State, stateOf}
-use Rattle.blocking.specs.Answers.{blockList, blockRecords}
-use Rattle.blocking.specs.Rows.{rowAt, RowsOf}
+use Rattle.access.specs.Calls.{Call, output}
+use Rattle.blocking.specs.Rows.{rowAt, Lending, RowsOf}
 use Rattle.blocking.specs.declared.block.BlockRows.{BlockRows}
 use Rattle.study.proofs.Dataset as S
 use Rattle.study.proofs.Dataset.Laws as S′
@@ -129,7 +129,7 @@ pub record Handed : Type 2 where
   pub parted : (r : E .D) → AreAll (DD.fields E) (E .to r) (valss (DD.fields E) (LL.spells (E .parts) laws) (E .to r))
       → Is (Q .row) (answer r) (Q .val (answer r) ∷ []) × Is B.the-row (rows r) (rows-val (rows r) ∷ [])
 
-module _ (P : Handed) (φ : State → ℕ → ℕ → P .Q .row .Denot → Type 0) where
+module _ (P : Handed) (asked : List ℕ → List BlockRecord → Call) (φ : State → Call → P .Q .row .Denot → Type 0) where
   -- the struct's type
   abbrev D : RattleType
   D = DD.row (P .E)
@@ -182,8 +182,9 @@ module _ (P : Handed) (φ : State → ℕ → ℕ → P .Q .row .Denot → Type 
           let s = stateOf (a .0) (a .1 .0 .now) (a .1 .1 .0 .now) in
           let l = a .1 .1 .1 .0 .now in
           let room = a .1 .1 .1 .1 .0 in
-          sep 𝓤 (fact 𝓤 (φ s (length l) room (P .answer r)))
-          (sep 𝓤 (fact 𝓤 (RowsOf s (length l) room (P .rows r))) (fact 𝓤 (e .1 .1 .1 .0 .now ≡ blockList s l room)));
+          sep 𝓤 (fact 𝓤 (Lending room (λ records. φ s (asked l records) (P .answer r))))
+          (sep 𝓤 (fact 𝓤 (RowsOf s (asked l) room (P .rows r)))
+          (fact 𝓤 (Lending room (λ records. e .1 .1 .1 .0 .now ∷ [] ≡ output s (asked l records) .lists))));
     }
 
     abbrev pub clauses : Clauses 𝓤 ended
@@ -194,9 +195,9 @@ module _ (P : Handed) (φ : State → ℕ → ℕ → P .Q .row .Denot → Type 
           let s = stateOf (a .0) (a .1 .0 .now) (a .1 .1 .0 .now) in
           let l = a .1 .1 .1 .0 .now in
           let records = a .1 .1 .1 .1 .0 .now in
-          sep 𝓤 (fact 𝓤 (φ s (length l) (length records) r))
-          (sep 𝓤 (fact 𝓤 (e .1 .1 .1 .0 .now ≡ blockList s l (length records)))
-          (fact 𝓤 (e .1 .1 .1 .1 .0 .now ≡ blockRecords s (length l) records)));
+          sep 𝓤 (fact 𝓤 (φ s (asked l records) r))
+          (sep 𝓤 (fact 𝓤 (e .1 .1 .1 .0 .now ∷ [] ≡ output s (asked l records) .lists))
+          (fact 𝓤 (e .1 .1 .1 .1 .0 .now ≡ output s (asked l records) .records)));
     }
 
   abbrev stayed : Stays (ended .signature .params) (ended .kept)
@@ -331,7 +332,7 @@ module _ (P : Handed) (φ : State → ℕ → ℕ → P .Q .row .Denot → Type 
     abbrev to-put : BlockRows → Put 𝓤 H A mem run .Ghost
     to-put rows = (((κ₃, tt), (q₃, tt), tt, (x, (rows, tt)), (sx ∷ [], (rows-val rows ∷ [], tt))), tt)
 
-    goes-put : (rows : BlockRows) → RowsOf state (length (l .now)) n rows → Is B.the-row rows (rows-val rows ∷ [])
+    goes-put : (rows : BlockRows) → RowsOf state (asked (l .now)) n rows → Is B.the-row rows (rows-val rows ∷ [])
         → ent 𝓤 (sep 𝓤 (A .lft κ₃ q₃) (sem 𝓤 H A OwnX)) (Put 𝓤 H A mem run .pre (to-put rows))
     goes-put rows told is =
         qed W (‵ (flft κ₃ q₃) ∷ ‵ OwnX ∷ []) ∵ says ! (told .fits, told .few) $ nothing ! $ move ! (1 ∷ 0 ∷ []) $ join ! $ frame ! $
@@ -339,7 +340,8 @@ module _ (P : Handed) (φ : State → ℕ → ℕ → P .Q .row .Denot → Type 
         move ! (1 ∷ 0 ∷ []) $ fjoin ! $ done !
 
     exits : (r : P .Q .row .Denot) (zs : List ℕ) (ws : List BlockRecord)
-        → φ state (length (l .now)) n r → zs ≡ blockList state (l .now) n → ws ≡ blockRecords state (length (l .now)) (x .now)
+        → φ state (asked (l .now) (x .now)) r → zs ∷ [] ≡ output state (asked (l .now) (x .now)) .lists
+        → ws ≡ output state (asked (l .now) (x .now)) .records
         → length zs ≡ length (l .now) → length ws ≡ length (x .now) → Is S.the-row d (sd ∷ []) → Is (P .Q .row) r (P .Q .val r ∷ [])
         → ent 𝓤 (⋆ 𝓤 H A (‵ (finally R (x .name) ws) ∷ (‵ (flft κ₃ q₃) ⊛ ‵ ftrue) ∷ ‵ (finally u8 (l .name) zs)
         ∷ (‵ (flft κ₀ q₀) ⊛ (‵ (flft κ₁ q₁) ⊛ (‵ (flft κ₂ q₂) ⊛ ‵ ftrue))) ∷ ‵ (OwnV κ₀ v) ∷ ‵ (OwnW κ₁ w) ∷ [])) (Post (P .Q .val r))
@@ -417,7 +419,7 @@ module _ (P : Handed) (φ : State → ℕ → ℕ → P .Q .row .Denot → Type 
           (init ! 31 refl (P .Q .typed 𝓤 H A W (P .answer r) _ (parts .0))) $
           returns ! (look ! 31 refl) $ frees-all ! 7 (full _ ∷ full _ ∷ full _ ∷ full _ ∷ full _ ∷ full _ ∷ full _ ∷ full _ ∷ full _ ∷ full _
           ∷ full _ ∷ full _ ∷ full _ ∷ []) tt refl $
-          keep ! (1 ∷ 2 ∷ 3 ∷ 4 ∷ 5 ∷ 6 ∷ []) $ by ! (exits (P .answer r) (zs .1 .1 .1 .0) (ws .0) answered listed
+          keep ! (1 ∷ 2 ∷ 3 ∷ 4 ∷ 5 ∷ 6 ∷ []) $ by ! (exits (P .answer r) (zs .1 .1 .1 .0) (ws .0) (answered (x .now) refl) (listed (x .now) refl)
           (stored ∙ told .records (x .now) refl) long long′ gd (parts .0)))))))))))))))))))))))
 
   module _ {M : Type 1} (𝓤 : URA M) (H : Heap 𝓤) (A : Atoms 𝓤) (W : Given 𝓤 H A) where

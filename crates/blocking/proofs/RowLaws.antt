@@ -12,11 +12,15 @@ use Rattle.lists.proofs.Tests.{split}
 use Rattle.lists.proofs.Tables.{getD-overwrite, getD-past}
 use Rattle.study.specs.declared.BlockRecord.{BlockRecord}
 use Rattle.study.specs.Study.{Study}
-use Rattle.study.specs.Refusals.{accepted, settled}
+use Rattle.study.specs.Refusals.{accepted}
 use Rattle.study.specs.Calls.{figures, blockRecord}
-use Rattle.validity.specs.Memory.{State, studyOf}
+use Rattle.validity.specs.Memory.{State, studyOf, contentsOf}
 use Rattle.blocking.specs.declared.block.BlockRows.{BlockRows}
-use Rattle.blocking.specs.Answers.{blockAnswer, blockRecords}
+use Rattle.access.specs.Calls.{Output, output, answer}
+use Rattle.access.proofs.AccessLaws.{inquiry-passed, writes}
+use Rattle.blocking.specs.Calls.{makesBlocks}
+use Rattle.blocking.specs.Accepted.{blockAnswer}
+use Rattle.blocking.proofs.BlockLaws.{made-answer}
 use Rattle.blocking.specs.Rows.{rowAt, RowsOf}
 
 same-at : (n i : ℕ) (x : BlockRecord) → getD (replicate n x) i x ≡ x
@@ -24,7 +28,8 @@ same-at zero i x = refl
 same-at (suc n) zero x = refl
 same-at (suc n) (suc i) x = same-at n i x
 
-module _ {s : State} {list room : ℕ} {rows : BlockRows} (R : RowsOf s list room rows) (ok : blockAnswer s list room ≡ accepted) where
+module _ {s : State} (list : List ℕ) {room : ℕ} {rows : BlockRows} (R : RowsOf s (makesBlocks list) room rows)
+    (ok : blockAnswer s (length list) room ≡ accepted) where
   abbrev S : Study
   S = studyOf s
 
@@ -36,10 +41,11 @@ module _ {s : State} {list room : ℕ} {rows : BlockRows} (R : RowsOf s list roo
   marks c = replicate room (mark c)
 
   put : (c : ℕ) → overwrite (rows .count) (rowAt rows) (marks c) ≡ overwrite (figures S .blocks) (blockRecord S) (marks c)
-  unfolding blockRecords
+  unfolding makesBlocks contentsOf
   put c =
       let e : length (marks c) ≡ room = length-replicate room (mark c) in
-      R .records (marks c) e ∙ ap (λ v. settled v (overwrite (figures S .blocks) (blockRecord S) (marks c)) (marks c)) (ap (blockAnswer s list) e ∙ ok)
+      let a = sym (made-answer s list (marks c) e) ∙ ok in
+      R .records (marks c) e ∙ ap (λ (o : Output). o .records) (sym (writes s _ (inquiry-passed s _ a) (sym a)))
 
   put-at : (c i : ℕ)
       → getD (overwrite (rows .count) (rowAt rows) (marks c)) i (mark c) ≡ getD (overwrite (figures S .blocks) (blockRecord S) (marks c)) i (mark c)

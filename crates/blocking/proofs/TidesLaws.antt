@@ -16,9 +16,9 @@ use Rattle.study.specs.Study.{size}
 use Rattle.study.specs.Refusals.{verdictOf, firstOf}
 use Rattle.validity.specs.Memory.{State, studyOf, contentsOf}
 use Rattle.validity.proofs.ValidityLaws.{study-size}
-use Rattle.dataset.specs.Answers.{heldAnswer}
-use Rattle.dataset.specs.Accepted.{Passed}
-use Rattle.dataset.proofs.AnswerLaws.{held-own, held-refused}
+use Rattle.access.specs.Calls.{nobody}
+use Rattle.access.specs.Passed.{Passed, heldAnswer}
+use Rattle.access.proofs.AccessLaws.{held-own, held-refused}
 use Rattle.blocking.specs.Accepted.{noTides, TidesChecked}
 
 -- Done is no refusal
@@ -35,10 +35,10 @@ tide-there s h =
     ⊎-elim (λ k. k) (λ k. absurd (subst (λ b. T (not b)) (eq-eqb (size (studyOf s)) 0 (omega (arith, study-size s))) h)) (split 0 (s .dataset .n))
 
 module _ {s : State} where
-  pub tides-refused : {a : Answer} {x : Refusal} → a ≡ Refused x → verdictOf a ≡ heldAnswer s [] (λ _. []) → TidesChecked s a
+  pub tides-refused : {a : Answer} {x : Refusal} → a ≡ Refused x → verdictOf a ≡ heldAnswer s nobody (λ _. []) → TidesChecked s a
   tides-refused e f =
       record {
-        refuses = λ _ _ own. held-refused s [] (λ H. noTides (H .study) ∷ own H) e f;
+        refuses = λ _ _ own. held-refused s nobody (λ H. noTides (H .study) ∷ own H) e f;
         passed = not-both e;
         some-tide = not-both e;
       }

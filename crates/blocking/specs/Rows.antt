@@ -8,7 +8,7 @@ use Rattle.study.specs.Limits.{maxTides}
 use Rattle.study.specs.declared.BlockRecord.{BlockRecord}
 use Rattle.validity.specs.Memory.{State}
 use Rattle.blocking.specs.declared.block.BlockRows.{BlockRows}
-use Rattle.blocking.specs.Answers.{blockRecords}
+use Rattle.access.specs.Calls.{Call, output}
 
 -- the record of block i, from 0
 abbrev pub rowAt : BlockRows → ℕ → BlockRecord
@@ -22,10 +22,14 @@ noRecord = record { centre = 0; tides = 0; diameter = 0 }
 unfoldable pub noRecords : List BlockRecord
 noRecords = replicate maxTides noRecord
 
--- the rows that Block hands back, lent a list and records of these lengths. Their count and the first `count` places of each are settled,
+-- what holds of any records of this number: the core of a call is told no more of the records that its caller lends
+abbrev pub Lending : ℕ → (List BlockRecord → Type 0) → Type 0
+Lending room P = (records : List BlockRecord) → length records ≡ room → P records
+
+-- the rows that the core of a call hands back, lent records of this number. Their count and the first `count` places of each are settled,
 -- since `records` holds of any l; the places past them are free, and stand in no record
-pub record RowsOf (s : State) (list room : ℕ) (rows : BlockRows) : Type 0 where
+pub record RowsOf (s : State) (call : List BlockRecord → Call) (room : ℕ) (rows : BlockRows) : Type 0 where
   pub fits : rows .count ≤ room
   pub few : rows .count ≤ maxTides
-  -- put into the records, they are what Block leaves
-  pub records : (l : List BlockRecord) → length l ≡ room → overwrite (rows .count) (rowAt rows) l ≡ blockRecords s list l
+  -- put into the records, they are what the call leaves
+  pub records : Lending room (λ l. overwrite (rows .count) (rowAt rows) l ≡ output s (call l) .records)

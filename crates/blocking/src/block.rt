@@ -10,11 +10,13 @@ use study::MAX_TIDES;
 use study::Refusal;
 ghost use mathlib.Core.Path.{_≡_};
 ghost use lib.ListN.{length};
+ghost use mathlib.Core.List.{[], _∷_};
 ghost use Rattle.study.specs.Refusals.{verdictOf};
-ghost use Rattle.study.specs.Calls.{blockedOf};
 ghost use Rattle.validity.specs.Memory.{entryState};
-ghost use Rattle.blocking.specs.Answers.{blockAnswer, blockReply, blockList};
-ghost use Rattle.blocking.specs.Rows.{RowsOf};
+ghost use Rattle.access.specs.Calls.{reply, output};
+ghost use Rattle.blocking.specs.Calls.{makesBlocks, blockedReply};
+ghost use Rattle.blocking.specs.Accepted.{blockAnswer};
+ghost use Rattle.blocking.specs.Rows.{Lending, RowsOf};
 
 // The records of the blocks as rows of numbers: centres' tide numbers, numbers of tides, diameters. `count` is the number of blocks, 0 on a
 // refusal. The places past it are free: they may hold any numbers, and no record is made of them.
@@ -68,10 +70,11 @@ pub fn block_core(
     list: &mut [u8],
     room: usize,
 ) -> Computed
-    ensures answer { λ r. ⌜ blockedOf (r .answer)
-        ≡ blockReply (entryState dataset distances settings) (length (now (list .entry))) room ⌝ }
-    ensures rows { λ r. ⌜ RowsOf (entryState dataset distances settings) (length (now (list .entry))) room (r .rows) ⌝ }
-    ensures list { λ _. ⌜ now (list .exit) ≡ blockList (entryState dataset distances settings) (now (list .entry)) room ⌝ }
+    ensures answer { λ r. ⌜ Lending room (λ records. blockedReply (r .answer)
+        ≡ reply (entryState dataset distances settings) (makesBlocks (now (list .entry)) records)) ⌝ }
+    ensures rows { λ r. ⌜ RowsOf (entryState dataset distances settings) (makesBlocks (now (list .entry))) room (r .rows) ⌝ }
+    ensures list { λ _. ⌜ Lending room (λ records. now (list .exit) ∷ []
+        ≡ output (entryState dataset distances settings) (makesBlocks (now (list .entry)) records) .lists) ⌝ }
 {
     let answer = block_answer(dataset, distances, settings, list.len(), room);
     if let Answer::Refused(why) = answer {

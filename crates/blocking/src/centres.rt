@@ -6,11 +6,14 @@ use study::Dataset;
 use study::Refusal;
 use study::refusals::refusal_number;
 ghost use mathlib.Core.Path.{_≡_};
-ghost use lib.ListN.{length};
+ghost use mathlib.Core.List.{[], _∷_};
+ghost use lib.ListN.{length, drop};
 ghost use Rattle.study.specs.Refusals.{verdictOf};
 ghost use Rattle.study.specs.Numbers.{refusalNumber};
 ghost use Rattle.validity.specs.Memory.{entryState};
-ghost use Rattle.blocking.specs.Answers.{entryLists, exitLists, centresAnswer, centresFront, centresLeaves};
+ghost use Prim.Native.Nat.{ℕ};
+ghost use Rattle.access.specs.Calls.{answer, output};
+ghost use Rattle.blocking.specs.Calls.{entryLists, exitLists, allThree, findsCentres, centresFront};
 
 // The answer, and how many centres stand in the front of the list.
 pub struct Counted {
@@ -27,7 +30,8 @@ pub fn centres_answer(
     nearest: &[u8],
     away: &[u32],
 ) -> Answer
-    ensures { λ r. ⌜ verdictOf r ≡ centresAnswer (entryState dataset distances settings) (entryLists list nearest away) ⌝ }
+    ensures { λ r. ⌜ ((g : ℕ) → verdictOf r
+        ≡ answer (entryState dataset distances settings) (findsCentres g (entryLists list nearest away))) ⌝ }
 {
     let first = check_tides(dataset, distances, settings);
     let Answer::Done = first else {
@@ -57,10 +61,11 @@ pub fn centres_into(
     nearest: &mut [u8],
     away: &mut [u32],
 ) -> Counted
-    ensures answer { λ r. ⌜ verdictOf (r .answer) ≡ centresAnswer (entryState dataset distances settings) (entryLists list nearest away) ⌝ }
+    ensures answer { λ r. ⌜ verdictOf (r .answer)
+        ≡ answer (entryState dataset distances settings) (findsCentres g (entryLists list nearest away)) ⌝ }
     ensures count { λ r. ⌜ r .count ≡ length (centresFront (entryState dataset distances settings) g (entryLists list nearest away)) ⌝ }
-    ensures lists { λ _. ⌜ exitLists list nearest away
-        ≡ centresLeaves (entryState dataset distances settings) g (entryLists list nearest away) ⌝ }
+    ensures lists { λ _. ⌜ allThree (exitLists list nearest away)
+        ≡ output (entryState dataset distances settings) (findsCentres g (entryLists list nearest away)) .lists ⌝ }
 {
     let answer = centres_answer(dataset, distances, settings, list, nearest, away);
     let Answer::Done = answer else {
@@ -84,11 +89,10 @@ pub fn centres<'a>(
 ) -> &'a mut [u8]
     ensures front { λ r. ⌜ r .ptr ≡ list .entry .ptr ⌝ }
     ensures part { λ r. ⌜ now r ≡ centresFront (entryState dataset distances settings) g (entryLists list nearest away) ⌝ }
-    ensures nearest { λ _. ⌜ now (nearest .exit)
-        ≡ centresLeaves (entryState dataset distances settings) g (entryLists list nearest away) .nearest ⌝ }
-    ensures away { λ _. ⌜ now (away .exit) ≡ centresLeaves (entryState dataset distances settings) g (entryLists list nearest away) .away ⌝ }
+    ensures others { λ _. ⌜ now (nearest .exit) ∷ now (away .exit) ∷ []
+        ≡ drop 1 (output (entryState dataset distances settings) (findsCentres g (entryLists list nearest away)) .lists) ⌝ }
     ensures refusal { λ _. ⌜ now (refusal .exit)
-        ≡ refusalNumber (centresAnswer (entryState dataset distances settings) (entryLists list nearest away)) ⌝ }
+        ≡ refusalNumber (answer (entryState dataset distances settings) (findsCentres g (entryLists list nearest away))) ⌝ }
 {
     let filled = centres_into(dataset, distances, settings, g, list, nearest, away);
     let answer = filled.answer;

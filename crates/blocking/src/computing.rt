@@ -8,11 +8,12 @@ use study::Dataset;
 use study::MAX_TIDES;
 ghost use mathlib.Core.Path.{_≡_};
 ghost use lib.ListN.{length};
-ghost use Rattle.study.specs.Calls.{blockedOf};
+ghost use mathlib.Core.List.{[], _∷_};
 ghost use Rattle.validity.specs.Memory.{stateOf, entryState};
-ghost use Rattle.blocking.specs.Answers.{blockReply, blockList};
+ghost use Rattle.access.specs.Calls.{reply, output};
+ghost use Rattle.blocking.specs.Calls.{makesBlocks, blockedReply};
 ghost use Rattle.blocking.specs.Accepted.{BlockAccepted};
-ghost use Rattle.blocking.specs.Rows.{RowsOf};
+ghost use Rattle.blocking.specs.Rows.{Lending, RowsOf};
 
 // What an accepted Block answers, the rows of its blocks, and its list.
 pub fn compute(
@@ -23,10 +24,11 @@ pub fn compute(
     room: usize,
 ) -> Computed
     requires { ⌜ BlockAccepted (stateOf dataset (now distances) (now settings)) (length (now list)) room ⌝ }
-    ensures { λ r. ⌜ blockedOf (r .answer)
-        ≡ blockReply (entryState dataset distances settings) (length (now (list .entry))) room ⌝ }
-    ensures { λ r. ⌜ RowsOf (entryState dataset distances settings) (length (now (list .entry))) room (r .rows) ⌝ }
-    ensures { λ _. ⌜ now (list .exit) ≡ blockList (entryState dataset distances settings) (now (list .entry)) room ⌝ }
+    ensures { λ r. ⌜ Lending room (λ records. blockedReply (r .answer)
+        ≡ reply (entryState dataset distances settings) (makesBlocks (now (list .entry)) records)) ⌝ }
+    ensures { λ r. ⌜ RowsOf (entryState dataset distances settings) (makesBlocks (now (list .entry))) room (r .rows) ⌝ }
+    ensures { λ _. ⌜ Lending room (λ records. now (list .exit) ∷ []
+        ≡ output (entryState dataset distances settings) (makesBlocks (now (list .entry)) records) .lists) ⌝ }
 {
     let n = dataset.n;
     let rows = block_rows(distances, settings, n, dataset.minima, list);

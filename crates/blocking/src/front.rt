@@ -9,7 +9,8 @@ ghost use lib.ListN.{length, getD};
 ghost use Rattle.lists.specs.Lists.{overwrite};
 ghost use Rattle.study.specs.Limits.{maxTides};
 ghost use Rattle.validity.specs.Memory.{stateOf, entryState};
-ghost use Rattle.blocking.specs.Answers.{centreLists, entryLists, exitLists, centresFront, centresLeaves};
+ghost use Rattle.access.specs.Calls.{output};
+ghost use Rattle.blocking.specs.Calls.{centreLists, entryLists, exitLists, allThree, findsCentres, centresFront};
 ghost use Rattle.blocking.specs.Accepted.{CentresAccepted};
 
 // Writes the first count centres to the front of the list, as tide numbers from 1.
@@ -37,8 +38,8 @@ pub fn fill_lists(
 ) -> usize
     requires { ⌜ CentresAccepted (stateOf dataset (now distances) (now settings)) (centreLists (now list) (now nearest) (now away)) ⌝ }
     ensures { λ r. ⌜ r ≡ length (centresFront (entryState dataset distances settings) g (entryLists list nearest away)) ⌝ }
-    ensures { λ _. ⌜ exitLists list nearest away
-        ≡ centresLeaves (entryState dataset distances settings) g (entryLists list nearest away) ⌝ }
+    ensures { λ _. ⌜ allThree (exitLists list nearest away)
+        ≡ output (entryState dataset distances settings) (findsCentres g (entryLists list nearest away)) .lists ⌝ }
 {
     let n = dataset.n;
     let mut centres: [usize; MAX_TIDES] = [0; MAX_TIDES];

@@ -9,13 +9,13 @@ use study::Judged;
 use study::Refusal;
 ghost use mathlib.Core.Path.{_≡_};
 ghost use Rattle.study.specs.Refusals.{verdictOf};
-ghost use Rattle.study.specs.Calls.{judgedOf};
 ghost use Rattle.validity.specs.Memory.{entryState};
-ghost use Rattle.blocking.specs.Answers.{judgeAnswer, judgeReply};
+ghost use Rattle.access.specs.Calls.{answer, reply};
+ghost use Rattle.blocking.specs.Calls.{judgesList, judgedReply};
 
 // The answer alone: whether the list is judged at all.
 fn judge_answer(dataset: Dataset, distances: &[u32], settings: &[u8], list: &[u8]) -> Answer
-    ensures { λ r. ⌜ verdictOf r ≡ judgeAnswer (entryState dataset distances settings) (now (list .entry)) ⌝ }
+    ensures { λ r. ⌜ verdictOf r ≡ answer (entryState dataset distances settings) (judgesList (now (list .entry))) ⌝ }
 {
     let first = check_tides(dataset, distances, settings);
     let Answer::Done = first else {
@@ -30,7 +30,7 @@ fn judge_answer(dataset: Dataset, distances: &[u32], settings: &[u8], list: &[u8
 
 // Yes with the greatest diameter, or no.
 pub fn judge(dataset: Dataset, distances: &[u32], settings: &[u8], list: &[u8]) -> Judged
-    ensures { λ r. ⌜ judgedOf r ≡ judgeReply (entryState dataset distances settings) (now (list .entry)) ⌝ }
+    ensures { λ r. ⌜ judgedReply r ≡ reply (entryState dataset distances settings) (judgesList (now (list .entry))) ⌝ }
 {
     let answer = judge_answer(dataset, distances, settings, list);
     if let Answer::Refused(why) = answer {

@@ -6,11 +6,10 @@ use study::Blocked;
 use study::Dataset;
 use study::MAX_TIDES;
 ghost use mathlib.Core.Path.{_≡_};
-ghost use lib.ListN.{length};
-ghost use Rattle.study.specs.Limits.{maxTides};
-ghost use Rattle.study.specs.Calls.{blockedOf};
+ghost use mathlib.Core.List.{[], _∷_};
 ghost use Rattle.validity.specs.Memory.{entryState};
-ghost use Rattle.blocking.specs.Answers.{blockReply, blockList, blockRecords};
+ghost use Rattle.access.specs.Calls.{reply, output};
+ghost use Rattle.blocking.specs.Calls.{makesBlocks, blockedReply};
 ghost use Rattle.blocking.specs.Rows.{noRecords};
 
 // Block: the list, a record for each block, and the answer. A refusal writes nothing.
@@ -21,12 +20,12 @@ pub fn block(
     list: &mut [u8],
     records: &mut [BlockRecord],
 ) -> Blocked
-    ensures answer { λ r. ⌜ blockedOf r
-        ≡ blockReply (entryState dataset distances settings) (length (now (list .entry))) (length (now (records .entry))) ⌝ }
-    ensures list { λ _. ⌜ now (list .exit)
-        ≡ blockList (entryState dataset distances settings) (now (list .entry)) (length (now (records .entry))) ⌝ }
+    ensures answer { λ r. ⌜ blockedReply r
+        ≡ reply (entryState dataset distances settings) (makesBlocks (now (list .entry)) (now (records .entry))) ⌝ }
+    ensures list { λ _. ⌜ now (list .exit) ∷ []
+        ≡ output (entryState dataset distances settings) (makesBlocks (now (list .entry)) (now (records .entry))) .lists ⌝ }
     ensures records { λ _. ⌜ now (records .exit)
-        ≡ blockRecords (entryState dataset distances settings) (length (now (list .entry))) (now (records .entry)) ⌝ }
+        ≡ output (entryState dataset distances settings) (makesBlocks (now (list .entry)) (now (records .entry))) .records ⌝ }
 {
     let room = records.len();
     let computed = block_core(dataset, distances, settings, list, room);
@@ -47,11 +46,9 @@ pub fn block_by_value(
     settings: &[u8],
     list: &mut [u8],
 ) -> Blocking
-    ensures answer { λ r. ⌜ blockedOf (r .answer)
-        ≡ blockReply (entryState dataset distances settings) (length (now (list .entry))) maxTides ⌝ }
-    ensures list { λ _. ⌜ now (list .exit) ≡ blockList (entryState dataset distances settings) (now (list .entry)) maxTides ⌝ }
-    ensures records { λ r. ⌜ r .records
-        ≡ blockRecords (entryState dataset distances settings) (length (now (list .entry))) noRecords ⌝ }
+    ensures answer { λ r. ⌜ blockedReply (r .answer) ≡ reply (entryState dataset distances settings) (makesBlocks (now (list .entry)) noRecords) ⌝ }
+    ensures list { λ _. ⌜ now (list .exit) ∷ [] ≡ output (entryState dataset distances settings) (makesBlocks (now (list .entry)) noRecords) .lists ⌝ }
+    ensures records { λ r. ⌜ r .records ≡ output (entryState dataset distances settings) (makesBlocks (now (list .entry)) noRecords) .records ⌝ }
 {
     let none = BlockRecord {
         centre: 0,

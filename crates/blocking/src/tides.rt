@@ -9,7 +9,7 @@ ghost use Rattle.blocking.specs.Accepted.{TidesChecked};
 pub fn check_tides(dataset: Dataset, distances: &[u32], settings: &[u8]) -> Answer
     ensures { λ r. ⌜ TidesChecked (entryState dataset distances settings) r ⌝ }
 {
-    let first = dataset::check(dataset, distances, settings);
+    let first = access::check(dataset, distances, settings);
     let Answer::Done = first else {
         return first;
     };

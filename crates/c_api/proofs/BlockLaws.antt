@@ -1,165 +1,208 @@
--- From the reply and the rows of Block's core to what a call for C that divides into blocks answers and writes. Assumes nothing.
+-- From the reply and the rows of a core that divides into blocks to what the call for C answers and writes. Assumes nothing.
 use Prim.Native.Nat.{ℕ, _≤_, _<_, min}
 use native.Mathlib.Omega.{arith}
 use mathlib.Core.Path.{_≡_, refl, sym, ap, _∙_, subst}
-use mathlib.Core.Logic.{_⊎_}
-use mathlib.Core.List.{List, [], _++_}
-use lib.ListN.{length, drop, getD}
+use mathlib.Core.Logic.{⊎-elim}
+use mathlib.Core.Bool.{true, _||_}
+use mathlib.Core.List.{List, [], _∷_, map, headD}
+use lib.ListN.{length, getD, replicate, length-replicate, length-map, List·getD-map}
+use lib.Seq.{ext-getD}
 use Rattle.lists.specs.Lists.{tabulate, overwrite, over}
-use Rattle.lists.proofs.Tables.{length-tabulate, overwrite-ext}
+use Rattle.lists.proofs.Tests.{split}
+use Rattle.lists.proofs.Tables.{length-tabulate, getD-tabulate, length-overwrite, getD-overwrite, getD-past, overwrite-none}
 use Rattle.study.specs.declared.Refusal.{Refusal}
 use Rattle.study.specs.declared.Dataset.{Dataset}
 use Rattle.study.specs.declared.BlockRecord.{BlockRecord}
 use Rattle.study.specs.declared.Blocked.{Blocked}
 use Rattle.study.specs.declared.Blocked.the-variants as BlockedCase
-use Rattle.study.specs.Problem.{blocking}
-use Rattle.study.specs.Study.{Study, Contents, problem}
-use Rattle.study.specs.Refusals.{numbered, Verdict, accepted, refused, Reason}
-use Rattle.study.specs.Calls.{blockReasons, Figures, figures, blockRecord, blockedOf}
-use Rattle.study.proofs.CallLaws.{reply-refused, reply-value}
+use Rattle.study.specs.Refusals.{Numbered, numbered, Verdict, accepted, refused, value}
+use Rattle.study.specs.Calls.{blockReasons, figures}
+use Rattle.study.proofs.CallLaws.{reply-value}
 use Rattle.validity.specs.Memory.{State, studyOf, contentsOf}
+use Rattle.access.specs.Calls.{Output, Call, answer, reply, output}
+use Rattle.access.specs.Calls.{lent as lentTo}
+use Rattle.access.proofs.AccessLaws.{reply-tells}
 use Rattle.blocking.specs.declared.block.BlockRows.{BlockRows}
-use Rattle.blocking.specs.Answers.{blockAnswer, blockReply, blockList}
-use Rattle.blocking.specs.Rows.{rowAt, RowsOf}
-use Rattle.blocking.proofs.RowLaws.{rows-count, row-is}
-use Rattle.guarantee.specs.Runs.{figureNumbers}
-use Rattle.c_api.specs.Api.{Lent, recordSize, stateIn, code, output, Places, places, recordRoom, column, blocksVerdict, blocksLeft, blockNumbers}
-use Rattle.c_api.proofs.RecordLaws.{withRecord, front-written}
-use Rattle.c_api.specs.Records.{Narrow, ColumnRoom}
-use Rattle.c_api.proofs.CodeLaws.{small, held-narrow}
-use Rattle.c_api.proofs.CallLaws.{lacks-one}
-use Rattle.c_api.proofs.OutputLaws.{output-refused, output-done, code-too-short, output-too-short}
-use Rattle.c_api.proofs.OutputLaws.{Reads, code-own, output-own}
+use Rattle.blocking.specs.Calls.{figureNumbers, makesBlocks, blockedReply}
+use Rattle.blocking.specs.Rows.{rowAt, noRecord, Lending, RowsOf}
+use Rattle.blocking.proofs.BlockLaws.{made-answer}
+use Rattle.blocking.proofs.RowLaws.{rows-count}
+use Rattle.c_records.specs.Record.{Lent, recordSize, code}
+use Rattle.c_api.specs.Api.{lacks, cVerdict, cOutput, Places, places, recordRoom, recordAt, recordsIn, inColumn, filled}
+use Rattle.c_records.specs.Records.{Narrow, ColumnRoom}
+use Rattle.c_records.proofs.RecordLaws.{withRecord, front-written}
+use Rattle.c_records.proofs.CodeLaws.{small, inquiry-narrow}
+use Rattle.c_api.proofs.OutputLaws.{reply-why, reply-numbers, refused-output, asked-too-short, Reads, code-own, output-own}
 
--- ---- the list
+-- ---- a column of records
 
-module _ (s : State) (list : List ℕ) (room : ℕ) where
-  abbrev S : Study
-  S = studyOf s
+-- n records written over m that a column holds: the column with n numbers written
+module _ (f : BlockRecord → ℕ) (zero-of : f noRecord ≡ 0) (g h : ℕ → BlockRecord) (n m : ℕ) (old : List ℕ) (few : n ≤ m) (fits : m ≤ length old)
+    (same : (i : ℕ) → i < m → f (h i) ≡ getD old i 0) where
+  abbrev records : List BlockRecord
+  records = overwrite n g (tabulate m h)
 
-  pub list-output : blockList s list room ≡ output (blockAnswer s (length list) room) (blocking (problem S)) list
-  unfolding blockList output
-  list-output = refl
+  records-long : length records ≡ m
+  records-long = length-overwrite g (tabulate m h) n (subst (λ z. n ≤ z) (sym (length-tabulate m h)) few) ∙ length-tabulate m h
 
--- ---- the columns of an accepted call
+  mapped-long : length (map f records) ≡ m
+  mapped-long = length-map records f ∙ records-long
 
-module _ {s : State} {list room : ℕ} {rows : BlockRows} (R : RowsOf s list room rows) (ok : blockAnswer s list room ≡ accepted) where
-  abbrev T : Study
-  T = studyOf s
+  mapped-at : (i : ℕ) → getD (map f records) i 0 ≡ f (getD records i noRecord)
+  mapped-at i = ap (getD (map f records) i) (sym zero-of) ∙ List·getD-map f records i noRecord
 
-  column-is : (f : BlockRecord → ℕ) (old : List ℕ) → overwrite (figures T .blocks) (λ i. f (rowAt rows i)) old ≡ over (column f T) old
-  unfolding column overwrite
-  column-is f old =
-      let n = figures T .blocks in
-      let g : ℕ → ℕ = λ i. f (blockRecord T i) in
-      overwrite-ext (λ i. f (rowAt rows i)) old n g (λ i h. ap f (row-is R ok i (omega (arith, rows-count R ok))))
-      ∙ ap (λ m. tabulate n g ++ drop m old) (sym (length-tabulate n g))
+  column-at : (i : ℕ) → i < m → getD (map f records) i 0 ≡ getD (overwrite n (λ i. f (g i)) old) i 0
+  column-at i l =
+      ⊎-elim
+      (λ k. mapped-at i ∙ ap f (getD-overwrite g (tabulate m h) n i noRecord k) ∙ sym (getD-overwrite (λ i. f (g i)) old n i 0 k))
+      (λ k. mapped-at i ∙ ap f (getD-past g (tabulate m h) n i noRecord k ∙ getD-tabulate m h i noRecord l) ∙ same i l
+      ∙ sym (getD-past (λ i. f (g i)) old n i 0 k))
+      (split i n)
 
--- ---- the reply
+  column-is : inColumn f records old ≡ overwrite n (λ i. f (g i)) old
+  column-is =
+      sym (front-written (map f records) old) ∙ ap (λ z. overwrite z (λ i. getD (map f records) i 0) old) mapped-long
+      ∙ ext-getD 0 (overwrite m (λ i. getD (map f records) i 0) old) (overwrite n (λ i. f (g i)) old)
+      (length-overwrite (λ i. getD (map f records) i 0) old m fits ∙ sym (length-overwrite (λ i. f (g i)) old n (omega arith)))
+      (λ i _. ⊎-elim (λ k. getD-overwrite (λ i. getD (map f records) i 0) old m i 0 k ∙ column-at i k)
+      (λ k. getD-past (λ i. getD (map f records) i 0) old m i 0 k ∙ sym (getD-past (λ i. f (g i)) old n i 0 (omega arith))) (split i m))
 
-module _ (s : State) (list room : ℕ) (a : Blocked) (p : blockedOf a ≡ blockReply s list room) where
-  block-why : {why : Refusal} → a ≡ BlockedCase.Refused why → blockAnswer s list room ≡ refused (numbered why)
-  unfolding blockReply
-  block-why e = reply-refused (blockAnswer s list room) (figures (studyOf s)) (sym (ap blockedOf e) ∙ p)
+-- n records over those in the places
+module _ (p : Places) (g : ℕ → BlockRecord) (n : ℕ) (few : n ≤ recordRoom p) where
+  abbrev put : List BlockRecord
+  put = overwrite n g (recordsIn p)
+
+  pub centres-put : inColumn (λ r. r .centre) put (p .centres) ≡ overwrite n (λ i. g i .centre) (p .centres)
+  unfolding recordsIn
+  centres-put = column-is (λ r. r .centre) refl g (recordAt p) n (recordRoom p) (p .centres) few (omega arith) (λ i l. refl)
+
+  pub sizes-put : inColumn (λ r. r .tides) put (p .sizes) ≡ overwrite n (λ i. g i .tides) (p .sizes)
+  unfolding recordsIn
+  sizes-put = column-is (λ r. r .tides) refl g (recordAt p) n (recordRoom p) (p .sizes) few (omega arith) (λ i l. refl)
+
+  pub diameters-put : inColumn (λ r. r .diameter) put (p .diameters) ≡ overwrite n (λ i. g i .diameter) (p .diameters)
+  unfolding recordsIn
+  diameters-put = column-is (λ r. r .diameter) refl g (recordAt p) n (recordRoom p) (p .diameters) few (omega arith) (λ i l. refl)
+
+-- ---- Block's reply
+
+module _ (s : State) (list : List ℕ) (room : ℕ) (a : Blocked) (q : Lending room (λ records. blockedReply a ≡ reply s (makesBlocks list records))) where
+  -- some records of this number
+  abbrev some-records : List BlockRecord
+  some-records = replicate room noRecord
+
+  abbrev as-many : length some-records ≡ room
+  as-many = length-replicate room noRecord
+
+  pub block-why : {why : Refusal} → a ≡ BlockedCase.Refused why → Lending room (λ records. answer s (makesBlocks list records) ≡ refused (numbered why))
+  block-why e records k = reply-why s (makesBlocks list records) (sym (ap blockedReply e) ∙ q records k)
 
   pub block-narrow : {why : Refusal} → a ≡ BlockedCase.Refused why → Narrow (refused (numbered why))
-  unfolding blockAnswer blockReasons
-  block-narrow e = subst Narrow (block-why e) (held-narrow s [] (λ H. blockReasons (H .study) list room) (λ _. (small tt, (small tt, (small tt, tt)))))
+  unfolding makesBlocks blockReasons
+  block-narrow e = subst Narrow (block-why e some-records as-many) (inquiry-narrow s _ (small tt, (small tt, (small tt, tt))))
 
   module _ {b r w : ℕ} (e : a ≡ BlockedCase.Done b r w) where
-    abbrev given : Figures
-    given = record { blocks = b; radius = r; widest = w }
-
-    pub block-value : (blockAnswer s list room ≡ accepted) × (given ≡ figures (studyOf s))
-    unfolding blockReply
-    block-value = reply-value (blockAnswer s list room) (figures (studyOf s)) (sym (ap blockedOf e) ∙ p)
+    pub block-value : Lending room (λ records. (answer s (makesBlocks list records) ≡ accepted)
+        × (output s (makesBlocks list records) .numbers ≡ b ∷ r ∷ w ∷ []))
+    block-value records k = reply-numbers s (makesBlocks list records) (sym (ap blockedReply e) ∙ q records k)
 
     blocks-are : b ≡ figures (studyOf s) .blocks
-    blocks-are = ap (λ (F : Figures). F .blocks) (block-value .1)
+    unfolding makesBlocks contentsOf
+    blocks-are =
+        ap (λ (l : List ℕ). getD l 0 0)
+        (reply-value (answer s (makesBlocks list some-records)) (figureNumbers (figures (studyOf s)))
+        (sym (ap blockedReply e) ∙ q some-records as-many ∙ reply-tells s _) .1)
 
-    module _ {rows : BlockRows} (R : RowsOf s list room rows) where
+    module _ {rows : BlockRows} (R : RowsOf s (makesBlocks list) room rows) where
+      pub count-is : b ≡ rows .count
+      count-is = blocks-are ∙ sym (rows-count list R (made-answer s list some-records as-many ∙ block-value some-records as-many .0))
+
       pub blocks-small : b ≤ 120
-      blocks-small = omega (arith, rows-count R (block-value .0), blocks-are, R .few)
+      blocks-small = omega (arith, count-is, R .few)
 
       pub columns-fit : (x y z : List ℕ) → room ≡ min (length x) (min (length y) (length z)) → ColumnRoom b x y z
       columns-fit x y z m =
-          let fits : b ≤ min (length x) (min (length y) (length z)) = omega (arith, rows-count R (block-value .0), blocks-are, R .fits) in
+          let fits : b ≤ min (length x) (min (length y) (length z)) = omega (arith, count-is, R .fits) in
           record { few = blocks-small; in-centres = omega arith; in-sizes = omega arith; in-diameters = omega arith }
 
-      written-column : (f : BlockRecord → ℕ) {new : List ℕ} (old : List ℕ) → new ≡ overwrite b (λ i. f (rowAt rows i)) old
-          → new ≡ over (column f (studyOf s)) old
-      written-column f old q = q ∙ ap (λ n. overwrite n (λ i. f (rowAt rows i)) old) blocks-are ∙ column-is R (block-value .0) f old
+-- its three numbers, written
+pub written-three : {b r w : ℕ} {new : List ℕ} (old : List ℕ) → new ≡ overwrite 3 (λ i. getD (b ∷ r ∷ w ∷ []) i 0) old → new ≡ over (b ∷ r ∷ w ∷ []) old
+written-three {b} {r} {w} old q = q ∙ front-written (b ∷ r ∷ w ∷ []) old
 
-    pub written-figures : {new : List ℕ} (old : List ℕ) → new ≡ overwrite 3 (λ i. getD (figureNumbers given) i 0) old
-        → new ≡ over (blockNumbers (studyOf s)) old
-    written-figures old q = q ∙ front-written (figureNumbers given) old ∙ ap (λ F. over (figureNumbers F) old) (block-value .1)
-
--- ---- the call
+-- ---- any call that divides into blocks
 
 places-are : {p q : Places} → p .list ≡ q .list → p .centres ≡ q .centres → p .sizes ≡ q .sizes → p .diameters ≡ q .diameters
     → p .result ≡ q .result → p ≡ q
 places-are a b c d e = λ i. record { list = a i; centres = b i; sizes = c i; diameters = d i; result = e i }
 
--- a call that answers these numbers, with a result that needs so many places
-module _ (need : ℕ) (numbers : Study → List ℕ) (l : Lent) (p : Places) where
-  -- it answers the code c, and leaves q
+-- what it is lent
+abbrev pub Lends : List ℕ → (List BlockRecord → Call) → Type 0
+Lends list ask = (records : List BlockRecord) → lentTo (ask records) ≡ record { numbers = []; lists = list ∷ []; records = records }
+
+pub makes-lent : (list : List ℕ) → Lends list (makesBlocks list)
+unfolding makesBlocks lentTo
+makes-lent list records = refl
+
+module _ (need : ℕ) (l : Lent) (p : Places) (ask : List BlockRecord → Call) (L : Lends (p .list) ask) where
+  abbrev c : Call
+  c = ask (recordsIn p)
+
+  -- it answers the code n, and leaves q
   abbrev Settled : ℕ → Places → Type 0
-  Settled c q = (c ≡ code (blocksVerdict need l p)) × (q ≡ blocksLeft need numbers l p)
+  Settled n q = (n ≡ code (cVerdict l (lacks need (p .result)) c)) × (q ≡ filled (cOutput l (lacks need (p .result)) c) p)
 
-  pub blocks-too-short : (length (l .numbers) < recordSize) ⊎ (length (p .result) < need) → Settled 1 p
-  unfolding blocksVerdict blocksLeft
-  blocks-too-short h =
-      let e = lacks-one (l .numbers) (p .result) h in (
-        code-too-short _ e,
-        places-are (output-too-short _ e _ (p .list)) (output-too-short _ e _ (p .centres)) (output-too-short _ e _ (p .sizes))
-            (output-too-short _ e _ (p .diameters)) (output-too-short _ e _ (p .result)),
-      )
+  -- nothing was written
+  untouched : filled (record { numbers = []; lists = p .list ∷ []; records = recordsIn p }) p ≡ p
+  unfolding filled headD
+  untouched =
+      let none : ℕ → BlockRecord = λ i. noRecord in
+      let same = overwrite-none none (recordsIn p) in
+      places-are refl (ap (λ rs. inColumn (λ r. r .centre) rs (p .centres)) same ∙ centres-put p none 0 (omega arith) ∙ sym (overwrite-none _ (p .centres)))
+      (ap (λ rs. inColumn (λ r. r .tides) rs (p .sizes)) same ∙ sizes-put p none 0 (omega arith) ∙ sym (overwrite-none _ (p .sizes)))
+      (ap (λ rs. inColumn (λ r. r .diameter) rs (p .diameters)) same ∙ diameters-put p none 0 (omega arith) ∙ sym (overwrite-none _ (p .diameters))) refl
 
-  abbrev own : Contents → List Reason
-  own H = blockReasons (H .study) (length (p .list)) (recordRoom p)
+  pub blocks-too-short : lacks recordSize (l .numbers) || lacks need (p .result) ≡ true → Settled 1 p
+  blocks-too-short h = let e = asked-too-short l c _ h in (e .0, sym untouched ∙ ap (λ o. filled o p) (sym (L (recordsIn p)) ∙ e .1))
 
   -- what the core answers of the record as the code holds it, with this room for records
-  module _ {r : Dataset} (R : Reads l r need (p .result)) {room : ℕ} (m : room ≡ recordRoom p) (a : Blocked) {new : List ℕ}
-      (q : blockedOf a ≡ blockReply (withRecord l r) (length (p .list)) room) (t : new ≡ blockList (withRecord l r) (p .list) room) where
+  module _ {r : Dataset} (R : Reads l r need (p .result)) {room : ℕ} (m : room ≡ recordRoom p) {new : List ℕ}
+      (t : Lending room (λ records. new ∷ [] ≡ output (withRecord l r) (ask records) .lists)) where
     abbrev s : State
     s = withRecord l r
 
-    reply : blockedOf a ≡ blockReply s (length (p .list)) (recordRoom p)
-    reply = q ∙ ap (blockReply s (length (p .list))) m
+    as-long : length (recordsIn p) ≡ room
+    unfolding recordsIn
+    as-long = length-tabulate (recordRoom p) _ ∙ sym m
 
-    -- what was done by the record as the code holds it is what the record itself asks for
-    settled-own : {y : Verdict} {c z d f : List ℕ} → blockAnswer s (length (p .list)) (recordRoom p) ≡ y
-        → c ≡ output y (column (λ x. x .centre) (studyOf s)) (p .centres) → z ≡ output y (column (λ x. x .tides) (studyOf s)) (p .sizes)
-        → d ≡ output y (column (λ x. x .diameter) (studyOf s)) (p .diameters) → f ≡ output y (numbers (studyOf s)) (p .result)
-        → Settled (code y) (places new c z d f)
-    unfolding blocksVerdict blocksLeft blockAnswer contentsOf
-    settled-own {y} e ec ez ed ef = (
-      code-own R own e,
-      places-are (output-own R own (λ H. blocking (problem (H .study))) (p .list) listed) (known (column (λ x. x .centre)) (p .centres) ec)
-          (known (column (λ x. x .tides)) (p .sizes) ez) (known (column (λ x. x .diameter)) (p .diameters) ed) (known numbers (p .result) ef),
-    )
-      where
-        listed : new ≡ output (blockAnswer s (length (p .list)) (recordRoom p)) (blocking (problem (studyOf s))) (p .list)
-        listed = t ∙ ap (blockList s (p .list)) m ∙ list-output s (p .list) (recordRoom p)
-
-        known : (f : Study → List ℕ) (old : List ℕ) {x : List ℕ} → x ≡ output y (f (studyOf s)) old
-            → x ≡ output (blocksVerdict need l p) (f (studyOf (stateIn l))) old
-        known f old q = output-own R own (λ H. f (H .study)) old (q ∙ ap (λ w. output w (f (studyOf s)) old) (sym e))
-
-    pub blocks-refused : {why : Refusal} {c : ℕ} → a ≡ BlockedCase.Refused why → c ≡ code (refused (numbered why))
-        → Settled c (places new (p .centres) (p .sizes) (p .diameters) (p .result))
+    pub blocks-refused : {y : Numbered} {n : ℕ} → Lending room (λ records. answer s (ask records) ≡ refused y) → n ≡ code (refused y)
+        → Settled n (places new (p .centres) (p .sizes) (p .diameters) (p .result))
+    unfolding headD
     blocks-refused e f =
-        let y = block-why s (length (p .list)) (recordRoom p) a reply e in
-        let S = settled-own y (output-refused _ _ refl) (output-refused _ _ refl) (output-refused _ _ refl) (output-refused _ _ refl) in
-        (f ∙ S .0, S .1)
+        let y = e (recordsIn p) as-long in
+        let o = refused-output s c y ∙ L (recordsIn p) in
+        let same : new ≡ p .list = ap (λ (ls : List (List ℕ)). headD ls []) (t (recordsIn p) as-long ∙ ap (λ (x : Output). x .lists) o) in (
+          f ∙ code-own R c y,
+          ap (λ z. places z (p .centres) (p .sizes) (p .diameters) (p .result)) same ∙ sym untouched ∙ ap (λ x. filled x p) (sym o ∙ output-own R c),
+        )
 
-    pub blocks-done : {b g w : ℕ} {rows : BlockRows} {c z d f : List ℕ} → a ≡ BlockedCase.Done b g w → RowsOf s (length (p .list)) room rows
-        → c ≡ overwrite b (λ i. getD (rows .centres) i 0) (p .centres) → z ≡ overwrite b (λ i. getD (rows .tides) i 0) (p .sizes)
-        → d ≡ overwrite b (λ i. getD (rows .diameters) i 0) (p .diameters) → f ≡ over (numbers (studyOf s)) (p .result)
-        → Settled 0 (places new c z d f)
-    blocks-done e W ec ez ed ef =
-        let n = length (p .list) in
-        let y = block-value s n (recordRoom p) a reply e .0 in
-        settled-own y (output-done _ _ refl (written-column s n room a q e W (λ x. x .centre) (p .centres) ec))
-        (output-done _ _ refl (written-column s n room a q e W (λ x. x .tides) (p .sizes) ez))
-        (output-done _ _ refl (written-column s n room a q e W (λ x. x .diameter) (p .diameters) ed)) (output-done _ _ refl ef)
+    pub blocks-done : {b : ℕ} {rows : BlockRows} {xs y z d f : List ℕ}
+        → Lending room (λ records. (answer s (ask records) ≡ accepted) × (output s (ask records) .numbers ≡ xs)) → RowsOf s ask room rows → b ≡ rows .count
+        → y ≡ overwrite b (λ i. getD (rows .centres) i 0) (p .centres) → z ≡ overwrite b (λ i. getD (rows .tides) i 0) (p .sizes)
+        → d ≡ overwrite b (λ i. getD (rows .diameters) i 0) (p .diameters) → f ≡ over xs (p .result) → Settled 0 (places new y z d f)
+    unfolding headD filled
+    blocks-done {b} {rows} {xs} e W k ey ez ed ef =
+        let v = e (recordsIn p) as-long in
+        let o = output s c in
+        let few : rows .count ≤ recordRoom p = omega (arith, W .fits, m) in
+        let put : overwrite (rows .count) (rowAt rows) (recordsIn p) ≡ o .records = W .records (recordsIn p) as-long in (
+          code-own R c (v .0),
+          places-are {q = filled o p} (ap (λ (ls : List (List ℕ)). headD ls []) (t (recordsIn p) as-long))
+              (ey ∙ ap (λ j. overwrite j (λ i. getD (rows .centres) i 0) (p .centres)) k ∙ sym (centres-put p (rowAt rows) (rows .count) few)
+              ∙ ap (λ rs. inColumn (λ r. r .centre) rs (p .centres)) put)
+              (ez ∙ ap (λ j. overwrite j (λ i. getD (rows .tides) i 0) (p .sizes)) k ∙ sym (sizes-put p (rowAt rows) (rows .count) few)
+              ∙ ap (λ rs. inColumn (λ r. r .tides) rs (p .sizes)) put)
+              (ed ∙ ap (λ j. overwrite j (λ i. getD (rows .diameters) i 0) (p .diameters)) k ∙ sym (diameters-put p (rowAt rows) (rows .count) few)
+              ∙ ap (λ rs. inColumn (λ r. r .diameter) rs (p .diameters)) put)
+              (ef ∙ ap (λ ns. over ns (p .result)) (sym (v .1)))
+              ∙ ap (λ x. filled x p) (output-own R c),
+        )

@@ -1,20 +1,18 @@
--- From what a Rattle call answers and leaves to what the call for C does. Assumes nothing.
+-- From what a Rattle call answers and leaves to what the call for C does: one law for what begins anew, one for what changes. Assumes nothing.
 use Prim.Native.Nat.{ℕ, _≤_, _<_}
 use native.Mathlib.Omega.{arith}
 use mathlib.Core.Path.{_≡_, refl, sym, ap, ap₂, _∙_, subst}
 use mathlib.Core.Logic.{_⊎_, inl, inr}
 use mathlib.Core.Bool.{Bool, true, false, _||_}
-use mathlib.Core.List.{List, [], _∷_, flatMap}
+use mathlib.Core.List.{List, flatMap}
 use lib.ListN.{length}
 use borrow.Author.Tests.{lt-ltb, le-ltb}
 use Rattle.lists.specs.Lists.{iota, over}
 use Rattle.lists.proofs.Tests.{true-T}
 use Rattle.study.specs.declared.Minima.{Minima}
 use Rattle.study.specs.declared.Dataset.{Dataset}
-use Rattle.study.specs.declared.Answer.{Answer}
-use Rattle.study.specs.declared.Answer.the-variants.{Done}
 use Rattle.study.specs.Study.{Study, Contents, size}
-use Rattle.study.specs.Refusals.{Verdict, accepted, refused, verdictOf, settled, Reason, firstOf}
+use Rattle.study.specs.Refusals.{Verdict, accepted, refused, settled, firstOf}
 use Rattle.study.specs.Calls.{openReasons, opening, minimaReasons, settingMinima, enterReasons, entering, withdrawReasons, withdrawing}
 use Rattle.study.specs.Theorems.{ValidContents}
 use Rattle.study.proofs.StudyLaws.{validMinima-T}
@@ -24,19 +22,19 @@ use Rattle.file_format.proofs.Proofs.{files}
 use Rattle.file_format.proofs.BitLaws.{bitsAt-small}
 use Rattle.file_format.proofs.DecodedLaws.{decoded-size}
 use Rattle.validity.specs.Memory.{State, stateOf, short, isDataset, contentsOf, recordOf, stored}
-use Rattle.dataset.specs.Answers.{freshAnswer, freshLeaves, heldAnswer, heldLeaves, openAnswer, openLeaves, minimaAnswer, minimaLeaves}
-use Rattle.dataset.specs.Answers.{enterAnswer, enterLeaves, withdrawAnswer, withdrawLeaves}
 use Rattle.validity.proofs.Proofs.{for-datasets}
-use Rattle.dataset.proofs.AnswerLaws.{fresh-own, accepted-held}
+use Rattle.access.specs.Calls.{Source, Update, Call, begins, changes, asks, held, verdict, told, answer, output, made, after}
+use Rattle.access.specs.Calls.{lent as lentTo}
+use Rattle.access.proofs.AccessLaws.{source-own, update-accepted}
+use Rattle.dataset.specs.Calls.{opensDataset, setsMinima, entersTide, withdrawsTide}
+use Rattle.study_file.specs.Calls.{readsFile}
 use Rattle.narrowing.specs.Narrowing.{narrowed, narrowDataset}
 use Rattle.narrowing.proofs.Proofs.{unchanged, as-given}
-use Rattle.study_file.specs.Answers.{readAnswer, readLeaves}
-use Rattle.c_api.specs.Api.{Lent, recordSize, lent, minimaAt, datasetOf, numbersOf, stateIn, code, roomFirst, lacks, left}
-use Rattle.c_api.specs.Api.{openVerdict, openLeft, minimaVerdict, minimaLeft, enterVerdict, enterLeft}
-use Rattle.c_api.specs.Api.{withdrawVerdict, withdrawLeft, readVerdict, readLeft}
-use Rattle.c_api.specs.Records.{Narrow, Storable}
-use Rattle.c_api.proofs.RecordLaws.{withRecord, read-back}
-use Rattle.c_api.proofs.CodeLaws.{AllNarrow, small, append-narrow, runs-narrow, pair-narrow, fresh-narrow, held-narrow}
+use Rattle.c_records.specs.Record.{Lent, recordSize, lent, datasetOf, numbersOf, stateIn, code}
+use Rattle.c_api.specs.Api.{roomFirst, lacks, cVerdict, left, cLeft, cOutput}
+use Rattle.c_records.specs.Records.{Narrow, Storable}
+use Rattle.c_records.proofs.RecordLaws.{withRecord, read-back}
+use Rattle.c_records.proofs.CodeLaws.{AllNarrow, small, append-narrow, runs-narrow, pair-narrow, source-narrow, update-narrow}
 
 -- ---- a list of fixed size
 
@@ -48,56 +46,57 @@ pub lacks-no : (n : ℕ) (l : List ℕ) → n ≤ length l → lacks n l ≡ fal
 unfolding lacks
 lacks-no n l h = le-ltb (length l) n h
 
--- two such lists
-pub lacks-one : {n m : ℕ} (l k : List ℕ) → (length l < n) ⊎ (length k < m) → lacks n l || lacks m k ≡ true
-lacks-one {n} {m} l k (inl h) = rw (lacks-yes n l h)
-lacks-one {n} {m} l k (inr h) = rw (lacks-yes m k h) (either (lacks n l))
+-- the record, or another list, is too short
+pub record-short : (numbers : List ℕ) (few : Bool) → length numbers < recordSize → lacks recordSize numbers || few ≡ true
+record-short numbers few h = rw (lacks-yes recordSize numbers h)
+
+pub list-short : (numbers : List ℕ) {few : Bool} → few ≡ true → lacks recordSize numbers || few ≡ true
+list-short numbers {few} e = rw e (either (lacks recordSize numbers))
   where
     either : (a : Bool) → a || true ≡ true
     either true = refl
     either false = refl
 
-pub lacks-neither : {n m : ℕ} (l k : List ℕ) → n ≤ length l → m ≤ length k → lacks n l || lacks m k ≡ false
-lacks-neither {n} {m} l k a b = rw (lacks-no n l a, lacks-no m k b)
+-- neither
+pub none-short : (numbers : List ℕ) {few : Bool} → recordSize ≤ length numbers → few ≡ false → lacks recordSize numbers || few ≡ false
+none-short numbers h e = rw (lacks-no recordSize numbers h, e)
 
--- ---- a record that is written
+-- ---- a call on s that leaves H where it is accepted
 
-pub stored-outcome : {a : Answer} {new : List ℕ} (xs old : List ℕ) → a ≡ Done → new ≡ over xs old
-    → (0 ≡ code (verdictOf a)) × (new ≡ settled (verdictOf a) (over xs old) old)
-stored-outcome xs old e q = (sym (ap (λ x. code (verdictOf x)) e), q ∙ sym (ap (λ x. settled (verdictOf x) (over xs old) old) e))
-
--- ---- a call that answers v, and leaves H where it is accepted
-
-pub record Sound (v : Verdict) (H : Contents) : Type 0 where
-  pub narrow : Narrow v
-  pub valid : v ≡ accepted → ValidContents H
+pub record Sound (s : State) (c : Call) (H : Contents) : Type 0 where
+  pub narrow : Narrow (answer s c)
+  pub makes : made s c ≡ stored H s
+  pub valid : answer s c ≡ accepted → ValidContents H
 
 module _ (s : State) where
-  fresh-sound : (own : List Reason) (H : Contents) → AllNarrow own → (firstOf own ≡ accepted → ValidContents H) → Sound (freshAnswer s own) H
-  fresh-sound own H n valid = record { narrow = fresh-narrow s own n; valid = λ e. valid (fresh-own s own e .1) }
+  source-sound : (S : Source) → AllNarrow (S .own) → (firstOf (S .own) ≡ accepted → ValidContents (S .brings)) → Sound s (begins S) (S .brings)
+  unfolding made
+  source-sound S n valid = record { narrow = source-narrow s S n; makes = refl; valid = λ e. valid (source-own s S e .1) }
 
-  held-sound : (users : List ℕ) (own : Contents → List Reason) (f : Contents → Contents) → ((H : Contents) → ValidContents H → AllNarrow (own H))
-      → ((H : Contents) → ValidContents H → firstOf (own H) ≡ accepted → ValidContents (f H)) → Sound (heldAnswer s users own) (f (contentsOf s))
-  held-sound users own f narrow keeps =
+  update-sound : (U : Update) → ((H : Contents) → ValidContents H → AllNarrow (U .own H))
+      → ((H : Contents) → ValidContents H → firstOf (U .own H) ≡ accepted → ValidContents (U .makes H)) → Sound s (changes U) (U .makes (contentsOf s))
+  unfolding made
+  update-sound U narrow keeps =
       record {
-        narrow = held-narrow s users own (λ e. narrow (contentsOf s) (valid e));
-        valid = λ e. let A = accepted-held s users own e in keeps (contentsOf s) (valid (A .tested)) (A .reasons);
+        narrow = update-narrow s U (λ e. narrow (contentsOf s) (valid e));
+        makes = refl;
+        valid = λ e. let A = update-accepted s U e in keeps (contentsOf s) (valid (A .tested)) (A .reasons);
       }
     where
       valid : isDataset s ≡ true → ValidContents (contentsOf s)
       valid e = for-datasets .valid s (true-T (isDataset s) e)
 
-  pub open-sound : (k : ℕ) → Sound (openAnswer s k) (opening k)
-  unfolding openAnswer openReasons
-  open-sound k = fresh-sound (openReasons k) (opening k) (small tt, tt) (for-calls .on-open k)
+  pub open-sound : (k : ℕ) → Sound s (opensDataset k) (opening k)
+  unfolding opensDataset openReasons
+  open-sound k = source-sound _ (small tt, tt) (for-calls .on-open k)
 
-  pub minima-sound : (M : Minima) → Sound (minimaAnswer s M) (settingMinima M (contentsOf s))
-  unfolding minimaAnswer minimaReasons
-  minima-sound M = held-sound [] (λ H. minimaReasons (H .study) M) (settingMinima M) (λ H ok. (small tt, tt)) (for-calls .on-minima M)
+  pub minima-sound : (M : Minima) → Sound s (setsMinima M) (settingMinima M (contentsOf s))
+  unfolding setsMinima minimaReasons
+  minima-sound M = update-sound _ (λ H ok. (small tt, tt)) (for-calls .on-minima M)
 
-  pub enter-sound : (setting : ℕ) (row : List ℕ) → Sound (enterAnswer s setting row) (entering setting row (contentsOf s))
-  unfolding enterAnswer enterReasons
-  enter-sound setting row = held-sound [] (λ H. enterReasons (H .study) setting row) (entering setting row) narrow (for-calls .on-enter setting row)
+  pub enter-sound : (setting : ℕ) (row : List ℕ) → Sound s (entersTide setting row) (entering setting row (contentsOf s))
+  unfolding entersTide enterReasons
+  enter-sound setting row = update-sound _ narrow (for-calls .on-enter setting row)
     where
       narrow : (H : Contents) → ValidContents H → AllNarrow (enterReasons (H .study) setting row)
       narrow H ok = (
@@ -105,14 +104,13 @@ module _ (s : State) where
         (small tt, (small tt, (small tt, (pair-narrow _ _ _ (omega (arith, ok .study .few)), (small tt, tt))))),
       )
 
-  pub withdraw-sound : (u t : ℕ) → Sound (withdrawAnswer s u t) (withdrawing u t (contentsOf s))
-  unfolding withdrawAnswer withdrawReasons
-  withdraw-sound u t =
-      held-sound (u ∷ []) (λ H. withdrawReasons H u t) (withdrawing u t) (λ H ok. (small tt, (small tt, tt))) (for-calls .on-withdraw u t)
+  pub withdraw-sound : (u t : ℕ) → Sound s (withdrawsTide u t) (withdrawing u t (contentsOf s))
+  unfolding withdrawsTide withdrawReasons
+  withdraw-sound u t = update-sound _ (λ H ok. (small tt, (small tt, tt))) (for-calls .on-withdraw u t)
 
-  pub read-sound : (file : List ℕ) → Sound (readAnswer s file) (decoded file)
-  unfolding readAnswer readReasons headReasons tideReasons
-  read-sound file = fresh-sound (readReasons file) (decoded file) narrow (files .valid file)
+  pub read-sound : (file : List ℕ) → Sound s (readsFile file) (decoded file)
+  unfolding readsFile readReasons headReasons tideReasons
+  read-sound file = source-sound _ narrow (files .valid file)
     where
       S : Study
       S = decoded file .study
@@ -124,44 +122,55 @@ module _ (s : State) where
           (runs-narrow (tideReasons S) 0 (size S) (λ t l. (small tt, (pair-narrow _ _ _ (omega (arith, decoded-size file, bitsAt-small file 8 7)), tt))))
 
 -- the record that it made, by its contract, can be written
-pub storable : {numbers : List ℕ} {v w : Verdict} {H : Contents} {r : Dataset} {d g : List ℕ} (s : State) → Sound v H → recordSize ≤ length numbers
-    → (w ≡ v) × (stateOf r d g ≡ settled v (stored H s) s) → Storable numbers w r
-unfolding stored recordOf
-storable {numbers} {v} {w} {H} {r} {d} {g} s S room (e, f) =
+pub storable : {numbers : List ℕ} (s : State) {c : Call} {H : Contents} {w : Verdict} {r : Dataset} {d g : List ℕ} → Sound s c H
+    → recordSize ≤ length numbers → (w ≡ answer s c) × (stateOf r d g ≡ after s c) → Storable numbers w r
+unfolding after stored recordOf
+storable {numbers} s {c} {H} {w} {r} {d} {g} S room (e, f) =
     record { room = room; narrow = subst Narrow (sym e) (S .narrow); few = λ q. few (sym e ∙ q) }
   where
-    few : v ≡ accepted → r .n < 65536
+    few : answer s c ≡ accepted → r .n < 65536
     few q =
-        let k : r .n ≡ size (H .study) = ap (λ (x : State). x .dataset .n) (f ∙ ap (λ u. settled u (stored H s) s) q) in
+        let k : r .n ≡ size (H .study) = ap (λ (x : State). x .dataset .n) (f ∙ ap (λ u. settled u (made s c) s) q ∙ S .makes) in
         omega (arith, S .valid q .study .few)
 
 -- ---- on the record itself, and on the record as the code holds it
 
-pub record Same (v′ v : Verdict) (H′ H : Contents) : Type 0 where
-  pub verdict : v′ ≡ v
-  pub contents : v ≡ accepted → H′ ≡ H
-
 module _ (l : Lent) {r : Dataset} (e : r ≡ narrowDataset (datasetOf (l .numbers))) where
-  pub same-held : (users : List ℕ) (own : Contents → List Reason) (f : Contents → Contents)
-      → Same (heldAnswer (withRecord l r) users own) (heldAnswer (stateIn l) users own) (f (contentsOf (withRecord l r))) (f (contentsOf (stateIn l)))
+  same-held : held (withRecord l r) ≡ held (stateIn l)
   unfolding stateIn
-  same-held users own f =
-      let N = unchanged (stateIn l) .on-record users own in
-      let v = heldAnswer (stateIn l) users own in
-      subst (λ x. Same (heldAnswer (withRecord l x) users own) v (f (contentsOf (withRecord l x))) (f (contentsOf (stateIn l)))) (sym e)
-      (record { verdict = N .0; contents = λ q. ap (λ s. f (contentsOf s)) (N .1 q) })
+  same-held = ap (λ x. held (withRecord l x)) e ∙ unchanged (stateIn l) .on-record
 
-  pub same-fresh : (own : List Reason) (H : Contents) → Same (freshAnswer (withRecord l r) own) (freshAnswer (stateIn l) own) H H
-  unfolding freshAnswer short stateIn
-  same-fresh own H = record { verdict = refl; contents = λ q. refl }
+  pub same-answer : (c : Call) → answer (withRecord l r) c ≡ answer (stateIn l) c
+  unfolding answer short stateIn
+  same-answer c = ap (λ h. verdict (short (stateIn l)) h c) same-held
+
+  pub same-output : (c : Call) → output (withRecord l r) c ≡ output (stateIn l) c
+  unfolding output
+  same-output c = ap₂ (λ v h. settled v (told h c) (lentTo c)) (same-answer c) same-held
+
+  -- where there is a dataset, they are the same
+  same-record : isDataset (stateIn l) ≡ true → withRecord l r ≡ stateIn l
+  unfolding stateIn
+  same-record f = ap (withRecord l) e ∙ unchanged (stateIn l) .within f
 
 -- ---- what stands afterwards
 
--- a list of fixed size is too short
-pub left-too-short : (l : Lent) {tooShort : Bool} (v : Verdict) (s : State) → tooShort ≡ true
-    → (1 ≡ code (roomFirst tooShort v)) × (l ≡ left l (roomFirst tooShort v) s)
-unfolding roomFirst left
-left-too-short l v s e = (rw e, rw e)
+module _ (l : Lent) where
+  -- a list of fixed size is too short
+  left-too-short : {tooShort : Bool} (v : Verdict) (s : State) → tooShort ≡ true
+      → (1 ≡ code (roomFirst tooShort v)) × (l ≡ left l (roomFirst tooShort v) s)
+  unfolding roomFirst left
+  left-too-short v s e = (rw e, rw e)
+
+  pub source-too-short : (S : Source) (few : Bool) → lacks recordSize (l .numbers) || few ≡ true
+      → (1 ≡ code (cVerdict l few (begins S))) × (l ≡ cLeft l few (begins S))
+  unfolding cVerdict cLeft
+  source-too-short S few e = left-too-short _ _ e
+
+  pub update-too-short : (U : Update) (few : Bool) → lacks recordSize (l .numbers) || few ≡ true
+      → (1 ≡ code (cVerdict l few (changes U))) × (l ≡ cLeft l few (changes U))
+  unfolding cVerdict cLeft
+  update-too-short U few e = left-too-short _ _ e
 
 -- a call got the record in l as o and made r of it; its verdict w gave the code c and the numbers m
 pub record Stored (l : Lent) (o r : Dataset) (w : Verdict) (c : ℕ) (m : List ℕ) : Type 0 where
@@ -170,105 +179,99 @@ pub record Stored (l : Lent) (o r : Dataset) (w : Verdict) (c : ℕ) (m : List �
   pub settles : (c ≡ code w) × (m ≡ settled w (over (numbersOf r) (l .numbers)) (l .numbers))
 
 module _ {l : Lent} {o r : Dataset} {w : Verdict} {c : ℕ} {m : List ℕ} (D : Stored l o r w c m) where
-  abbrev whole : lacks recordSize (l .numbers) ≡ false
-  whole = lacks-no recordSize (l .numbers) (D .room)
-
   -- the record as the code holds it, with the memory
   abbrev s : State
   s = withRecord l o
 
   module _ {d g : List ℕ} where
-    -- every call that changes the dataset: by its contract on s, it answers v and leaves H
-    left-own : {tooShort : Bool} {v v′ : Verdict} {H H′ : Contents} → tooShort ≡ false → Same v′ v H′ H
-        → (w ≡ v′) × (stateOf r d g ≡ settled v′ (stored H′ s) s)
-        → (c ≡ code (roomFirst tooShort v)) × (lent m d g ≡ left l (roomFirst tooShort v) (settled v (stored H (stateIn l)) (stateIn l)))
-    unfolding roomFirst left stored recordOf stateIn
-    left-own {tooShort} {v} {v′} {H} {H′} e S (p, q) =
-        let u : w ≡ v = p ∙ S .verdict in
-        rw e (
-          D .settles .0 ∙ ap code u,
-          by v (S .contents) (q ∙ ap (λ x. settled x (stored H′ s) s) (S .verdict))
-              (D .settles .1 ∙ ap (λ x. settled x (over (numbersOf r) (l .numbers)) (l .numbers)) u),
-        )
+    -- by its contract on s, it answers v and leaves `new` where it is accepted
+    left-own : {tooShort : Bool} (v : Verdict) (new : State) → tooShort ≡ false → w ≡ v
+        → (v ≡ accepted → stateOf r d g ≡ new) → ((v ≡ accepted) ⊎ (stateOf r d g ≡ s))
+        → (c ≡ code (roomFirst tooShort v)) × (lent m d g ≡ left l (roomFirst tooShort v) (settled v new (stateIn l)))
+    unfolding roomFirst left stateIn
+    left-own {tooShort} v new e u made stays =
+        rw e (D .settles .0 ∙ ap code u, by v made stays (D .settles .1 ∙ ap (λ x. settled x (over (numbersOf r) (l .numbers)) (l .numbers)) u))
       where
-        by : (x : Verdict) → (x ≡ accepted → H′ ≡ H) → stateOf r d g ≡ settled x (stored H′ s) s
-            → m ≡ settled x (over (numbersOf r) (l .numbers)) (l .numbers) → lent m d g ≡ left l x (settled x (stored H (stateIn l)) (stateIn l))
+        by : (x : Verdict) → (x ≡ accepted → stateOf r d g ≡ new) → ((x ≡ accepted) ⊎ (stateOf r d g ≡ s))
+            → m ≡ settled x (over (numbersOf r) (l .numbers)) (l .numbers) → lent m d g ≡ left l x (settled x new (stateIn l))
         by accepted f t n =
-            let z = t ∙ ap (λ K. stored K (stateIn l)) (f refl) in
+            let z = f refl in
             let w = n ∙ ap (λ (y : State). over (numbersOf (y .dataset)) (l .numbers)) z in
             λ i. record { numbers = w i; distances = z i .distances; settings = z i .settings }
-        by (refused y) f t n = λ i. record { numbers = n i; distances = t i .distances; settings = t i .settings }
+        by (refused y) f (inl a) n = absurd (let z : _≡_ {A = ℕ} 0 1 = cc in omega arith)
+        by (refused y) f (inr t) n = λ i. record { numbers = n i; distances = t i .distances; settings = t i .settings }
 
-    pub open-left : (k : ℕ) {y : ℕ} → y ≡ narrowed k → (w ≡ openAnswer s y) × (stateOf r d g ≡ openLeaves s y)
-        → (c ≡ code (openVerdict l k)) × (lent m d g ≡ openLeft l k)
-    unfolding openVerdict openLeft openAnswer openLeaves freshLeaves
-    open-left k e did =
-        left-own whole (same-fresh l (D .held) (openReasons k) (opening k))
-        (as-given (openAnswer s) (openLeaves s) e (unchanged s .on-open k) did)
+    -- accepted, or everything stays
+    settles-either : (v : Verdict) (new : State) → stateOf r d g ≡ settled v new s → (v ≡ accepted) ⊎ (stateOf r d g ≡ s)
+    settles-either accepted new q = inl refl
+    settles-either (refused x) new q = inr q
 
-    pub minima-left : (minima : List ℕ) {M : Minima} → 9 ≤ length minima → M ≡ minimaAt 0 minima
-        → (w ≡ minimaAnswer s M) × (stateOf r d g ≡ minimaLeaves s M) → (c ≡ code (minimaVerdict l minima)) × (lent m d g ≡ minimaLeft l minima)
-    unfolding minimaVerdict minimaLeft minimaAnswer minimaLeaves heldLeaves
-    minima-left minima room e did =
-        let N = minimaAt 0 minima in
-        left-own (lacks-neither (l .numbers) minima (D .room) room) (same-held l (D .held) [] (λ H. minimaReasons (H .study) N) (settingMinima N))
-        (as-given (minimaAnswer s) (minimaLeaves s) e (refl, refl) did)
+    module _ {few : Bool} (whole : few ≡ false) where
+      pub source-left : (S : Source) → (w ≡ answer s (begins S)) × (stateOf r d g ≡ after s (begins S))
+          → (c ≡ code (cVerdict l few (begins S))) × (lent m d g ≡ cLeft l few (begins S))
+      unfolding cVerdict cLeft after made stored recordOf stateIn
+      source-left S (p, q) =
+          let v = same-answer l (D .held) (begins S) in
+          let t = q ∙ ap (λ x. settled x (stored (S .brings) s) s) v in
+          left-own (answer (stateIn l) (begins S)) (stored (S .brings) (stateIn l)) (none-short (l .numbers) (D .room) whole) (p ∙ v)
+          (λ a. t ∙ ap (λ x. settled x (stored (S .brings) s) s) a) (settles-either (answer (stateIn l) (begins S)) (stored (S .brings) s) t)
 
-    pub enter-left : (setting : ℕ) (row : List ℕ) {y : ℕ} → y ≡ narrowed setting
-        → (w ≡ enterAnswer s y row) × (stateOf r d g ≡ enterLeaves s y row)
-        → (c ≡ code (enterVerdict l setting row)) × (lent m d g ≡ enterLeft l setting row)
-    unfolding enterVerdict enterLeft enterAnswer enterLeaves heldLeaves
-    enter-left setting row e did =
-        left-own whole (same-held l (D .held) [] (λ H. enterReasons (H .study) setting row) (entering setting row))
-        (as-given (λ x. enterAnswer s x row) (λ x. enterLeaves s x row) e (unchanged s .on-enter setting row) did)
+      pub update-left : (U : Update) → (w ≡ answer s (changes U)) × (stateOf r d g ≡ after s (changes U))
+          → (c ≡ code (cVerdict l few (changes U))) × (lent m d g ≡ cLeft l few (changes U))
+      unfolding cVerdict cLeft after
+      update-left U (p, q) =
+          let v = same-answer l (D .held) (changes U) in
+          let t = q ∙ ap (λ x. settled x (made s (changes U)) s) v in
+          left-own (answer (stateIn l) (changes U)) (made (stateIn l) (changes U)) (none-short (l .numbers) (D .room) whole) (p ∙ v)
+          (λ a. t ∙ ap (λ x. settled x (made s (changes U)) s) a
+          ∙ ap (λ y. made y (changes U)) (same-record l (D .held) (update-accepted (stateIn l) U a .tested)))
+          (settles-either (answer (stateIn l) (changes U)) (made s (changes U)) t)
 
-    pub withdraw-left : (u t : ℕ) {x y : ℕ} → x ≡ narrowed u → y ≡ narrowed t
-        → (w ≡ withdrawAnswer s x y) × (stateOf r d g ≡ withdrawLeaves s x y)
-        → (c ≡ code (withdrawVerdict l u t)) × (lent m d g ≡ withdrawLeft l u t)
-    unfolding withdrawVerdict withdrawLeft withdrawAnswer withdrawLeaves heldLeaves
-    withdraw-left u t {x} {y} p q did =
-        let N = unchanged s .on-withdraw u t in
-        left-own whole (same-held l (D .held) (u ∷ []) (λ H. withdrawReasons H u t) (withdrawing u t))
-        (did .0 ∙ ap₂ (withdrawAnswer s) p q ∙ N .0, did .1 ∙ ap₂ (withdrawLeaves s) p q ∙ N .1)
+-- ---- numbers given as bytes
 
-    pub read-left : (file : List ℕ) → (w ≡ readAnswer s file) × (stateOf r d g ≡ readLeaves s file)
-        → (c ≡ code (readVerdict l file)) × (lent m d g ≡ readLeft l file)
-    unfolding readVerdict readLeft readAnswer readLeaves freshLeaves
-    read-left file did = left-own whole (same-fresh l (D .held) (readReasons file) (decoded file)) did
+-- what a call did, s before and t after it, with the verdict w
+abbrev pub Did : State → Verdict → State → Call → Type 0
+Did s w t c = (w ≡ answer s c) × (t ≡ after s c)
+
+pub enter-given : (s : State) (setting : ℕ) (row : List ℕ) {w : Verdict} {t : State} {y : ℕ} → y ≡ narrowed setting
+    → Did s w t (entersTide y row) → Did s w t (entersTide setting row)
+enter-given s setting row e did = as-given s (λ x. entersTide x row) setting e (unchanged s .on-enter setting row) did
+
+pub withdraw-given : (s : State) (u t : ℕ) {w : Verdict} {new : State} {x y : ℕ} → x ≡ narrowed u → y ≡ narrowed t
+    → Did s w new (withdrawsTide x y) → Did s w new (withdrawsTide u t)
+withdraw-given s u t p q did =
+    let same = unchanged s .on-withdraw u t in
+    (did .0 ∙ ap₂ (λ x y. answer s (withdrawsTide x y)) p q ∙ same .0, did .1 ∙ ap₂ (λ x y. after s (withdrawsTide x y)) p q ∙ same .1)
 
 -- ---- the next call gets what the last one left
 
-left-state : (l : Lent) {tooShort : Bool} {v : Verdict} {H : Contents} → tooShort ≡ false → Sound v H
-    → stateIn (left l (roomFirst tooShort v) (settled v (stored H (stateIn l)) (stateIn l))) ≡ settled v (stored H (stateIn l)) (stateIn l)
-unfolding roomFirst left stateIn stored recordOf
-left-state l {tooShort} {v} {H} e S = rw e (by v (S .valid))
-  where
-    by : (w : Verdict) → (w ≡ accepted → ValidContents H)
-        → stateIn (left l w (settled w (stored H (stateIn l)) (stateIn l))) ≡ settled w (stored H (stateIn l)) (stateIn l)
-    by accepted valid =
-        let ok = valid refl in
-        let fit = validMinima-T (H .study .k) (H .study .minima) .0 (ok .study .minima) in
-        let new = stored H (stateIn l) in
-        ap (λ r. stateOf r (new .distances) (new .settings)) (read-back (recordOf H (stateIn l .dataset)) (fit .eight) (ok .counts .four) (l .numbers))
-    by (refused y) valid = refl
-
 module _ (l : Lent) (room : recordSize ≤ length (l .numbers)) where
-  pub open-carried : (k : ℕ) → stateIn (openLeft l k) ≡ openLeaves (stateIn l) k
-  unfolding openLeft openVerdict openLeaves freshLeaves openAnswer
-  open-carried k = left-state l (lacks-no recordSize (l .numbers) room) (open-sound (stateIn l) k)
+  laid : (H : Contents) → ValidContents H → length (H .study .minima .b) ≡ 8
+      → let new = stored H (stateIn l) in
+      stateOf (datasetOf (over (numbersOf (new .dataset)) (l .numbers))) (new .distances) (new .settings) ≡ new
+  unfolding stored recordOf
+  laid H ok eight =
+      let new = stored H (stateIn l) in
+      ap (λ r. stateOf r (new .distances) (new .settings)) (read-back (recordOf H (stateIn l .dataset)) eight (ok .counts .four) (l .numbers))
 
-  pub minima-carried : (minima : List ℕ) → 9 ≤ length minima → stateIn (minimaLeft l minima) ≡ minimaLeaves (stateIn l) (minimaAt 0 minima)
-  unfolding minimaLeft minimaVerdict minimaLeaves heldLeaves minimaAnswer
-  minima-carried minima nine = left-state l (lacks-neither (l .numbers) minima room nine) (minima-sound (stateIn l) (minimaAt 0 minima))
+  left-state : {c : Call} {H : Contents} → Sound (stateIn l) c H
+      → stateIn (left l (cVerdict l false c) (after (stateIn l) c)) ≡ after (stateIn l) c
+  unfolding cVerdict roomFirst left stateIn after
+  left-state {c} {H} S = rw (none-short (l .numbers) {few = false} room refl) (by (answer (stateIn l) c) (S .valid))
+    where
+      by : (w : Verdict) → (w ≡ accepted → ValidContents H)
+          → stateIn (left l w (settled w (made (stateIn l) c) (stateIn l))) ≡ settled w (made (stateIn l) c) (stateIn l)
+      by accepted valid =
+          let ok = valid refl in
+          let fit = validMinima-T (H .study .k) (H .study .minima) .0 (ok .study .minima) in
+          subst (λ (new : State). stateOf (datasetOf (over (numbersOf (new .dataset)) (l .numbers))) (new .distances) (new .settings) ≡ new) (sym (S .makes))
+          (laid H ok (fit .eight))
+      by (refused y) valid = refl
 
-  pub enter-carried : (setting : ℕ) (row : List ℕ) → stateIn (enterLeft l setting row) ≡ enterLeaves (stateIn l) setting row
-  unfolding enterLeft enterVerdict enterLeaves heldLeaves enterAnswer
-  enter-carried setting row = left-state l (lacks-no recordSize (l .numbers) room) (enter-sound (stateIn l) setting row)
+  pub source-carried : (S : Source) {H : Contents} → Sound (stateIn l) (begins S) H → stateIn (cLeft l false (begins S)) ≡ after (stateIn l) (begins S)
+  unfolding cLeft
+  source-carried S K = left-state K
 
-  pub withdraw-carried : (u t : ℕ) → stateIn (withdrawLeft l u t) ≡ withdrawLeaves (stateIn l) u t
-  unfolding withdrawLeft withdrawVerdict withdrawLeaves heldLeaves withdrawAnswer
-  withdraw-carried u t = left-state l (lacks-no recordSize (l .numbers) room) (withdraw-sound (stateIn l) u t)
-
-  pub read-carried : (file : List ℕ) → stateIn (readLeft l file) ≡ readLeaves (stateIn l) file
-  unfolding readLeft readVerdict readLeaves freshLeaves readAnswer
-  read-carried file = left-state l (lacks-no recordSize (l .numbers) room) (read-sound (stateIn l) file)
+  pub update-carried : (U : Update) {H : Contents} → Sound (stateIn l) (changes U) H → stateIn (cLeft l false (changes U)) ≡ after (stateIn l) (changes U)
+  unfolding cLeft
+  update-carried U K = left-state K

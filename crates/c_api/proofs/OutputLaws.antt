@@ -2,53 +2,53 @@
 use Prim.Native.Nat.{ℕ, suc, _≤_, _<_}
 use native.Mathlib.Omega.{arith}
 use mathlib.Core.Path.{_≡_, refl, sym, ap, _∙_, subst}
-use mathlib.Core.Logic.{_⊎_}
 use mathlib.Core.Bool.{Bool, true, _||_}
 use mathlib.Core.List.{List, [], _∷_}
 use lib.Dec.{lit≤}
 use lib.ListN.{length, set, length-map}
+use Rattle.lists.specs.Lists.{over}
 use Rattle.lists.proofs.Tests.{true-T}
 use Rattle.study.specs.declared.Answer.{Answer}
 use Rattle.study.specs.declared.Answer.the-variants.{Done, Refused}
 use Rattle.study.specs.declared.Refusal.{Refusal}
 use Rattle.study.specs.declared.Dataset.{Dataset}
 use Rattle.study.specs.Problem.{centres}
-use Rattle.study.specs.Study.{Contents, size, distance, problem}
-use Rattle.study.specs.Refusals.{Numbered, numbered, Verdict, accepted, refused, verdictOf, settled, Reason}
-use Rattle.study.specs.Calls.{CentreLists, centresReasons, centreNumbers, centresWritten}
+use Rattle.study.specs.Study.{size, distance, problem}
+use Rattle.study.specs.Refusals.{Numbered, numbered, Verdict, accepted, refused, verdictOf, settled, value, refusal}
+use Rattle.study.specs.Calls.{CentreLists, centresReasons, centreNumbers}
 use Rattle.study.specs.Theorems.{ValidContents}
 use Rattle.study.proofs.CallLaws.{reply-refused, reply-value}
 use Rattle.file_format.specs.File.{fileOf, byteLength}
 use Rattle.file_format.proofs.Proofs.{files}
 use Rattle.radius_search.proofs.FrontLaws.{centres-few}
 use Rattle.validity.specs.Memory.{State, isDataset, studyOf, contentsOf}
-use Rattle.dataset.specs.Answers.{heldAnswer}
 use Rattle.validity.proofs.Proofs.{for-datasets}
-use Rattle.dataset.proofs.AnswerLaws.{accepted-held}
+use Rattle.access.specs.Calls.{Output, Inquiry, Call, asks, held, told, answer, reply, output}
+use Rattle.access.specs.Calls.{lent as lentTo}
+use Rattle.access.proofs.AccessLaws.{inquiry-accepted, inquiry-passed, writes, reply-tells}
 use Rattle.study_file.specs.declared.Written.{Written}
 use Rattle.study_file.specs.declared.Written.the-variants as WrittenCase
-use Rattle.study_file.specs.Answers.{writeReasons, writeAnswer, writtenOf, writeReply, writeLeaves}
+use Rattle.study_file.specs.Calls.{writeReasons, writtenOf, writesFile}
 use Rattle.study_file.proofs.Lengths.{length-sum}
-use Rattle.blocking.specs.Answers.{centresAnswer, centresFront, centresLeaves}
+use Rattle.blocking.specs.Calls.{allThree, findsCentres, centresFront}
 use Rattle.narrowing.specs.Narrowing.{narrowDataset}
-use Rattle.lists.specs.Lists.{over}
-use Rattle.c_api.specs.Api.{Lent, recordSize, datasetOf, stateIn, code, roomFirst, lacks, output}
-use Rattle.c_api.specs.Api.{centresVerdict, centresLeft, centresCount, writeVerdict, writeFile, writeLength}
-use Rattle.c_api.specs.Records.{Narrow}
-use Rattle.c_api.proofs.RecordLaws.{withRecord}
-use Rattle.c_api.proofs.CodeLaws.{small, held-narrow}
-use Rattle.c_api.proofs.CallLaws.{lacks-one, lacks-neither, Same, same-held}
+use Rattle.c_records.specs.Record.{Lent, recordSize, datasetOf, stateIn, code}
+use Rattle.c_api.specs.Api.{roomFirst, lacks, cVerdict, cOutput, written}
+use Rattle.c_records.specs.Records.{Narrow}
+use Rattle.c_records.proofs.RecordLaws.{withRecord}
+use Rattle.c_records.proofs.CodeLaws.{small, inquiry-narrow}
+use Rattle.c_api.proofs.CallLaws.{lacks-no, none-short, same-answer, same-output}
 
--- ---- what is written
+-- ---- what is written by a verdict
 
 -- a refused call writes nothing
-pub output-refused : {v : Verdict} {y : Numbered} (xs old : List ℕ) → v ≡ refused y → old ≡ output v xs old
-unfolding output
+pub output-refused : {v : Verdict} {y : Numbered} (xs old : List ℕ) → v ≡ refused y → old ≡ written v xs old
+unfolding written
 output-refused xs old e = ap (λ w. settled w (over xs old) old) (sym e)
 
 -- an accepted one all of it
-pub output-done : {v : Verdict} {new : List ℕ} (xs old : List ℕ) → v ≡ accepted → new ≡ over xs old → new ≡ output v xs old
-unfolding output
+pub output-done : {v : Verdict} {new : List ℕ} (xs old : List ℕ) → v ≡ accepted → new ≡ over xs old → new ≡ written v xs old
+unfolding written
 output-done xs old e q = q ∙ ap (λ w. settled w (over xs old) old) (sym e)
 
 -- one number
@@ -62,13 +62,34 @@ module _ {tooShort : Bool} (v : Verdict) (e : tooShort ≡ true) where
   unfolding roomFirst
   code-too-short = rw e
 
-  pub stays-too-short : {A : Type 0} (new old : A) → old ≡ settled (roomFirst tooShort v) new old
-  unfolding roomFirst
-  stays-too-short new old = rw e
+  pub output-too-short : (xs old : List ℕ) → old ≡ written (roomFirst tooShort v) xs old
+  unfolding written roomFirst
+  output-too-short xs old = rw e
 
-  pub output-too-short : (xs old : List ℕ) → old ≡ output (roomFirst tooShort v) xs old
+-- ---- what a reply tells of answer and output
+
+module _ (s : State) (c : Call) where
+  pub reply-why : {y : Numbered} → refusal y ≡ reply s c → answer s c ≡ refused y
+  unfolding reply
+  reply-why e = reply-refused (answer s c) (told (held s) c .numbers) e
+
+  pub reply-numbers : {xs : List ℕ} → value xs ≡ reply s c → (answer s c ≡ accepted) × (output s c .numbers ≡ xs)
+  unfolding reply output
+  reply-numbers e =
+      let w = reply-value (answer s c) (told (held s) c .numbers) e in
+      (w .0, ap (λ v. settled v (told (held s) c) (lentTo c) .numbers) (w .0) ∙ sym (w .1))
+
+  pub refused-output : {y : Numbered} → answer s c ≡ refused y → output s c ≡ lentTo c
   unfolding output
-  output-too-short xs old = stays-too-short (over xs old) old
+  refused-output e = ap (λ v. settled v (told (held s) c) (lentTo c)) e
+
+-- ---- any call that is lent besides
+
+-- a list of fixed size is too short
+pub asked-too-short : (l : Lent) (c : Call) (few : Bool) → lacks recordSize (l .numbers) || few ≡ true
+    → (1 ≡ code (cVerdict l few c)) × (lentTo c ≡ cOutput l few c)
+unfolding cVerdict cOutput roomFirst
+asked-too-short l c few e = (rw e, rw e)
 
 -- r is the record in l as the code holds it, and a list of fixed size has its m places
 pub record Reads (l : Lent) (r : Dataset) (m : ℕ) (fixed : List ℕ) : Type 0 where
@@ -76,63 +97,54 @@ pub record Reads (l : Lent) (r : Dataset) (m : ℕ) (fixed : List ℕ) : Type 0 
   pub enough : m ≤ length fixed
   pub held : r ≡ narrowDataset (datasetOf (l .numbers))
 
--- then the call's own verdict counts, and is that of the record itself
-module _ {l : Lent} {r : Dataset} {m : ℕ} {fixed : List ℕ} (R : Reads l r m fixed) (own : Contents → List Reason) where
-  abbrev verdict : Verdict
-  verdict = heldAnswer (stateIn l) [] own
+-- then what the call answers and writes of that record is what it does of the record itself
+module _ {l : Lent} {r : Dataset} {m : ℕ} {fixed : List ℕ} (R : Reads l r m fixed) (c : Call) where
+  abbrev few : Bool
+  few = lacks m fixed
 
-  abbrev whole : Verdict
-  whole = roomFirst (lacks recordSize (l .numbers) || lacks m fixed) verdict
+  whole : answer (stateIn l) c ≡ cVerdict l few c
+  unfolding cVerdict roomFirst
+  whole = rw (none-short (l .numbers) (R .room) (lacks-no m fixed (R .enough)))
 
-  abbrev held : Verdict
-  held = heldAnswer (withRecord l r) [] own
+  pub code-own : {y : Verdict} → answer (withRecord l r) c ≡ y → code y ≡ code (cVerdict l few c)
+  code-own q = ap code (sym q ∙ same-answer l (R .held) c ∙ whole)
 
-  same : Same held verdict (contentsOf (withRecord l r)) (contentsOf (stateIn l))
-  same = same-held l (R .held) [] own (λ H. H)
+  pub output-own : output (withRecord l r) c ≡ cOutput l few c
+  unfolding cOutput output
+  output-own = same-output l (R .held) c ∙ ap (λ v. settled v (told (held (stateIn l)) c) (lentTo c)) whole
 
-  whole-is : verdict ≡ whole
-  unfolding roomFirst
-  whole-is = rw (lacks-neither {n = recordSize} {m = m} (l .numbers) fixed (R .room) (R .enough))
+  pub lists-own : {x : List (List ℕ)} → x ≡ output (withRecord l r) c .lists → x ≡ cOutput l few c .lists
+  lists-own q = q ∙ ap (λ (o : Output). o .lists) output-own
 
-  pub code-own : {y : Verdict} → held ≡ y → code y ≡ code whole
-  code-own q = ap code (sym q ∙ same .verdict ∙ whole-is)
-
-  -- what an accepted call makes of the contents
-  pub made-own : {A : Type 0} (f : Contents → A) {new : A} (old : A) → new ≡ settled held (f (contentsOf (withRecord l r))) old
-      → new ≡ settled whole (f (contentsOf (stateIn l))) old
-  made-own {A} f {new} old q =
-      by verdict (same .contents) (q ∙ ap (λ w. settled w (f (contentsOf (withRecord l r))) old) (same .verdict))
-      ∙ ap (λ w. settled w (f (contentsOf (stateIn l))) old) whole-is
-    where
-      by : (w : Verdict) → (w ≡ accepted → contentsOf (withRecord l r) ≡ contentsOf (stateIn l)) → new ≡ settled w (f (contentsOf (withRecord l r))) old
-          → new ≡ settled w (f (contentsOf (stateIn l))) old
-      by accepted h p = p ∙ ap f (h refl)
-      by (refused y) h p = p
-
-  pub output-own : (f : Contents → List ℕ) {new : List ℕ} (old : List ℕ) → new ≡ output held (f (contentsOf (withRecord l r))) old
-      → new ≡ output whole (f (contentsOf (stateIn l))) old
-  unfolding output
-  output-own f old q = made-own (λ H. over (f H) old) old q
+  pub numbers-own : {xs new : List ℕ} (old : List ℕ) → output (withRecord l r) c .numbers ≡ xs → new ≡ over xs old
+      → new ≡ over (cOutput l few c .numbers) old
+  numbers-own old e q = q ∙ ap (λ ys. over ys old) (sym e ∙ ap (λ (o : Output). o .numbers) output-own)
 
 -- ---- Centres
 
-module _ (lists : CentreLists) (s : State) where
-  pub centres-narrow : Narrow (centresAnswer s lists)
-  unfolding centresAnswer centresReasons
-  centres-narrow = held-narrow s [] (λ H. centresReasons (H .study) lists) (λ _. (small tt, (small tt, tt)))
+module _ (g : ℕ) (lists : CentreLists) (s : State) where
+  pub centres-narrow : Narrow (answer s (findsCentres g lists))
+  unfolding findsCentres centresReasons
+  centres-narrow = inquiry-narrow s _ (small tt, (small tt, tt))
 
-  module _ (g : ℕ) (a : Answer) {count : ℕ} (p : verdictOf a ≡ centresAnswer s lists) (q : a ≡ Done) (e : count ≡ length (centresFront s g lists)) where
-    abbrev done : centresAnswer s lists ≡ accepted
+  module _ (a : Answer) {count : ℕ} (p : verdictOf a ≡ answer s (findsCentres g lists)) (q : a ≡ Done)
+      (e : count ≡ length (centresFront s g lists)) where
+    abbrev done : answer s (findsCentres g lists) ≡ accepted
     done = sym p ∙ ap verdictOf q
 
     counted : count ≡ length (centreNumbers (studyOf s) g)
     unfolding centresFront
     counted = e ∙ ap (λ v. length (settled v (centreNumbers (studyOf s) g) [])) done
 
+    count-told : output s (findsCentres g lists) .numbers ≡ count ∷ []
+    unfolding findsCentres contentsOf
+    count-told =
+        ap (λ (o : Output). o .numbers) (sym (writes s _ (inquiry-passed s _ done) (sym done))) ∙ ap (λ z. z ∷ []) (sym counted)
+
     pub count-fits : count < 65536
-    unfolding centresAnswer contentsOf centreNumbers centres problem
+    unfolding findsCentres contentsOf centreNumbers centres problem
     count-fits =
-        let A = accepted-held s [] (λ H. centresReasons (H .study) lists) done in
+        let A = inquiry-accepted s _ done in
         omega (
           arith,
           counted,
@@ -142,96 +154,95 @@ module _ (lists : CentreLists) (s : State) where
         )
 
 module _ (l : Lent) (g : ℕ) (lists : CentreLists) (count : List ℕ) where
+  abbrev centring : Call
+  centring = findsCentres g lists
+
   -- it answers the code c, and leaves these lists and this count
   abbrev CentresSettled : ℕ → CentreLists → List ℕ → Type 0
-  CentresSettled c new n = (c ≡ code (centresVerdict l lists count)) × ((new ≡ centresLeft l g lists count) × (n ≡ centresCount l g lists count))
+  CentresSettled c new n =
+      (c ≡ code (cVerdict l (lacks 1 count) centring))
+      × ((allThree new ≡ cOutput l (lacks 1 count) centring .lists) × (n ≡ over (cOutput l (lacks 1 count) centring .numbers) count))
 
-  pub centres-too-short : (length (l .numbers) < recordSize) ⊎ (length count < 1) → CentresSettled 1 lists count
-  unfolding centresVerdict centresLeft centresCount
-  centres-too-short h = let e = lacks-one (l .numbers) count h in (code-too-short _ e, (stays-too-short _ e _ lists, output-too-short _ e _ count))
-
-  abbrev own : Contents → List Reason
-  own H = centresReasons (H .study) lists
-
-  abbrev counts : Contents → List ℕ
-  counts H = length (centreNumbers (H .study) g) ∷ []
+  pub centres-too-short : lacks recordSize (l .numbers) || lacks 1 count ≡ true → CentresSettled 1 lists count
+  unfolding findsCentres lentTo
+  centres-too-short h =
+      let e = asked-too-short l centring _ h in
+      (e .0, (ap (λ (o : Output). o .lists) (e .1), ap (λ (o : Output). over (o .numbers) count) (e .1)))
 
   -- what `centres_into` answers of the record as the code holds it
-  module _ {r : Dataset} (R : Reads l r 1 count) (a : Answer) {n : ℕ} {new : CentreLists} (p : verdictOf a ≡ centresAnswer (withRecord l r) lists)
-      (q : n ≡ length (centresFront (withRecord l r) g lists)) (t : new ≡ centresLeaves (withRecord l r) g lists) where
-    written : new ≡ centresLeft l g lists count
-    unfolding centresLeft centresVerdict centresAnswer centresLeaves contentsOf
-    written = made-own R own (λ H. centresWritten (H .study) g lists) lists t
-
+  module _ {r : Dataset} (R : Reads l r 1 count) (a : Answer) {n : ℕ} {new : CentreLists} (p : verdictOf a ≡ answer (withRecord l r) centring)
+      (q : n ≡ length (centresFront (withRecord l r) g lists)) (t : allThree new ≡ output (withRecord l r) centring .lists) where
     pub centres-refused : {x : Refusal} {c : ℕ} → a ≡ Refused x → c ≡ code (verdictOf a) → CentresSettled c new count
-    unfolding centresVerdict centresCount centresAnswer contentsOf
+    unfolding findsCentres lentTo
     centres-refused e f =
-        (f ∙ code-own R own (sym p), (written, output-own R own counts count (output-refused _ count (sym p ∙ ap verdictOf e))))
+        let y = sym p ∙ ap verdictOf e in (
+          f ∙ code-own R centring (sym p),
+          (lists-own R centring t, numbers-own R centring {xs = []} count (ap (λ (o : Output). o .numbers) (refused-output (withRecord l r) centring y)) refl),
+        )
 
     pub centres-done : a ≡ Done → CentresSettled 0 new (set count 0 n)
-    unfolding centresVerdict centresCount centresAnswer contentsOf
-    centres-done e =
-        let y = sym p ∙ ap verdictOf e in
-        let one = first-set n count (R .enough) ∙ ap (λ z. over (z ∷ []) count) (counted lists (withRecord l r) g a p e q) in
-        (code-own R own y, (written, output-own R own counts count (output-done _ count y one)))
+    centres-done e = (
+      code-own R centring (sym p ∙ ap verdictOf e),
+      (lists-own R centring t, numbers-own R centring count (count-told g lists (withRecord l r) a p e q) (first-set n count (R .enough))),
+    )
 
 -- ---- Write
 
-module _ (room : ℕ) (s : State) where
-  length-fits : writeAnswer s room ≡ accepted → length (fileOf (contentsOf s)) < 4294967296
-  unfolding writeAnswer byteLength
+module _ (file : List ℕ) (s : State) where
+  length-fits : answer s (writesFile file) ≡ accepted → length (fileOf (contentsOf s)) < 4294967296
+  unfolding writesFile byteLength
   length-fits a =
-      let A = accepted-held s [] (λ H. writeReasons H room) a in
+      let A = inquiry-accepted s _ a in
       let ok : ValidContents (contentsOf s) = for-datasets .valid s (true-T (isDataset s) (A .tested)) in
       let most = length-sum 4 (contentsOf s .study .k) (size (contentsOf s .study)) (lit≤ tt) (ok .study .k-high) (ok .study .few) .most in
       omega (arith, files .file-length (contentsOf s) ok)
 
-  module _ (w : Written) (p : writtenOf w ≡ writeReply s room) where
-    write-why : {why : Refusal} → w ≡ WrittenCase.Refused why → writeAnswer s room ≡ refused (numbered why)
-    unfolding writeReply
-    write-why e = reply-refused (writeAnswer s room) (length (fileOf (contentsOf s))) (sym (ap writtenOf e) ∙ p)
+  module _ (w : Written) (p : writtenOf w ≡ reply s (writesFile file)) where
+    write-why : {why : Refusal} → w ≡ WrittenCase.Refused why → answer s (writesFile file) ≡ refused (numbered why)
+    write-why e = reply-why s (writesFile file) (sym (ap writtenOf e) ∙ p)
 
     pub why-narrow : {why : Refusal} → w ≡ WrittenCase.Refused why → Narrow (refused (numbered why))
-    unfolding writeAnswer writeReasons
-    why-narrow e = subst Narrow (write-why e) (held-narrow s [] (λ H. writeReasons H room) (λ _. (small tt, tt)))
+    unfolding writesFile writeReasons
+    why-narrow e = subst Narrow (write-why e) (inquiry-narrow s _ (small tt, tt))
 
-    write-size : {n : ℕ} → w ≡ WrittenCase.Done n → (writeAnswer s room ≡ accepted) × (n ≡ length (fileOf (contentsOf s)))
-    unfolding writeReply
-    write-size e = reply-value (writeAnswer s room) (length (fileOf (contentsOf s))) (sym (ap writtenOf e) ∙ p)
+    write-numbers : {n : ℕ} → w ≡ WrittenCase.Done n → (answer s (writesFile file) ≡ accepted) × (output s (writesFile file) .numbers ≡ n ∷ [])
+    write-numbers e = reply-numbers s (writesFile file) (sym (ap writtenOf e) ∙ p)
 
     pub size-fits : {n : ℕ} → w ≡ WrittenCase.Done n → n < 4294967296
-    size-fits e = let q = write-size e in omega (arith, q .1, length-fits (q .0))
+    unfolding writesFile
+    size-fits {n} e =
+        let q = reply-value (answer s (writesFile file)) (length (fileOf (contentsOf s)) ∷ []) (sym (ap writtenOf e) ∙ p ∙ reply-tells s _) in
+        let same : n ≡ length (fileOf (contentsOf s)) = cc in
+        omega (arith, same, length-fits (q .0))
 
 module _ (l : Lent) (file result : List ℕ) where
-  pub write-too-short : (length (l .numbers) < recordSize) ⊎ (length result < 1)
-      → (1 ≡ code (writeVerdict l file result)) × ((file ≡ writeFile l file result) × (result ≡ writeLength l file result))
-  unfolding writeVerdict writeFile writeLength
-  write-too-short h = let e = lacks-one (l .numbers) result h in (code-too-short _ e, (output-too-short _ e _ file, output-too-short _ e _ result))
+  abbrev writing : Call
+  writing = writesFile file
 
-  abbrev writes : Contents → List Reason
-  writes H = writeReasons H (length file)
+  -- it answers the code c, and leaves this file and this result
+  abbrev WriteSettled : ℕ → List ℕ → List ℕ → Type 0
+  WriteSettled c new n =
+      (c ≡ code (cVerdict l (lacks 1 result) writing))
+      × ((new ∷ [] ≡ cOutput l (lacks 1 result) writing .lists) × (n ≡ over (cOutput l (lacks 1 result) writing .numbers) result))
+
+  pub write-too-short : lacks recordSize (l .numbers) || lacks 1 result ≡ true → WriteSettled 1 file result
+  unfolding writesFile lentTo
+  write-too-short h =
+      let e = asked-too-short l writing _ h in
+      (e .0, (ap (λ (o : Output). o .lists) (e .1), ap (λ (o : Output). over (o .numbers) result) (e .1)))
 
   -- what `write` answers of the record as the code holds it
-  module _ {r : Dataset} (R : Reads l r 1 result) (w : Written) {new : List ℕ} (p : writtenOf w ≡ writeReply (withRecord l r) (length file))
-      (t : new ≡ writeLeaves (withRecord l r) file) where
-    filed : new ≡ writeFile l file result
-    unfolding writeFile writeVerdict writeAnswer writeLeaves output
-    filed = output-own R writes fileOf file t
-
-    abbrev lengths : Contents → List ℕ
-    lengths H = length (fileOf H) ∷ []
-
-    pub write-refused : {why : Refusal} {c : ℕ} → w ≡ WrittenCase.Refused why → c ≡ code (refused (numbered why))
-        → (c ≡ code (writeVerdict l file result)) × ((new ≡ writeFile l file result) × (result ≡ writeLength l file result))
-    unfolding writeVerdict writeLength writeAnswer
+  module _ {r : Dataset} (R : Reads l r 1 result) (w : Written) {new : List ℕ} (p : writtenOf w ≡ reply (withRecord l r) writing)
+      (t : new ∷ [] ≡ output (withRecord l r) writing .lists) where
+    pub write-refused : {why : Refusal} {c : ℕ} → w ≡ WrittenCase.Refused why → c ≡ code (refused (numbered why)) → WriteSettled c new result
+    unfolding writesFile lentTo
     write-refused e f =
-        let y = write-why (length file) (withRecord l r) w p e in
-        (f ∙ code-own R writes y, (filed, output-own R writes lengths result (output-refused _ result y)))
+        let y = write-why file (withRecord l r) w p e in (
+          f ∙ code-own R writing y,
+          (lists-own R writing t, numbers-own R writing {xs = []} result (ap (λ (o : Output). o .numbers) (refused-output (withRecord l r) writing y)) refl),
+        )
 
-    pub write-done : {n : ℕ} → w ≡ WrittenCase.Done n
-        → (0 ≡ code (writeVerdict l file result)) × ((new ≡ writeFile l file result) × (set result 0 n ≡ writeLength l file result))
-    unfolding writeVerdict writeLength writeAnswer
+    pub write-done : {n : ℕ} → w ≡ WrittenCase.Done n → WriteSettled 0 new (set result 0 n)
     write-done {n} e =
-        let y = write-size (length file) (withRecord l r) w p e in
-        let one = first-set n result (R .enough) ∙ ap (λ z. over (z ∷ []) result) (y .1) in
-        (code-own R writes (y .0), (filed, output-own R writes lengths result (output-done _ result (y .0) one)))
+        let y = write-numbers file (withRecord l r) w p e in
+        (code-own R writing (y .0), (lists-own R writing t, numbers-own R writing result (y .1) (first-set n result (R .enough))))

@@ -1,23 +1,32 @@
 -- From the bill of the tariff's core to Block's reply and to the twelve numbers that are written. Assumes nothing.
-use Prim.Native.Nat.{ℕ, suc}
+use Prim.Native.Nat.{ℕ}
+use native.Mathlib.Omega.{arith}
 use mathlib.Core.Path.{_≡_, refl, sym, ap, _∙_}
-use mathlib.Core.List.{List, [], _∷_}
-use lib.ListN.{length, getD, replicate}
+use mathlib.Core.List.{List, [], _∷_, _++_}
+use lib.ListN.{length, getD, take, drop, replicate, length-replicate}
 use Rattle.lists.specs.Lists.{tabulate, overwrite, over}
 use Rattle.lists.proofs.Tables.{length-tabulate, tabulate-is}
-use Rattle.study.specs.Limits.{maxSettings}
+use Rattle.study.specs.declared.BlockRecord.{BlockRecord}
+use Rattle.study.specs.declared.Refusal.{Refusal}
+use Rattle.study.specs.declared.Blocked.{Blocked}
 use Rattle.study.specs.declared.Blocked.the-variants as BlockedCase
-use Rattle.study.specs.Study.{Study}
-use Rattle.study.specs.Refusals.{accepted, settled}
-use Rattle.study.specs.Calls.{figures, blockedOf}
-use Rattle.validity.specs.Memory.{State, studyOf}
-use Rattle.blocking.specs.Answers.{blockAnswer, blockReply}
-use Rattle.pricing.specs.Tariff.{total, shares}
+use Rattle.study.specs.Refusals.{numbered, accepted, refused, value, replied}
+use Rattle.study.specs.Calls.{figures}
+use Rattle.study.proofs.CallLaws.{reply-value}
+use Rattle.validity.specs.Memory.{State, studyOf, contentsOf}
+use Rattle.access.specs.Calls.{answer, reply, output}
+use Rattle.access.specs.Calls.{lent as lentTo}
+use Rattle.access.proofs.AccessLaws.{replies-refusal, reply-tells}
+use Rattle.blocking.specs.declared.block.BlockRows.{BlockRows}
+use Rattle.blocking.specs.Calls.{figureNumbers, makesBlocks, blockedReply}
+use Rattle.blocking.specs.Rows.{noRecord, Lending, RowsOf}
+use Rattle.pricing.specs.Tariff.{shares}
 use Rattle.priced_blocks.specs.declared.core.Priced.{Priced}
-use Rattle.priced_blocks.specs.Answers.{Bill, billOf, tariffReply}
-use Rattle.guarantee.specs.Runs.{priceNumbers}
-use Rattle.c_api.proofs.RecordLaws.{front-written}
-use Rattle.c_api.proofs.BlockLaws.{block-value}
+use Rattle.priced_blocks.specs.Calls.{priceNumbers, pricesBlocks, withBill, Billed}
+use Rattle.priced_blocks.proofs.ReplyLaws.{as-block, same-records}
+use Rattle.c_records.proofs.RecordLaws.{front-written}
+use Rattle.c_api.proofs.OutputLaws.{reply-why, reply-numbers}
+use Rattle.c_api.proofs.BlockLaws.{Lends}
 
 -- ---- a row of the bill
 
@@ -27,37 +36,55 @@ pub eight-places : (l : List ℕ) → length l ≡ 8
 unfolding tabulate
 eight-places l e = tabulate-is 8 (λ i. getD l i 0) 0 l e (λ i _. refl)
 
-row-written : (S : Study) (old : List ℕ) → overwrite 12 (λ i. getD (priceNumbers S) i 0) old ≡ over (priceNumbers S) old
-unfolding shares
-row-written S old =
-    let e : length (priceNumbers S) ≡ 12 = ap (λ (m : ℕ). suc (suc (suc (suc m)))) (length-tabulate {A = ℕ} 8 _) in
-    ap (λ m. overwrite m (λ i. getD (priceNumbers S) i 0) old) (sym e) ∙ front-written (priceNumbers S) old
+pub prices-lent : (list : List ℕ) → Lends list (pricesBlocks list)
+unfolding pricesBlocks lentTo
+prices-lent list records = refl
 
 -- ---- the bill
 
-module _ (s : State) (list room : ℕ) (P : Priced) (p : billOf P ≡ tariffReply s list room) where
-  pub bill-reply : blockedOf (P .answer) ≡ blockReply s list room
-  unfolding tariffReply
-  bill-reply = ap (λ (B : Bill). B .blocked) p
+module _ (s : State) (list : List ℕ) where
+  -- Block's reply, taken out of the bill's
+  block-reply : (records : List BlockRecord) (a : Blocked) (owed : List ℕ) → withBill a owed ≡ reply s (pricesBlocks list records)
+      → blockedReply a ≡ reply s (makesBlocks list records)
+  unfolding pricesBlocks makesBlocks contentsOf
+  block-reply records (BlockedCase.Done b r w) owed e =
+      let y = reply-value (answer s (pricesBlocks list records)) (priceNumbers (studyOf s)) (e ∙ reply-tells s _) in
+      let three : b ∷ r ∷ w ∷ [] ≡ figureNumbers (figures (studyOf s)) = ap (λ (l : List ℕ). take 3 l) (y .1) in
+      ap value three ∙ sym (reply-tells s _ ∙ ap (λ v. replied v (figureNumbers (figures (studyOf s)))) (sym (as-block s list records) ∙ y .0))
+  block-reply records (BlockedCase.Refused why) owed e =
+      replies-refusal s (makesBlocks list records) (sym (sym (as-block s list records) ∙ reply-why s (pricesBlocks list records) e))
 
-  module _ {b r w : ℕ} (e : P .answer ≡ BlockedCase.Done b r w) where
-    abbrev S : Study
-    S = studyOf s
+  module _ (room : ℕ) (P : Priced) (p : Lending room (λ records. Billed s (pricesBlocks list records) P)) where
+    pub bill-reply : Lending room (λ records. blockedReply (P .answer) ≡ reply s (makesBlocks list records))
+    bill-reply records k = block-reply records (P .answer) (P .total ∷ P .shares) (p records k .replied)
 
-    abbrev known : (blockAnswer s list room ≡ accepted) × (record { blocks = b; radius = r; widest = w } ≡ figures S)
-    known = block-value s list room (P .answer) bill-reply e
+    pub bill-why : {why : Refusal} → P .answer ≡ BlockedCase.Refused why → Lending room (λ records. answer s (pricesBlocks list records) ≡ refused (numbered why))
+    bill-why e records k =
+        reply-why s (pricesBlocks list records) (sym (ap (λ a. withBill a (P .total ∷ P .shares)) e) ∙ p records k .replied)
 
-    total-is : P .total ≡ total S
-    unfolding tariffReply
-    total-is = ap (λ (B : Bill). B .total) p ∙ ap (λ v. settled v (total S) 0) (known .0)
+    pub bill-numbers : {b r w : ℕ} → P .answer ≡ BlockedCase.Done b r w
+        → Lending room (λ records. (answer s (pricesBlocks list records) ≡ accepted)
+        × (output s (pricesBlocks list records) .numbers ≡ b ∷ r ∷ w ∷ P .total ∷ P .shares))
+    bill-numbers e records k =
+        reply-numbers s (pricesBlocks list records) (sym (ap (λ a. withBill a (P .total ∷ P .shares)) e) ∙ p records k .replied)
 
-    shares-are : P .shares ≡ shares S
-    unfolding tariffReply
-    shares-are = ap (λ (B : Bill). B .shares) p ∙ ap (λ v. settled v (shares S) (replicate maxSettings 0)) (known .0)
+    pub bill-eight : {b r w : ℕ} → P .answer ≡ BlockedCase.Done b r w → length (P .shares) ≡ 8
+    unfolding pricesBlocks contentsOf shares
+    bill-eight e =
+        let records = replicate room noRecord in
+        let told = p records (length-replicate room noRecord) .replied in
+        ap (λ (l : List ℕ). length (drop 4 l))
+        (reply-value (answer s (pricesBlocks list records)) (priceNumbers (studyOf s))
+        (sym (ap (λ a. withBill a (P .total ∷ P .shares)) e) ∙ told ∙ reply-tells s _) .1)
+        ∙ length-tabulate {A = ℕ} 8 _
 
-    numbers-are : b ∷ r ∷ w ∷ P .total ∷ P .shares ≡ priceNumbers S
-    numbers-are = λ i. known .1 i .blocks ∷ known .1 i .radius ∷ known .1 i .widest ∷ total-is i ∷ shares-are i
+    pub bill-rows : {rows : BlockRows} → RowsOf s (pricesBlocks list) room rows → RowsOf s (makesBlocks list) room rows
+    bill-rows R = record { fits = R .fits; few = R .few; records = λ l k. R .records l k ∙ sym (same-records s list l) }
 
-    pub written-bill : {row new : List ℕ} (old : List ℕ) → row ≡ b ∷ r ∷ w ∷ P .total ∷ P .shares → new ≡ overwrite 12 (λ i. getD row i 0) old
-        → new ≡ over (priceNumbers S) old
-    written-bill old f q = q ∙ ap (λ xs. overwrite 12 (λ i. getD xs i 0) old) (f ∙ numbers-are) ∙ row-written S old
+-- twelve numbers, written
+pub written-bill : {b r w t : ℕ} {shares row new : List ℕ} (old : List ℕ) → length shares ≡ 8 → row ≡ b ∷ r ∷ w ∷ t ∷ shares
+    → new ≡ overwrite 12 (λ i. getD row i 0) old → new ≡ over (b ∷ r ∷ w ∷ t ∷ shares) old
+written-bill {b} {r} {w} {t} {shares} old eight e q =
+    let xs = b ∷ r ∷ w ∷ t ∷ shares in
+    let long : 12 ≡ length xs = omega (arith, eight) in
+    q ∙ ap (λ ys. overwrite 12 (λ i. getD ys i 0) old) e ∙ ap (λ m. overwrite m (λ i. getD xs i 0) old) long ∙ front-written xs old

@@ -2,35 +2,37 @@
 // A dataset's record is 15 numbers of 16 bits: k, n, b0, b1 .. b8, and each user's withdrawals. Each call answers 0, or the refusal's number;
 // for 7 its pair i < j besides, as 7 + 256 i + 65,536 j. A single number has 32 bits, and is narrowed where the call behind takes a byte:
 // the contracts speak of the number as it is given. include/tides.h declares them.
-use crate::code::answer_code;
-use crate::code::refusal_code;
-use crate::numbers::RECORD_SIZE;
-use crate::numbers::dataset_of;
-use crate::numbers::minima_of;
-use crate::numbers::store_outcome;
-use crate::rows::least;
-use crate::rows::put_columns;
-use crate::rows::put_numbers;
 use blocking::block::block_core;
 use blocking::centres::centres_into;
 use blocking::judge::judge;
+use c_records::code::answer_code;
+use c_records::code::refusal_code;
+use c_records::numbers::RECORD_SIZE;
+use c_records::numbers::dataset_of;
+use c_records::numbers::minima_of;
+use c_records::numbers::store_outcome;
+use c_records::rows::least;
+use c_records::rows::put_columns;
+use c_records::rows::put_numbers;
 use narrowing::narrow;
 use study::Answer;
 use study::Blocked;
 use study::Judged;
 use study_file::Written;
 
-mod code;
 pub mod mend;
-mod numbers;
-mod rows;
 pub mod tariff;
 
 ghost use mathlib.Core.Path.{_≡_};
-ghost use Rattle.blocking.specs.Answers.{entryLists, exitLists};
-ghost use Rattle.c_api.specs.Api.{lent, code, openVerdict, openLeft, minimaVerdict, minimaLeft, enterVerdict, enterLeft};
-ghost use Rattle.c_api.specs.Api.{withdrawVerdict, withdrawLeft, readVerdict, readLeft, centresVerdict, centresLeft, centresCount};
-ghost use Rattle.c_api.specs.Api.{places, blockVerdict, blockLeft, judgeVerdict, judgeResult, writeVerdict, writeFile, writeLength};
+ghost use mathlib.Core.Bool.{false};
+ghost use mathlib.Core.List.{[], _∷_};
+ghost use Rattle.lists.specs.Lists.{over};
+ghost use Rattle.dataset.specs.Calls.{opensDataset, setsMinima, entersTide, withdrawsTide};
+ghost use Rattle.study_file.specs.Calls.{readsFile, writesFile};
+ghost use Rattle.blocking.specs.Calls.{entryLists, exitLists, allThree, findsCentres, makesBlocks, judgesList};
+ghost use Rattle.c_records.specs.Record.{lent, entryLent, exitLent, minimaAt, code};
+ghost use Rattle.c_api.specs.Api.{lacks, cVerdict, cLeft, cOutput};
+ghost use Rattle.c_api.specs.Api.{entryPlaces, exitPlaces, recordsIn, filled};
 
 // Open: an empty dataset with k settings.
 #[no_mangle]
@@ -40,9 +42,9 @@ pub extern "C" fn tides_open(
     settings: &mut [u8],
     k: u32,
 ) -> u32
-    ensures code { λ r. ⌜ r ≡ code (openVerdict (lent (now (numbers .entry)) (now (distances .entry)) (now (settings .entry))) k) ⌝ }
-    ensures leaves { λ _. ⌜ lent (now (numbers .exit)) (now (distances .exit)) (now (settings .exit))
-        ≡ openLeft (lent (now (numbers .entry)) (now (distances .entry)) (now (settings .entry))) k ⌝ }
+    ensures code { λ r. ⌜ r ≡ code (cVerdict (entryLent numbers distances settings) false (opensDataset k)) ⌝ }
+    ensures leaves { λ _. ⌜ exitLent numbers distances settings
+        ≡ cLeft (entryLent numbers distances settings) false (opensDataset k) ⌝ }
 {
     if numbers.len() < RECORD_SIZE {
         return 1;
@@ -60,9 +62,9 @@ pub extern "C" fn tides_minima(
     minima: &[u8],
 ) -> u32
     ensures code { λ r. ⌜ r
-        ≡ code (minimaVerdict (lent (now (numbers .entry)) (now (distances .entry)) (now (settings .entry))) (now (minima .entry))) ⌝ }
+        ≡ code (cVerdict (entryLent numbers distances settings) (lacks 9 (now (minima .entry))) (setsMinima (minimaAt 0 (now (minima .entry))))) ⌝ }
     ensures leaves { λ _. ⌜ lent (now (numbers .exit)) (now (distances .entry)) (now (settings .entry))
-        ≡ minimaLeft (lent (now (numbers .entry)) (now (distances .entry)) (now (settings .entry))) (now (minima .entry)) ⌝ }
+        ≡ cLeft (entryLent numbers distances settings) (lacks 9 (now (minima .entry))) (setsMinima (minimaAt 0 (now (minima .entry)))) ⌝ }
 {
     if numbers.len() < RECORD_SIZE {
         return 1;
@@ -84,9 +86,9 @@ pub extern "C" fn tides_enter(
     row: &[u32],
 ) -> u32
     ensures code { λ r. ⌜ r
-        ≡ code (enterVerdict (lent (now (numbers .entry)) (now (distances .entry)) (now (settings .entry))) setting (now (row .entry))) ⌝ }
-    ensures leaves { λ _. ⌜ lent (now (numbers .exit)) (now (distances .exit)) (now (settings .exit))
-        ≡ enterLeft (lent (now (numbers .entry)) (now (distances .entry)) (now (settings .entry))) setting (now (row .entry)) ⌝ }
+        ≡ code (cVerdict (entryLent numbers distances settings) false (entersTide setting (now (row .entry)))) ⌝ }
+    ensures leaves { λ _. ⌜ exitLent numbers distances settings
+        ≡ cLeft (entryLent numbers distances settings) false (entersTide setting (now (row .entry))) ⌝ }
 {
     if numbers.len() < RECORD_SIZE {
         return 1;
@@ -110,9 +112,9 @@ pub extern "C" fn tides_withdraw(
     user: u32,
     tide: u32,
 ) -> u32
-    ensures code { λ r. ⌜ r ≡ code (withdrawVerdict (lent (now (numbers .entry)) (now (distances .entry)) (now (settings .entry))) user tide) ⌝ }
-    ensures leaves { λ _. ⌜ lent (now (numbers .exit)) (now (distances .exit)) (now (settings .exit))
-        ≡ withdrawLeft (lent (now (numbers .entry)) (now (distances .entry)) (now (settings .entry))) user tide ⌝ }
+    ensures code { λ r. ⌜ r ≡ code (cVerdict (entryLent numbers distances settings) false (withdrawsTide user tide)) ⌝ }
+    ensures leaves { λ _. ⌜ exitLent numbers distances settings
+        ≡ cLeft (entryLent numbers distances settings) false (withdrawsTide user tide) ⌝ }
 {
     if numbers.len() < RECORD_SIZE {
         return 1;
@@ -136,9 +138,9 @@ pub extern "C" fn tides_read(
     file: &[u8],
 ) -> u32
     ensures code { λ r. ⌜ r
-        ≡ code (readVerdict (lent (now (numbers .entry)) (now (distances .entry)) (now (settings .entry))) (now (file .entry))) ⌝ }
-    ensures leaves { λ _. ⌜ lent (now (numbers .exit)) (now (distances .exit)) (now (settings .exit))
-        ≡ readLeft (lent (now (numbers .entry)) (now (distances .entry)) (now (settings .entry))) (now (file .entry)) ⌝ }
+        ≡ code (cVerdict (entryLent numbers distances settings) false (readsFile (now (file .entry)))) ⌝ }
+    ensures leaves { λ _. ⌜ exitLent numbers distances settings
+        ≡ cLeft (entryLent numbers distances settings) false (readsFile (now (file .entry))) ⌝ }
 {
     if numbers.len() < RECORD_SIZE {
         return 1;
@@ -161,12 +163,12 @@ pub extern "C" fn tides_centres(
     count: &mut [u16],
 ) -> u32
     ensures code { λ r. ⌜ r
-        ≡ code (centresVerdict (lent (now (numbers .entry)) (now (distances .entry)) (now (settings .entry))) (entryLists list nearest away)
-        (now (count .entry))) ⌝ }
-    ensures lists { λ _. ⌜ exitLists list nearest away
-        ≡ centresLeft (lent (now (numbers .entry)) (now (distances .entry)) (now (settings .entry))) g (entryLists list nearest away) (now (count .entry)) ⌝ }
+        ≡ code (cVerdict (entryLent numbers distances settings) (lacks 1 (now (count .entry))) (findsCentres g (entryLists list nearest away))) ⌝ }
+    ensures lists { λ _. ⌜ allThree (exitLists list nearest away)
+        ≡ cOutput (entryLent numbers distances settings) (lacks 1 (now (count .entry))) (findsCentres g (entryLists list nearest away)) .lists ⌝ }
     ensures count { λ _. ⌜ now (count .exit)
-        ≡ centresCount (lent (now (numbers .entry)) (now (distances .entry)) (now (settings .entry))) g (entryLists list nearest away) (now (count .entry)) ⌝ }
+        ≡ over (cOutput (entryLent numbers distances settings) (lacks 1 (now (count .entry))) (findsCentres g (entryLists list nearest away)) .numbers)
+        (now (count .entry)) ⌝ }
 {
     if numbers.len() < RECORD_SIZE {
         return 1;
@@ -204,11 +206,12 @@ pub extern "C" fn tides_block(
     result: &mut [u32],
 ) -> u32
     ensures code { λ r. ⌜ r
-        ≡ code (blockVerdict (lent (now (numbers .entry)) (now (distances .entry)) (now (settings .entry)))
-        (places (now (list .entry)) (now (centres .entry)) (now (sizes .entry)) (now (diameters .entry)) (now (result .entry)))) ⌝ }
-    ensures leaves { λ _. ⌜ places (now (list .exit)) (now (centres .exit)) (now (sizes .exit)) (now (diameters .exit)) (now (result .exit))
-        ≡ blockLeft (lent (now (numbers .entry)) (now (distances .entry)) (now (settings .entry)))
-        (places (now (list .entry)) (now (centres .entry)) (now (sizes .entry)) (now (diameters .entry)) (now (result .entry))) ⌝ }
+        ≡ code (cVerdict (entryLent numbers distances settings) (lacks 3 (now (result .entry)))
+        (makesBlocks (now (list .entry)) (recordsIn (entryPlaces list centres sizes diameters result)))) ⌝ }
+    ensures leaves { λ _. ⌜ exitPlaces list centres sizes diameters result
+        ≡ filled (cOutput (entryLent numbers distances settings) (lacks 3 (now (result .entry)))
+        (makesBlocks (now (list .entry)) (recordsIn (entryPlaces list centres sizes diameters result))))
+        (entryPlaces list centres sizes diameters result) ⌝ }
 {
     if numbers.len() < RECORD_SIZE {
         return 1;
@@ -242,9 +245,9 @@ pub extern "C" fn tides_judge(
     result: &mut [u32],
 ) -> u32
     ensures code { λ r. ⌜ r
-        ≡ code (judgeVerdict (lent (now (numbers .entry)) (now (distances .entry)) (now (settings .entry))) (now (list .entry)) (now (result .entry))) ⌝ }
+        ≡ code (cVerdict (entryLent numbers distances settings) (lacks 2 (now (result .entry))) (judgesList (now (list .entry)))) ⌝ }
     ensures result { λ _. ⌜ now (result .exit)
-        ≡ judgeResult (lent (now (numbers .entry)) (now (distances .entry)) (now (settings .entry))) (now (list .entry)) (now (result .entry)) ⌝ }
+        ≡ over (cOutput (entryLent numbers distances settings) (lacks 2 (now (result .entry))) (judgesList (now (list .entry))) .numbers) (now (result .entry)) ⌝ }
 {
     if numbers.len() < RECORD_SIZE {
         return 1;
@@ -278,11 +281,11 @@ pub extern "C" fn tides_write(
     result: &mut [u32],
 ) -> u32
     ensures code { λ r. ⌜ r
-        ≡ code (writeVerdict (lent (now (numbers .entry)) (now (distances .entry)) (now (settings .entry))) (now (file .entry)) (now (result .entry))) ⌝ }
-    ensures file { λ _. ⌜ now (file .exit)
-        ≡ writeFile (lent (now (numbers .entry)) (now (distances .entry)) (now (settings .entry))) (now (file .entry)) (now (result .entry)) ⌝ }
+        ≡ code (cVerdict (entryLent numbers distances settings) (lacks 1 (now (result .entry))) (writesFile (now (file .entry)))) ⌝ }
+    ensures file { λ _. ⌜ now (file .exit) ∷ []
+        ≡ cOutput (entryLent numbers distances settings) (lacks 1 (now (result .entry))) (writesFile (now (file .entry))) .lists ⌝ }
     ensures length { λ _. ⌜ now (result .exit)
-        ≡ writeLength (lent (now (numbers .entry)) (now (distances .entry)) (now (settings .entry))) (now (file .entry)) (now (result .entry)) ⌝ }
+        ≡ over (cOutput (entryLent numbers distances settings) (lacks 1 (now (result .entry))) (writesFile (now (file .entry))) .numbers) (now (result .entry)) ⌝ }
 {
     if numbers.len() < RECORD_SIZE {
         return 1;

@@ -1,9 +1,10 @@
 // The metric closure for C (document 02, 2.1: mending a measured table).
-use crate::code::refusal_code;
+use c_records::code::refusal_code;
 use metric_closure::Closed;
 use metric_closure::close;
 ghost use mathlib.Core.Path.{_≡_};
-ghost use Rattle.c_api.specs.Api.{code, mendVerdict, mendTable, mendResult};
+ghost use Rattle.c_records.specs.Record.{code};
+ghost use Rattle.c_api.specs.Api.{mendVerdict, mendTable, mendResult};
 
 // Lowers each distance of n rows of n to the least sum over any chain of tides: how many pairs were lowered goes into `result`.
 #[no_mangle]

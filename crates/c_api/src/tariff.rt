@@ -1,16 +1,18 @@
 // Block with what its blocks cost, for C (document 02, 2.3: tariff for a trial).
-use crate::code::refusal_code;
-use crate::numbers::RECORD_SIZE;
-use crate::numbers::dataset_of;
-use crate::rows::least;
-use crate::rows::put_columns;
-use crate::rows::put_numbers;
+use c_records::code::refusal_code;
+use c_records::numbers::RECORD_SIZE;
+use c_records::numbers::dataset_of;
+use c_records::rows::least;
+use c_records::rows::put_columns;
+use c_records::rows::put_numbers;
 use priced_blocks::core::Priced;
 use priced_blocks::core::price_core;
 use study::Blocked;
 ghost use mathlib.Core.Path.{_≡_};
 ghost use mathlib.Core.List.{_∷_};
-ghost use Rattle.c_api.specs.Api.{lent, code, places, tariffVerdict, tariffLeft};
+ghost use Rattle.priced_blocks.specs.Calls.{pricesBlocks};
+ghost use Rattle.c_records.specs.Record.{entryLent, code};
+ghost use Rattle.c_api.specs.Api.{lacks, cVerdict, cOutput, entryPlaces, exitPlaces, recordsIn, filled};
 
 // The numbers of an accepted tariff in one row.
 fn bill_row(blocks: u32, radius: u32, widest: u32, priced: Priced) -> [u32; 12]
@@ -46,11 +48,12 @@ pub extern "C" fn tides_tariff(
     result: &mut [u32],
 ) -> u32
     ensures code { λ r. ⌜ r
-        ≡ code (tariffVerdict (lent (now (numbers .entry)) (now (distances .entry)) (now (settings .entry)))
-        (places (now (list .entry)) (now (centres .entry)) (now (sizes .entry)) (now (diameters .entry)) (now (result .entry)))) ⌝ }
-    ensures leaves { λ _. ⌜ places (now (list .exit)) (now (centres .exit)) (now (sizes .exit)) (now (diameters .exit)) (now (result .exit))
-        ≡ tariffLeft (lent (now (numbers .entry)) (now (distances .entry)) (now (settings .entry)))
-        (places (now (list .entry)) (now (centres .entry)) (now (sizes .entry)) (now (diameters .entry)) (now (result .entry))) ⌝ }
+        ≡ code (cVerdict (entryLent numbers distances settings) (lacks 12 (now (result .entry)))
+        (pricesBlocks (now (list .entry)) (recordsIn (entryPlaces list centres sizes diameters result)))) ⌝ }
+    ensures leaves { λ _. ⌜ exitPlaces list centres sizes diameters result
+        ≡ filled (cOutput (entryLent numbers distances settings) (lacks 12 (now (result .entry)))
+        (pricesBlocks (now (list .entry)) (recordsIn (entryPlaces list centres sizes diameters result))))
+        (entryPlaces list centres sizes diameters result) ⌝ }
 {
     if numbers.len() < RECORD_SIZE {
         return 1;

@@ -24,14 +24,11 @@ use Rattle.study.specs.Refusals.{freshReasons, isUser, heldReasons}
 use Rattle.study.specs.Calls.{openReasons, opened, opening, sumOfParts, understood, minimaReasons, withMinima, settingMinima, Pair, violations}
 use Rattle.study.specs.Calls.{duplicated, enterReasons, entered, entering, countOf, withdrawReasons, withdrawn, counted, withdrawing}
 use Rattle.study.specs.Theorems.{ValidContents}
-use Rattle.study.proofs.LadderLaws.{Accepts, ladder-accepts, ladder-refuses}
 use Rattle.study.proofs.CallLaws.{enters, entered-size, withdraws, withdrawn-size}
 use Rattle.study.proofs.DuplicateLaws.{duplicated-same}
 use Rattle.study.proofs.MinimaLaws.{understood-raised, too-much}
 use Rattle.validity.specs.Memory.{State, stateOf, short, isDataset, studyOf, contentsOf, setK, setSize, setMinima, setCounts, recordOf, distancesOf}
 use Rattle.validity.specs.Memory.{settingsOf, stored}
-use Rattle.dataset.specs.Answers.{freshAnswer, freshLeaves, heldAnswer, heldLeaves, openAnswer, openLeaves, minimaAnswer, minimaLeaves, enterAnswer}
-use Rattle.dataset.specs.Answers.{enterLeaves, withdrawAnswer, withdrawLeaves}
 use Rattle.validity.proofs.ValidityLaws.{isDataset-T, valid-contents, study-size, study-setting, study-distance}
 use Rattle.validity.proofs.LayoutLaws.{long, own-layout}
 use Rattle.triangle.specs.Pairs.{violationOf}
@@ -40,85 +37,26 @@ use Rattle.storage.proofs.PlaceLaws.{cleared-distances, cleared-settings, enter
 use Rattle.storage.specs.Places.{withRow, movedDistance, movedSetting}
 use Rattle.triangle.specs.declared.Violation.{Violation}
 use Rattle.triangle.specs.declared.Violation.the-variants as ViolationCase
-use Rattle.dataset.specs.Accepted.{Passed, testedMinima, duplicateOf, duplicateAnswer, EnterAccepted, WithdrawAccepted}
-
--- a refused call leaves everything
-stays : {a : Answer} {x : Refusal} {v : Verdict} (new old : State) → a ≡ Refused x → verdictOf a ≡ v → old ≡ settled v new old
-stays {a} {x} {v} new old e f = ap (λ w. settled w new old) (sym (ap verdictOf e) ∙ f)
-
--- ---- with what every call begins
-
-module _ (s : State) where
-  -- what a call that asks for no dataset finds of its own
-  pub fresh-own : (own : List Reason) → freshAnswer s own ≡ accepted → (short s ≡ false) × (firstOf own ≡ accepted)
-  unfolding freshAnswer freshReasons firstOf
-  fresh-own own e = by (short s) refl e
-    where
-      by : (b : Bool) → short s ≡ b → cond b (refused (number 1)) (firstOf own) ≡ accepted → (short s ≡ false) × (firstOf own ≡ accepted)
-      by true p h = absurd (let z : _≡_ {A = ℕ} 0 1 = cc in omega arith)
-      by false p h = (p, h)
-
-  -- a call that names these users
-  module _ (users : List ℕ) (own : Contents → List Reason) where
-    pub held-1 : short s ≡ true → refused (number 1) ≡ heldAnswer s users own
-    unfolding heldAnswer heldReasons freshReasons firstOf
-    held-1 e = rw e
-
-    pub held-14 : short s ≡ false → allOf isUser users ≡ false → refused (number 14) ≡ heldAnswer s users own
-    unfolding heldAnswer heldReasons freshReasons firstOf
-    held-14 e u = rw (e, u)
-
-    pub held-21 : short s ≡ false → allOf isUser users ≡ true → isDataset s ≡ false → refused (number 21) ≡ heldAnswer s users own
-    unfolding heldAnswer heldReasons freshReasons firstOf
-    held-21 e u f = rw (e, u, f)
-
-    pub users-own : short s ≡ false → allOf isUser users ≡ true → isDataset s ≡ true → firstOf (own (contentsOf s)) ≡ heldAnswer s users own
-    unfolding heldAnswer heldReasons freshReasons firstOf
-    users-own e u f = rw (e, u, f)
-
-    -- what an accepted call tells
-    abbrev pub HeldAccepted : Type 0
-    HeldAccepted = Accepts (short s) users (isDataset s) (own (contentsOf s))
-
-    pub accepted-held : heldAnswer s users own ≡ accepted → HeldAccepted
-    unfolding heldAnswer
-    accepted-held e = ladder-accepts (short s) users (isDataset s) (own (contentsOf s)) e
-
-    -- what refuses before the call's own reasons refuses the call
-    pub held-refused : {a : Answer} {x : Refusal} → a ≡ Refused x → verdictOf a ≡ heldAnswer s users (λ _. []) → verdictOf a ≡ heldAnswer s users own
-    unfolding heldAnswer
-    held-refused e f =
-        let q = ap verdictOf e in
-        q ∙ sym (ladder-refuses (short s) users (isDataset s) (own (contentsOf s)) (sym f ∙ q))
-
-  -- one that names none
-  pub held-own : (own : Contents → List Reason) → short s ≡ false → isDataset s ≡ true → firstOf (own (contentsOf s)) ≡ heldAnswer s [] own
-  held-own own e f = users-own [] own e refl f
-
-  pub passed-by : short s ≡ false → isDataset s ≡ true → Passed s
-  passed-by e f = record { not-short = e; tested = f; study = isDataset-T s .0 (true-T (isDataset s) f) .study; long = long s e }
-
-  pub passed : {a : Answer} (users : List ℕ) → a ≡ Done → verdictOf a ≡ heldAnswer s users (λ _. []) → Passed s
-  passed users e f = let h = accepted-held users (λ _. []) (sym (sym (ap verdictOf e) ∙ f)) in passed-by (h .not-short) (h .tested)
-
--- so its contents are valid
-pub passed-valid : (s : State) → Passed s → ValidContents (contentsOf s)
-passed-valid s P = valid-contents s (isDataset-T s .0 (true-T (isDataset s) (P .tested)))
+use Rattle.access.specs.Calls.{nobody, theUser, verdict, reasons, answer, made, after}
+use Rattle.access.specs.Passed.{Passed, heldAnswer}
+use Rattle.access.proofs.AccessLaws.{accepted-held, held-own, user-own, user-known, user-place, passed-by, leaves}
+use Rattle.dataset.specs.Calls.{opensDataset, setsMinima, entersTide, withdrawsTide}
+use Rattle.dataset.specs.Accepted.{testedMinima, duplicateOf, duplicateAnswer, EnterAccepted, WithdrawAccepted}
 
 -- ---- Open
 
 module _ (s : State) (k : ℕ) where
-  pub open-1 : short s ≡ true → (refused (number 1) ≡ openAnswer s k) × (s ≡ openLeaves s k)
-  unfolding openLeaves openAnswer freshLeaves freshAnswer freshReasons firstOf
+  pub open-1 : short s ≡ true → (refused (number 1) ≡ answer s (opensDataset k)) × (s ≡ after s (opensDataset k))
+  unfolding opensDataset after answer verdict reasons freshReasons firstOf
   open-1 e = (rw e, rw e)
 
   module _ (e : short s ≡ false) where
-    pub open-2 : between 1 8 k ≡ false → (refused (number 2) ≡ openAnswer s k) × (s ≡ openLeaves s k)
-    unfolding openLeaves openAnswer freshLeaves freshAnswer freshReasons openReasons firstOf
+    pub open-2 : between 1 8 k ≡ false → (refused (number 2) ≡ answer s (opensDataset k)) × (s ≡ after s (opensDataset k))
+    unfolding opensDataset after made answer verdict reasons freshReasons openReasons firstOf
     open-2 f = (rw (e, f), rw (e, f))
 
-    open-done : between 1 8 k ≡ true → (accepted ≡ openAnswer s k) × (stored (opening k) s ≡ openLeaves s k)
-    unfolding openLeaves openAnswer freshLeaves freshAnswer freshReasons openReasons firstOf
+    open-done : between 1 8 k ≡ true → (accepted ≡ answer s (opensDataset k)) × (stored (opening k) s ≡ after s (opensDataset k))
+    unfolding opensDataset after made answer verdict reasons freshReasons openReasons firstOf
     open-done f = (rw (e, f), rw (e, f))
 
     -- the record that Open makes, over cleared memory
@@ -126,26 +64,11 @@ module _ (s : State) (k : ℕ) where
     emptied = setK k (setSize 0 (setMinima (record { b0 = 1; b = replicate 8 0 }) (setCounts (replicate 4 0) (s .dataset))))
 
     pub opened-state : {d g : List ℕ} → between 1 8 k ≡ true → d ≡ overwrite 14400 (λ _. 0) (s .distances) → g ≡ overwrite 120 (λ _. 0) (s .settings)
-        → (accepted ≡ openAnswer s k) × (stateOf emptied d g ≡ openLeaves s k)
+        → (accepted ≡ answer s (opensDataset k)) × (stateOf emptied d g ≡ after s (opensDataset k))
     unfolding stored opening recordOf opened
     opened-state {d} {g} f p q =
         let w = open-done f in
         (w .0, ap₂ (stateOf emptied) (p ∙ cleared-distances k (s .distances)) (q ∙ cleared-settings k (s .settings)) ∙ w .1)
-
--- ---- refused
-
-module _ (s : State) {a : Answer} {x : Refusal} (e : a ≡ Refused x) where
-  pub minima-stays : (M : Minima) → verdictOf a ≡ minimaAnswer s M → s ≡ minimaLeaves s M
-  unfolding minimaLeaves heldLeaves minimaAnswer
-  minima-stays M f = stays (stored (settingMinima M (contentsOf s)) s) s e f
-
-  pub enter-stays : (setting : ℕ) (row : List ℕ) → verdictOf a ≡ enterAnswer s setting row → s ≡ enterLeaves s setting row
-  unfolding enterLeaves heldLeaves enterAnswer
-  enter-stays setting row f = stays (stored (entering setting row (contentsOf s)) s) s e f
-
-  pub withdraw-stays : (u t : ℕ) → verdictOf a ≡ withdrawAnswer s u t → s ≡ withdrawLeaves s u t
-  unfolding withdrawLeaves heldLeaves withdrawAnswer
-  withdraw-stays u t f = stays (stored (withdrawing u t (contentsOf s)) s) s e f
 
 -- ---- Minima
 
@@ -175,8 +98,8 @@ module _ (k : ℕ) (M : Minima) {N : Minima} (e : N ≡ testedMinima M) where
   tested-is f = ⊎-elim (λ q. q) (λ n. absurd (true≢false (sym f ∙ n .0))) understood-or-invalid
 
 module _ (s : State) (M : Minima) (P : Passed s) where
-  minima-own : (v : Verdict) → firstOf (minimaReasons (studyOf s) M) ≡ v → v ≡ minimaAnswer s M
-  unfolding minimaAnswer contentsOf
+  minima-own : (v : Verdict) → firstOf (minimaReasons (studyOf s) M) ≡ v → v ≡ answer s (setsMinima M)
+  unfolding setsMinima answer verdict reasons heldAnswer contentsOf
   minima-own v q = sym q ∙ held-own s (λ H. minimaReasons (H .study) M) (P .not-short) (P .tested)
 
   -- the record with other minima, over the same memory
@@ -188,18 +111,18 @@ module _ (s : State) (M : Minima) (P : Passed s) where
   minima-laid = sym (ap (with-minima (understood M)) (own-layout s (P .study) (P .not-short)))
 
   module _ {N : Minima} (e : N ≡ testedMinima M) where
-    pub minima-3 : validMinima (s .dataset .k) N ≡ false → (refused (number 3) ≡ minimaAnswer s M) × (s ≡ minimaLeaves s M)
-    unfolding minimaLeaves heldLeaves minimaAnswer minimaReasons firstOf studyOf
+    pub minima-3 : validMinima (s .dataset .k) N ≡ false → (refused (number 3) ≡ answer s (setsMinima M)) × (s ≡ after s (setsMinima M))
+    unfolding minimaReasons firstOf studyOf after
     minima-3 f =
         let a = minima-own (refused (number 3)) (rw (tested-valid (s .dataset .k) M e, f)) in
-        (a, ap (λ v. settled v (stored (settingMinima M (contentsOf s)) s) s) a)
+        (a, ap (λ v. settled v (made s (setsMinima M)) s) a)
 
-    pub minima-done : validMinima (s .dataset .k) N ≡ true → (accepted ≡ minimaAnswer s M) × (with-minima N s ≡ minimaLeaves s M)
-    unfolding minimaLeaves heldLeaves minimaAnswer minimaReasons firstOf studyOf
+    pub minima-done : validMinima (s .dataset .k) N ≡ true → (accepted ≡ answer s (setsMinima M)) × (with-minima N s ≡ after s (setsMinima M))
+    unfolding minimaReasons firstOf studyOf setsMinima made
     minima-done f =
         let a = minima-own accepted (rw (tested-valid (s .dataset .k) M e, f)) in
         let laid = ap (λ X. with-minima X s) (tested-is (s .dataset .k) M e f) ∙ minima-laid in
-        (a, laid ∙ ap (λ v. settled v (stored (settingMinima M (contentsOf s)) s) s) a)
+        (a, laid ∙ leaves s (setsMinima M) a)
 
 -- ---- Enter
 
@@ -241,11 +164,11 @@ module _ (s : State) (setting : ℕ) (row : List ℕ) where
   in-range i = leb (getD row i 0) 1048575
 
   module _ (P : Passed s) where
-    enter-own : (v : Verdict) → firstOf (enterReasons S setting row) ≡ v → v ≡ enterAnswer s setting row
-    unfolding enterAnswer contentsOf
+    enter-own : (v : Verdict) → firstOf (enterReasons S setting row) ≡ v → v ≡ answer s (entersTide setting row)
+    unfolding entersTide answer verdict reasons heldAnswer contentsOf
     enter-own v q = sym q ∙ held-own s (λ H. enterReasons (H .study) setting row) (P .not-short) (P .tested)
 
-    pub enter-22 : 120 ≤ n → refused (number 22) ≡ enterAnswer s setting row
+    pub enter-22 : 120 ≤ n → refused (number 22) ≡ answer s (entersTide setting row)
     unfolding enterReasons firstOf
     enter-22 a = enter-own (refused (number 22)) (rw (le-leb 120 (size S) (omega (arith, study-size s))))
 
@@ -253,7 +176,7 @@ module _ (s : State) (setting : ℕ) (row : List ℕ) where
       past-22 : leb 120 (size S) ≡ false
       past-22 = lt-leb 120 (size S) (omega (arith, study-size s))
 
-      pub enter-4 : (length row ≡ n → ⊥) → refused (number 4) ≡ enterAnswer s setting row
+      pub enter-4 : (length row ≡ n → ⊥) → refused (number 4) ≡ answer s (entersTide setting row)
       unfolding enterReasons firstOf
       enter-4 f = enter-own (refused (number 4)) (rw (past-22, ne-eqb (length row) (size S) (λ e. f (e ∙ study-size s))))
 
@@ -261,12 +184,12 @@ module _ (s : State) (setting : ℕ) (row : List ℕ) where
         past-4 : eqb (length row) (size S) ≡ true
         past-4 = eq-eqb (length row) (size S) (long ∙ sym (study-size s))
 
-        pub enter-5 : between 1 (s .dataset .k) setting ≡ false → refused (number 5) ≡ enterAnswer s setting row
+        pub enter-5 : between 1 (s .dataset .k) setting ≡ false → refused (number 5) ≡ answer s (entersTide setting row)
         unfolding enterReasons firstOf studyOf
         enter-5 f = enter-own (refused (number 5)) (rw (past-22, past-4, f))
 
         module _ (kind : between 1 (s .dataset .k) setting ≡ true) where
-          pub enter-6 : every (length row) in-range ≡ false → refused (number 6) ≡ enterAnswer s setting row
+          pub enter-6 : every (length row) in-range ≡ false → refused (number 6) ≡ answer s (entersTide setting row)
           unfolding enterReasons firstOf studyOf
           enter-6 f = enter-own (refused (number 6)) (rw (past-22, past-4, kind, f))
 
@@ -292,36 +215,36 @@ module _ (s : State) (setting : ℕ) (row : List ℕ) where
         ∙ duplicated-same (length row) setting (λ i. tide S i .setting) (λ i. getD (s .settings) i 0) new new
         (λ i l. study-setting s i (omega arith)) (λ i l. refl)
 
-    pub enter-7 : (i j : ℕ) → r ≡ ViolationCase.Pair i j → refused (seven i j) ≡ enterAnswer s setting row
+    pub enter-7 : (i j : ℕ) → r ≡ ViolationCase.Pair i j → refused (seven i j) ≡ answer s (entersTide setting row)
     unfolding enterReasons firstOf studyOf
     enter-7 i j q =
         let f = found-pair broken i j (same ∙ q) in
         enter-own (A .passed) (refused (seven i j))
         (rw (past-22 (A .passed) (A .room), past-4 (A .passed) (A .room) (A .long), A .kind, A .row-fits, f .0) (ap refused (f .1)))
 
-    pub enter-15 : {v : Verdict} → r ≡ ViolationCase.Nothing → v ≡ duplicateAnswer (s .settings) setting row → v ≡ enterAnswer s setting row
+    pub enter-15 : {v : Verdict} → r ≡ ViolationCase.Nothing → v ≡ duplicateAnswer (s .settings) setting row → v ≡ answer s (entersTide setting row)
     unfolding enterReasons firstOf studyOf duplicateAnswer
     enter-15 q p =
         let none = found-nothing broken (same ∙ q) in
         p ∙ enter-own (A .passed) _
         (rw (past-22 (A .passed) (A .room), past-4 (A .passed) (A .room) (A .long), A .kind, A .row-fits, none, same-duplicate))
 
-  pub enter-accepted : {a : Answer} → a ≡ Done → verdictOf a ≡ enterAnswer s setting row → EnterAccepted s setting row
-  unfolding enterAnswer enterLeaves heldLeaves contentsOf
+  pub enter-accepted : {a : Answer} → a ≡ Done → verdictOf a ≡ answer s (entersTide setting row) → EnterAccepted s setting row
+  unfolding entersTide answer verdict reasons heldAnswer made contentsOf
   enter-accepted e f =
-      let q : accepted ≡ enterAnswer s setting row = sym (ap verdictOf e) ∙ f in
-      let h = accepted-held s [] (λ H. enterReasons (H .study) setting row) (sym q) in
+      let q : accepted ≡ answer s (entersTide setting row) = sym (ap verdictOf e) ∙ f in
+      let h = accepted-held s nobody (λ H. enterReasons (H .study) setting row) (sym q) in
       let w = enters (studyOf s) setting row (h .reasons) in
       record {
         passed = passed-by s (h .not-short) (h .tested);
         room = omega (arith, w .measures .room, study-size s);
         length-is = w .measures .length-is ∙ study-size s;
-        leaves = ap (λ v. settled v (stored (entering setting row (contentsOf s)) s) s) q;
+        leaves = leaves s (entersTide setting row) q;
       }
 
   -- one tide more in the record, its row and column and its setting in memory
   pub entered-state : {d g : List ℕ} → EnterAccepted s setting row → d ≡ withRow row (length row) (s .distances) → g ≡ set (s .settings) n setting
-      → stateOf (setSize (n + 1) (s .dataset)) d g ≡ enterLeaves s setting row
+      → stateOf (setSize (n + 1) (s .dataset)) d g ≡ after s (entersTide setting row)
   unfolding stored recordOf contentsOf entering entered studyOf
   entered-state {d} {g} A p q = laid ∙ A .leaves
     where
@@ -339,63 +262,33 @@ module _ (s : State) (setting : ℕ) (row : List ℕ) where
 
 -- ---- Withdraw
 
-one-user : (u : ℕ) → T (isUser u) → allOf isUser (u ∷ []) ≡ true
-one-user u k = rw (T-true (isUser u) k)
-
-user-known : (u : ℕ) → allOf isUser (u ∷ []) ≡ true → T (isUser u)
-user-known u e = T-left (isUser u) true (true-T (allOf isUser (u ∷ [])) e)
-
--- as the code tests it
-pub user-by : (u : ℕ) {n : ℕ} → n ≡ u → 1 ≤ u → leb n 4 ≡ isUser u
-user-by u e l = rw (e, le-leb 1 u l)
-
--- its place among the counts
-pub user-place : (u : ℕ) → T (isUser u) → (1 ≤ u) × (u ≤ 4)
-user-place u k = between-T 1 4 u .0 k
-
--- what the tests before 21 answer of one user
-module _ (s : State) (u : ℕ) where
-  pub user-1 : short s ≡ true → refused (number 1) ≡ heldAnswer s (u ∷ []) (λ _. [])
-  user-1 e = held-1 s (u ∷ []) (λ _. []) e
-
-  pub user-14 : {r : Bool} → short s ≡ false → r ≡ isUser u → not r ≡ true → refused (number 14) ≡ heldAnswer s (u ∷ []) (λ _. [])
-  user-14 e p q = held-14 s (u ∷ []) (λ _. []) e (rw (test-fails p q))
-
-  -- a user changes nothing of what follows
-  pub user-passes : {r : Bool} → short s ≡ false → r ≡ isUser u → not r ≡ false → heldAnswer s [] (λ _. []) ≡ heldAnswer s (u ∷ []) (λ _. [])
-  unfolding heldAnswer heldReasons freshReasons firstOf
-  user-passes e p q = rw (e, test-passes p q)
-
-  pub known-user : {a : Answer} → a ≡ Done → verdictOf a ≡ heldAnswer s (u ∷ []) (λ _. []) → T (isUser u)
-  known-user e f = user-known u (accepted-held s (u ∷ []) (λ _. []) (sym (sym (ap verdictOf e) ∙ f)) .known)
-
 module _ (s : State) (u t : ℕ) where
   module _ (P : Passed s × T (isUser u)) where
-    withdraw-own : (v : Verdict) → firstOf (withdrawReasons (contentsOf s) u t) ≡ v → v ≡ withdrawAnswer s u t
-    unfolding withdrawAnswer
-    withdraw-own v q = sym q ∙ users-own s (u ∷ []) (λ H. withdrawReasons H u t) (P .0 .not-short) (one-user u (P .1)) (P .0 .tested)
+    withdraw-own : (v : Verdict) → firstOf (withdrawReasons (contentsOf s) u t) ≡ v → v ≡ answer s (withdrawsTide u t)
+    unfolding withdrawsTide answer verdict reasons heldAnswer
+    withdraw-own v q = sym q ∙ user-own s u (λ H. withdrawReasons H u t) (P .0) (P .1)
 
     numbers : (b : Bool) → between 1 (s .dataset .n) t ≡ b → between 1 (size (studyOf s)) t ≡ b
     numbers b e = ap (λ (z : ℕ). between 1 z t) (study-size s) ∙ e
 
-    pub withdraw-23 : between 1 (s .dataset .n) t ≡ false → refused (number 23) ≡ withdrawAnswer s u t
+    pub withdraw-23 : between 1 (s .dataset .n) t ≡ false → refused (number 23) ≡ answer s (withdrawsTide u t)
     unfolding withdrawReasons firstOf contentsOf
     withdraw-23 e = withdraw-own (refused (number 23)) (rw (numbers false e))
 
     module _ (held : between 1 (s .dataset .n) t ≡ true) where
-      pub withdraw-26 : 65535 ≤ countOf (s .dataset .withdrawn) u → refused (number 26) ≡ withdrawAnswer s u t
+      pub withdraw-26 : 65535 ≤ countOf (s .dataset .withdrawn) u → refused (number 26) ≡ answer s (withdrawsTide u t)
       unfolding withdrawReasons firstOf contentsOf
       withdraw-26 h = withdraw-own (refused (number 26)) (rw (numbers true held, le-leb 65535 (countOf (s .dataset .withdrawn) u) h))
 
-      pub withdraw-done : countOf (s .dataset .withdrawn) u < 65535 → accepted ≡ withdrawAnswer s u t
+      pub withdraw-done : countOf (s .dataset .withdrawn) u < 65535 → accepted ≡ answer s (withdrawsTide u t)
       unfolding withdrawReasons firstOf contentsOf
       withdraw-done h = withdraw-own accepted (rw (numbers true held, lt-leb 65535 (countOf (s .dataset .withdrawn) u) h))
 
-  pub withdraw-accepted : {a : Answer} → a ≡ Done → verdictOf a ≡ withdrawAnswer s u t → WithdrawAccepted s u t
-  unfolding withdrawAnswer withdrawLeaves heldLeaves contentsOf
+  pub withdraw-accepted : {a : Answer} → a ≡ Done → verdictOf a ≡ answer s (withdrawsTide u t) → WithdrawAccepted s u t
+  unfolding withdrawsTide answer verdict reasons heldAnswer made contentsOf
   withdraw-accepted e f =
-      let q : accepted ≡ withdrawAnswer s u t = sym (ap verdictOf e) ∙ f in
-      let h = accepted-held s (u ∷ []) (λ H. withdrawReasons H u t) (sym q) in
+      let q : accepted ≡ answer s (withdrawsTide u t) = sym (ap verdictOf e) ∙ f in
+      let h = accepted-held s (theUser u) (λ H. withdrawReasons H u t) (sym q) in
       let w = withdraws (contentsOf s) u t (h .reasons) in
       let k = user-place u (user-known u (h .known)) in
       record {
@@ -405,13 +298,13 @@ module _ (s : State) (u t : ℕ) where
         low = w .low;
         high = omega (arith, w .high, study-size s);
         countable = w .countable;
-        leaves = ap (λ v. settled v (stored (withdrawing u t (contentsOf s)) s) s) q;
+        leaves = leaves s (withdrawsTide u t) q;
       }
 
   -- one tide fewer in the record and one withdrawal more of this user, the later tides moved in memory
   pub withdrawn-state : {d g : List ℕ} → WithdrawAccepted s u t → d ≡ overwrite 14400 (movedDistance (s .distances) (t - 1)) (s .distances)
       → g ≡ overwrite 120 (movedSetting (s .settings) (t - 1)) (s .settings)
-      → stateOf (setSize (s .dataset .n - 1) (setCounts (counted u (s .dataset .withdrawn)) (s .dataset))) d g ≡ withdrawLeaves s u t
+      → stateOf (setSize (s .dataset .n - 1) (setCounts (counted u (s .dataset .withdrawn)) (s .dataset))) d g ≡ after s (withdrawsTide u t)
   unfolding stored recordOf contentsOf withdrawing withdrawn studyOf
   withdrawn-state {d} {g} A p q = laid ∙ A .leaves
     where

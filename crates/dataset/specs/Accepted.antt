@@ -1,7 +1,7 @@
--- Inner promises of the calls: what a call may rely on once it is accepted, or once short memory and 21 are past. Assumes nothing.
+-- Inner promises of the calls: what a call may rely on once it is accepted. Assumes nothing.
 use Prim.Native.Nat.{ℕ, _≤_, _<_}
 use mathlib.Core.Path.{_≡_}
-use mathlib.Core.Bool.{Bool, true, false, cond}
+use mathlib.Core.Bool.{Bool, cond}
 use mathlib.Core.List.{List}
 use lib.Dec.{leb}
 use lib.ListN.{length, getD}
@@ -9,16 +9,10 @@ use Rattle.study.specs.Limits.{maxTides, maxUsers, maxWithdrawals}
 use Rattle.study.specs.declared.Minima.{Minima}
 use Rattle.study.specs.Refusals.{number, Verdict, accepted, refused}
 use Rattle.study.specs.Calls.{sumOfParts, understood, alike, duplicated, entering, countOf, withdrawing}
-use Rattle.validity.specs.Memory.{State, short, isDataset, contentsOf, stored}
-use Rattle.dataset.specs.Answers.{enterLeaves, withdrawLeaves}
-use Rattle.validity.specs.Validity.{IsStudy, Long}
-
--- what passes the tests of short memory and 21 is a dataset
-pub record Passed (s : State) : Type 0 where
-  pub not-short : short s ≡ false
-  pub tested : isDataset s ≡ true
-  pub study : IsStudy s
-  pub long : Long s
+use Rattle.validity.specs.Memory.{State, contentsOf, stored}
+use Rattle.access.specs.Calls.{after}
+use Rattle.access.specs.Passed.{Passed}
+use Rattle.dataset.specs.Calls.{entersTide, withdrawsTide}
 
 -- the record that Minima tests: as understood, but as given where the b's are together above 120; then it is refused either way
 abbrev pub testedMinima : Minima → Minima
@@ -38,7 +32,7 @@ pub record EnterAccepted (s : State) (setting : ℕ) (row : List ℕ) : Type 0 w
   pub passed : Passed s
   pub room : s .dataset .n < maxTides
   pub length-is : length row ≡ s .dataset .n
-  pub leaves : stored (entering setting row (contentsOf s)) s ≡ enterLeaves s setting row
+  pub leaves : stored (entering setting row (contentsOf s)) s ≡ after s (entersTide setting row)
 
 -- what an accepted Withdraw by user u tells
 pub record WithdrawAccepted (s : State) (u t : ℕ) : Type 0 where
@@ -48,4 +42,4 @@ pub record WithdrawAccepted (s : State) (u t : ℕ) : Type 0 where
   pub low : 1 ≤ t
   pub high : t ≤ s .dataset .n
   pub countable : countOf (s .dataset .withdrawn) u < maxWithdrawals
-  pub leaves : stored (withdrawing u t (contentsOf s)) s ≡ withdrawLeaves s u t
+  pub leaves : stored (withdrawing u t (contentsOf s)) s ≡ after s (withdrawsTide u t)

@@ -1,3 +1,3 @@
--- Answers, to be read beside document 01. Told: inner promises.
-pub mod Answers
+-- Calls, to be read beside the documents. Accepted: inner promises.
+pub mod Calls
 pub mod Accepted

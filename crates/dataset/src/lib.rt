@@ -18,17 +18,17 @@ mod duplicates;
 
 ghost use mathlib.Core.Path.{_≡_};
 ghost use lib.Dec.{T};
-ghost use mathlib.Core.List.{[], _∷_};
 ghost use Rattle.study.specs.Refusals.{isUser, verdictOf};
 ghost use Rattle.validity.specs.Memory.{stateOf, entryState, exitState};
-ghost use Rattle.dataset.specs.Answers.{heldAnswer, openAnswer, openLeaves, minimaAnswer, minimaLeaves, enterAnswer, enterLeaves, withdrawAnswer};
-ghost use Rattle.dataset.specs.Answers.{withdrawLeaves};
-ghost use Rattle.dataset.specs.Accepted.{Passed, testedMinima, EnterAccepted, WithdrawAccepted};
+ghost use Rattle.access.specs.Calls.{answer, after};
+ghost use Rattle.access.specs.Passed.{Passed};
+ghost use Rattle.dataset.specs.Calls.{opensDataset, setsMinima, entersTide, withdrawsTide};
+ghost use Rattle.dataset.specs.Accepted.{testedMinima, EnterAccepted, WithdrawAccepted};
 
 // The dataset becomes empty, whatever it was.
 pub fn open(dataset: Dataset, distances: &mut [u32], settings: &mut [u8], k: u8) -> Outcome
-    ensures answer { λ r. ⌜ verdictOf (r .answer) ≡ openAnswer (entryState dataset distances settings) k ⌝ }
-    ensures leaves { λ r. ⌜ exitState (r .dataset) distances settings ≡ openLeaves (entryState dataset distances settings) k ⌝ }
+    ensures answer { λ r. ⌜ verdictOf (r .answer) ≡ answer (entryState dataset distances settings) (opensDataset k) ⌝ }
+    ensures leaves { λ r. ⌜ exitState (r .dataset) distances settings ≡ after (entryState dataset distances settings) (opensDataset k) ⌝ }
 {
     if is_short(distances, settings) {
         return Outcome {
@@ -65,42 +65,6 @@ pub fn open(dataset: Dataset, distances: &mut [u32], settings: &mut [u8], k: u8)
     }
 }
 
-// With what every call but Open and Read begins that names no user: short memory (1), then what is no dataset (21).
-pub fn check(dataset: Dataset, distances: &[u32], settings: &[u8]) -> Answer
-    ensures { λ r. ⌜ verdictOf r ≡ heldAnswer (entryState dataset distances settings) [] (λ _. []) ⌝ }
-{
-    if is_short(distances, settings) {
-        return Answer::Refused(Refusal::ShortMemory);
-    }
-    if validity::is_dataset(dataset, distances, settings) {
-        return Answer::Done;
-    }
-    Answer::Refused(Refusal::NotDataset)
-}
-
-// Whether this is a user (document 02, 2.7: keeper).
-fn is_user(user: u8) -> bool
-    ensures { λ r. ⌜ r ≡ isUser user ⌝ }
-{
-    if user < 1 {
-        return false;
-    }
-    wide(user) <= MAX_USERS
-}
-
-// With what a call begins that names a user: short memory (1), a user who is none (14), then what is no dataset (21).
-fn check_user(dataset: Dataset, distances: &[u32], settings: &[u8], user: u8) -> Answer
-    ensures { λ r. ⌜ verdictOf r ≡ heldAnswer (entryState dataset distances settings) (user ∷ []) (λ _. []) ⌝ }
-{
-    if is_short(distances, settings) {
-        return Answer::Refused(Refusal::ShortMemory);
-    }
-    if !is_user(user) {
-        return Answer::Refused(Refusal::NoSuchUser);
-    }
-    check(dataset, distances, settings)
-}
-
 // The record as Minima understands it (document 02, 2.2). One whose b's are together above 120 stays: it is refused as it is.
 fn understood(minima: Minima) -> Minima
     ensures { λ r. ⌜ r ≡ testedMinima minima ⌝ }
@@ -122,10 +86,10 @@ fn understood(minima: Minima) -> Minima
 
 // Replaces the minima by those understood. The memory is only read.
 pub fn set_minima(dataset: Dataset, distances: &[u32], settings: &[u8], minima: Minima) -> Outcome
-    ensures answer { λ r. ⌜ verdictOf (r .answer) ≡ minimaAnswer (entryState dataset distances settings) minima ⌝ }
-    ensures leaves { λ r. ⌜ entryState (r .dataset) distances settings ≡ minimaLeaves (entryState dataset distances settings) minima ⌝ }
+    ensures answer { λ r. ⌜ verdictOf (r .answer) ≡ answer (entryState dataset distances settings) (setsMinima minima) ⌝ }
+    ensures leaves { λ r. ⌜ entryState (r .dataset) distances settings ≡ after (entryState dataset distances settings) (setsMinima minima) ⌝ }
 {
-    let answer = check(dataset, distances, settings);
+    let answer = access::check(dataset, distances, settings);
     let Answer::Done = answer else {
         return Outcome { answer, dataset };
     };
@@ -153,7 +117,7 @@ fn enter_answer(
     row: &[u32],
 ) -> Answer
     requires { ⌜ Passed (stateOf dataset (now distances) (now settings)) ⌝ }
-    ensures { λ r. ⌜ verdictOf r ≡ enterAnswer (entryState dataset distances settings) setting (now (row .entry)) ⌝ }
+    ensures { λ r. ⌜ verdictOf r ≡ answer (entryState dataset distances settings) (entersTide setting (now (row .entry))) ⌝ }
 {
     let k = dataset.k;
     let n = dataset.n;
@@ -188,7 +152,7 @@ fn add_tide(
     row: &[u32],
 ) -> Dataset
     requires { ⌜ EnterAccepted (stateOf dataset (now distances) (now settings)) setting (now row) ⌝ }
-    ensures { λ r. ⌜ exitState r distances settings ≡ enterLeaves (entryState dataset distances settings) setting (now (row .entry)) ⌝ }
+    ensures { λ r. ⌜ exitState r distances settings ≡ after (entryState dataset distances settings) (entersTide setting (now (row .entry))) ⌝ }
 {
     let n = dataset.n;
     storage::put_row(distances, row);
@@ -206,10 +170,10 @@ pub fn enter(
     setting: u8,
     row: &[u32],
 ) -> Outcome
-    ensures answer { λ r. ⌜ verdictOf (r .answer) ≡ enterAnswer (entryState dataset distances settings) setting (now (row .entry)) ⌝ }
-    ensures leaves { λ r. ⌜ exitState (r .dataset) distances settings ≡ enterLeaves (entryState dataset distances settings) setting (now (row .entry)) ⌝ }
+    ensures answer { λ r. ⌜ verdictOf (r .answer) ≡ answer (entryState dataset distances settings) (entersTide setting (now (row .entry))) ⌝ }
+    ensures leaves { λ r. ⌜ exitState (r .dataset) distances settings ≡ after (entryState dataset distances settings) (entersTide setting (now (row .entry))) ⌝ }
 {
-    let first = check(dataset, distances, settings);
+    let first = access::check(dataset, distances, settings);
     let Answer::Done = first else {
         return Outcome {
             answer: first,
@@ -236,7 +200,7 @@ fn withdraw_answer(
     tide: u8,
 ) -> Answer
     requires { ⌜ Passed (stateOf dataset (now distances) (now settings)) × T (isUser user) ⌝ }
-    ensures { λ r. ⌜ verdictOf r ≡ withdrawAnswer (entryState dataset distances settings) user tide ⌝ }
+    ensures { λ r. ⌜ verdictOf r ≡ answer (entryState dataset distances settings) (withdrawsTide user tide) ⌝ }
 {
     let n = dataset.n;
     let counts = dataset.withdrawn;
@@ -262,7 +226,7 @@ fn remove_tide(
     tide: u8,
 ) -> Dataset
     requires { ⌜ WithdrawAccepted (stateOf dataset (now distances) (now settings)) user tide ⌝ }
-    ensures { λ r. ⌜ exitState r distances settings ≡ withdrawLeaves (entryState dataset distances settings) user tide ⌝ }
+    ensures { λ r. ⌜ exitState r distances settings ≡ after (entryState dataset distances settings) (withdrawsTide user tide) ⌝ }
 {
     let m = tide as usize - 1;
     storage::remove_row(distances, m);
@@ -282,10 +246,10 @@ pub fn withdraw(
     user: u8,
     tide: u8,
 ) -> Outcome
-    ensures answer { λ r. ⌜ verdictOf (r .answer) ≡ withdrawAnswer (entryState dataset distances settings) user tide ⌝ }
-    ensures leaves { λ r. ⌜ exitState (r .dataset) distances settings ≡ withdrawLeaves (entryState dataset distances settings) user tide ⌝ }
+    ensures answer { λ r. ⌜ verdictOf (r .answer) ≡ answer (entryState dataset distances settings) (withdrawsTide user tide) ⌝ }
+    ensures leaves { λ r. ⌜ exitState (r .dataset) distances settings ≡ after (entryState dataset distances settings) (withdrawsTide user tide) ⌝ }
 {
-    let first = check_user(dataset, distances, settings, user);
+    let first = access::check_user(dataset, distances, settings, user);
     let Answer::Done = first else {
         return Outcome {
             answer: first,

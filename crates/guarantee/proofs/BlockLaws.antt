@@ -15,7 +15,7 @@ use Rattle.lists.proofs.Tests.{not-not, split, eq→eqb}
 use Rattle.lists.proofs.Counting.{nth, nth-is}
 use Rattle.study.specs.declared.BlockRecord.{BlockRecord}
 use Rattle.study.specs.Problem.{Problem, centres, block, labels, radius, blocking, Feasible}
-use Rattle.study.specs.Study.{Study, Contents, size, tide, sufficient, problem, Valid}
+use Rattle.study.specs.Study.{Study, size, tide, sufficient, problem, Valid}
 use Rattle.study.specs.Refusals.{number, Verdict, accepted, refused, settled, firstOf, freshReasons, heldReasons}
 use Rattle.study.specs.Calls.{blockReasons, Figures, figures, blockRecord}
 use Rattle.study.specs.Theorems.{Lawful, Canonical, ValidContents}
@@ -27,8 +27,9 @@ use Rattle.study.proofs.Proofs.{for-problem, for-study}
 use Rattle.pricing.specs.Tariff.{total, shares}
 use Rattle.pricing.specs.Theorems.{StudyShares}
 use Rattle.pricing.proofs.Proofs.{every-study}
-use Rattle.guarantee.specs.Runs.{make-blocks, price-blocks, Output, Inquiry, inquiring, call-ask, Response, lent}
-use Rattle.guarantee.specs.History.{reasonsAfter, toldAfter, verdict, outputs, learnt}
+use Rattle.access.specs.Calls.{Inquiry, Output, asks, Holding, reasons, verdict, told, lent, Response, learnt}
+use Rattle.blocking.specs.Calls.{blockInquiry, figureNumbers, makesBlocks}
+use Rattle.priced_blocks.specs.Calls.{priceNumbers, pricesBlocks}
 use Rattle.guarantee.specs.Theorems.{Guaranteed, CanonicalBlock, blocked, charged}
 use Rattle.guarantee.proofs.QueryLaws.{query-accepts, query-tells}
 
@@ -114,47 +115,58 @@ own-25 S list records l =
 abbrev figures-by : List ℕ → Figures
 figures-by ns = record { blocks = getD ns 0 0; radius = getD ns 1 0; widest = getD ns 2 0 }
 
-module _ (H : Contents) (ok : ValidContents H) where
-  abbrev S : Study
-  S = H .study
+pub block-25 : (S : Study) → Valid S → (list records : ℕ) → 0 < size S
+    → (firstOf (blockReasons S list records) ≡ refused (number 25)) ↔ ((D : ℕ → ℕ) → Feasible (problem S) D → ⊥)
+unfolding problem
+block-25 S ok list records l =
+    let enough = sufficient S (λ t. true) in
+    let X = for-problem (problem S) (for-study S ok .lawful) .feasible-exactly l in
+    let R = own-25 S list records l in (
+      λ q D f. T-not enough (R .0 q) (X .0 (D, f)),
+      λ f. R .1 (not-T enough (λ t. let d = X .1 t in f (d .0) (d .1))),
+    )
 
-  pub block-25 : (list : List ℕ) (records : List BlockRecord) → 0 < size S
-      → (firstOf (inquiring (make-blocks list records) .own H) ≡ refused (number 25)) ↔ ((D : ℕ → ℕ) → Feasible (problem S) D → ⊥)
-  unfolding problem inquiring
-  block-25 list records l =
-      let enough = sufficient S (λ t. true) in
-      let X = for-problem (problem S) (for-study S (ok .study) .lawful) .feasible-exactly l in
-      let R = own-25 S (length list) (length records) l in (
-        λ q D f. T-not enough (R .0 q) (X .0 (D, f)),
-        λ f. R .1 (not-T enough (λ t. let d = X .1 t in f (d .0) (d .1))),
-      )
+module _ (H : Holding) (ok : ValidContents (H .contents)) where
+  abbrev S : Study
+  S = H .contents .study
+
+  -- an accepted Block tells the study's figures, the list and the records
+  pub block-shaped : (list₀ : List ℕ) (records₀ : List BlockRecord) → verdict false (some H) (makesBlocks list₀ records₀) ≡ accepted
+      → learnt false (some H) (makesBlocks list₀ records₀)
+      ≡ blocked (figures S) (over (blocking (problem S)) list₀) (overwrite (figures S .blocks) (blockRecord S) records₀)
+  unfolding makesBlocks learnt told lent
+  block-shaped list₀ records₀ e =
+      let Q = blockInquiry (λ S. figureNumbers (figures S)) list₀ records₀ in
+      let respond : Verdict → Response = λ v. record { verdict = v; output = settled v (Q .tells (H .contents)) (Q .lent) } in
+      ap respond e
 
   -- the call is accepted, and its caller learns figures F, a list and records
   module _ (list₀ list : List ℕ) (records₀ records : List BlockRecord) (F : Figures)
-      (e : learnt false (some H) (call-ask (make-blocks list₀ records₀)) ≡ blocked F list records) where
+      (e : learnt false (some H) (makesBlocks list₀ records₀) ≡ blocked F list records) where
     abbrev Q : Inquiry
-    Q = inquiring (make-blocks list₀ records₀)
+    Q = blockInquiry (λ S. figureNumbers (figures S)) list₀ records₀
 
-    accepts : firstOf (Q .own H) ≡ accepted
-    accepts = query-accepts H (make-blocks list₀ records₀) e
+    accepts : firstOf (blockReasons S (length list₀) (length records₀)) ≡ accepted
+    unfolding makesBlocks
+    accepts = query-accepts H Q e
 
-    tells : Q .tells H ≡ blocked F list records .output
-    tells = query-tells H (make-blocks list₀ records₀) e
+    tells : Q .tells (H .contents) ≡ blocked F list records .output
+    unfolding makesBlocks
+    tells = query-tells H Q e
 
     ample : T (sufficient S (λ t. true))
-    unfolding inquiring blockReasons
+    unfolding blockReasons
     ample = not-not (sufficient S (λ t. true)) (none-holds (blockReasons S (length list₀) (length records₀)) accepts .1 .0)
 
     figures-are : figures S ≡ F
-    unfolding inquiring figures
+    unfolding figures
     figures-are = ap (λ (o : Output). figures-by (o .numbers)) tells
 
     list-is : over (blocking (problem S)) list₀ ≡ list
-    unfolding inquiring headD
+    unfolding headD
     list-is = ap (λ (o : Output). headD (o .lists) []) tells
 
     records-are : overwrite (figures S .blocks) (blockRecord S) records₀ ≡ records
-    unfolding inquiring
     records-are = ap (λ (o : Output). o .records) tells
 
     pub block-guaranteed : Guaranteed S F list
@@ -163,15 +175,15 @@ module _ (H : Contents) (ok : ValidContents H) where
         (subst (Guaranteed S (figures S)) list-is (guaranteed S (ok .study) ample (drop (length (blocking (problem S))) list₀)))
 
     -- the tariff
-    pub block-charged : learnt false (some H) (call-ask (price-blocks list₀ records₀)) ≡ charged F (total S) (shares S) list records
-    unfolding learnt outputs toldAfter lent verdict reasonsAfter heldReasons freshReasons firstOf inquiring
+    pub block-charged : learnt false (some H) (pricesBlocks list₀ records₀) ≡ charged F (total S) (shares S) list records
+    unfolding pricesBlocks learnt told lent verdict reasons heldReasons freshReasons firstOf
     block-charged =
-        let T = inquiring (price-blocks list₀ records₀) in
-        let respond : Verdict → Response = λ v. record { verdict = v; output = settled v (T .tells H) (T .lent) } in
+        let T = blockInquiry priceNumbers list₀ records₀ in
+        let respond : Verdict → Response = λ v. record { verdict = v; output = settled v (T .tells (H .contents)) (T .lent) } in
         ap respond accepts ∙ (λ i. charged (figures-are i) (total S) (shares S) (list-is i) (records-are i))
 
     pub block-shared : StudyShares S
-    unfolding inquiring blockReasons
+    unfolding blockReasons
     block-shared =
         let none = none-holds (blockReasons S (length list₀) (length records₀)) accepts .0 in
         every-study S (ok .study)

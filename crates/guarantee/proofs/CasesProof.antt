@@ -11,41 +11,45 @@ use Rattle.study.specs.Calls.{withdrawReasons, withdrawn, shortened, counted, w
 use Rattle.study.specs.Calls.{centresWritten, blockReasons, judgeReasons}
 use Rattle.file_format.specs.Bits.{binary, allBits, pack, packed}
 use Rattle.file_format.specs.File.{tideFields, fields, fileWith, fileOf, headReasons, readReasons}
-use Rattle.study_file.specs.Answers.{writeReasons}
-use Rattle.guarantee.specs.Runs.{updating, inquiring, lent}
-use Rattle.guarantee.specs.History.{reasonsAfter, verdict, changed, step, following, toldAfter, outputs}
+use Rattle.access.specs.Calls.{reasons, verdict, changed, step, lent, told, learnt}
+use Rattle.dataset.specs.Calls.{opensDataset, setsMinima, entersTide, withdrawsTide}
+use Rattle.study_file.specs.Calls.{readsFile, writeReasons, writesFile}
+use Rattle.blocking.specs.Calls.{findsCentres, makesBlocks, judgesList}
+use Rattle.priced_blocks.specs.Calls.{pricesBlocks}
+use Rattle.guarantee.specs.Runs.{callOf, following}
 use Rattle.guarantee.specs.Counts.{acceptedCalls}
 use Rattle.guarantee.specs.Cases.{order, CallsInOrder, OneRun, OnceMore, OneStretch, minimaCases, MinimaLeft, EquallyNear}
 
 pub in-order : CallsInOrder
-unfolding order verdict reasonsAfter heldReasons freshReasons updating inquiring readReasons headReasons openReasons minimaReasons
+unfolding order verdict reasons heldReasons freshReasons opensDataset readsFile setsMinima entersTide withdrawsTide findsCentres makesBlocks
+    pricesBlocks judgesList writesFile readReasons headReasons openReasons minimaReasons
     enterReasons withdrawReasons centresReasons blockReasons judgeReasons writeReasons firstOf noTide sufficient meets violations duplicated
     triangle distance tide fileOf fileWith fields tideFields packed pack allBits binary countBelow sumBelow every tabulate flatMap
 in-order = refl
 
 pub one-run : OneRun
-unfolding following step verdict reasonsAfter heldReasons freshReasons changed updating enterReasons entering entered
+unfolding following callOf step verdict reasons heldReasons freshReasons changed entersTide withdrawsTide enterReasons entering entered
     withdrawReasons withdrawing withdrawn shortened counted firstOf
     violations duplicated triangle distance tide noTide every flatMap
 one-run = refl
 
 pub once-more : OnceMore
-unfolding following step verdict reasonsAfter heldReasons freshReasons changed updating enterReasons entering entered
+unfolding following callOf step verdict reasons heldReasons freshReasons changed entersTide withdrawsTide enterReasons entering entered
     withdrawReasons withdrawing withdrawn shortened counted firstOf
     violations duplicated triangle distance tide noTide every flatMap
 once-more = refl
 
 pub one-stretch : OneStretch
-unfolding acceptedCalls step verdict reasonsAfter heldReasons freshReasons changed updating openReasons opening opened enterReasons entering entered
+unfolding acceptedCalls callOf step verdict reasons heldReasons freshReasons changed opensDataset entersTide withdrawsTide openReasons opening opened enterReasons entering entered
     withdrawReasons withdrawing withdrawn shortened counted firstOf violations duplicated triangle distance tide noTide every flatMap
 one-stretch = refl
 
 pub minima-left : MinimaLeft
-unfolding minimaCases following step verdict reasonsAfter heldReasons freshReasons changed updating minimaReasons understood settingMinima withMinima
+unfolding minimaCases following callOf step verdict reasons heldReasons freshReasons changed setsMinima minimaReasons understood settingMinima withMinima
     validMinima firstOf every sumBelow
 minima-left = refl
 
 pub equally-near : EquallyNear
-unfolding outputs toldAfter lent verdict reasonsAfter heldReasons freshReasons inquiring centresReasons firstOf centresWritten centreNumbers nearestNumbers
+unfolding learnt told lent verdict reasons heldReasons freshReasons findsCentres centresReasons firstOf centresWritten centreNumbers nearestNumbers
     nearestDistances centres centresAmong centreOf nearestBlock nearestDistance blocksAt problem distance tide noTide tabulate headD
 equally-near = refl

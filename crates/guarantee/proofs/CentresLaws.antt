@@ -3,18 +3,18 @@ use Prim.Native.Nat.{ℕ, suc, _<_}
 use native.Mathlib.Omega.{arith}
 use mathlib.Core.Path.{_≡_, sym, ap, _∙_, subst}
 use mathlib.Core.Bool.{false}
-use mathlib.Core.List.{List, []}
+use mathlib.Core.List.{List, [], _∷_}
 use mathlib.Core.Option.{some}
 use lib.ListN.{length, drop, getD, length-map, List·getD-append}
 use Rattle.lists.specs.Lists.{at, tabulate, over}
 use Rattle.lists.proofs.Tables.{length-tabulate, getD-tabulate}
 use Rattle.study.specs.Problem.{centres, centreOf, nearestDistance, nearestBlock}
-use Rattle.study.specs.Study.{Study, Contents, size, distance, problem}
+use Rattle.study.specs.Study.{Study, size, distance, problem}
 use Rattle.study.specs.Calls.{CentreLists, centreNumbers, nearestNumbers, nearestDistances, centresWritten}
 use Rattle.study.specs.Theorems.{IsNearest, ValidContents}
 use Rattle.study.proofs.Proofs.{for-nearest, for-study}
-use Rattle.guarantee.specs.Runs.{find-centres, Output, inquiring, call-ask}
-use Rattle.guarantee.specs.History.{learnt}
+use Rattle.access.specs.Calls.{Output, Holding, learnt}
+use Rattle.blocking.specs.Calls.{allThree, findsCentres}
 use Rattle.guarantee.specs.Theorems.{centred, NearestTold, CentresTold}
 use Rattle.guarantee.proofs.QueryLaws.{query-tells}
 
@@ -28,21 +28,24 @@ front-at n f old t l =
 abbrev lists-by : List (List ℕ) → CentreLists
 lists-by ls = record { list = getD ls 0 []; nearest = getD ls 1 []; away = getD ls 2 [] }
 
-module _ (H : Contents) (ok : ValidContents H) (g count : ℕ) (l₀ l : CentreLists)
-    (e : learnt false (some H) (call-ask (find-centres g l₀)) ≡ centred count l) where
+module _ (H : Holding) (ok : ValidContents (H .contents)) (g count : ℕ) (l₀ l : CentreLists)
+    (e : learnt false (some H) (findsCentres g l₀) ≡ centred count l) where
   abbrev S : Study
-  S = H .study
+  S = H .contents .study
+
+  tells : record { numbers = length (centreNumbers S g) ∷ []; lists = allThree (centresWritten S g l₀); records = [] } ≡ centred count l .output
+  unfolding findsCentres
+  tells = query-tells H _ e
 
   abbrev cs : List ℕ
   cs = centres (problem S) g
 
   counted : count ≡ length cs
-  unfolding inquiring centreNumbers
-  counted = sym (ap (λ (o : Output). getD (o .numbers) 0 0) (query-tells H (find-centres g l₀) e)) ∙ length-map cs suc
+  unfolding centreNumbers
+  counted = sym (ap (λ (o : Output). getD (o .numbers) 0 0) tells) ∙ length-map cs suc
 
   written : l ≡ centresWritten S g l₀
-  unfolding inquiring
-  written = sym (ap (λ (o : Output). lists-by (o .lists)) (query-tells H (find-centres g l₀) e))
+  written = sym (ap (λ (o : Output). lists-by (o .lists)) tells)
 
   nearest : (t : ℕ) → t < size S → NearestTold S g t (at (l .nearest) t) (at (l .away) t)
   unfolding problem centresWritten nearestNumbers nearestDistances

@@ -18,9 +18,11 @@ use Rattle.study.proofs.LadderLaws.{ladder-accepts}
 use Rattle.file_format.specs.File.{decoded}
 use Rattle.file_format.proofs.DecodedLaws.{counts-valid}
 use Rattle.validity.specs.Memory.{State, short}
-use Rattle.guarantee.specs.Runs.{Change, set-minima, enter, withdraw, updating, Call, call-open, call-read, call-change, call-ask, run}
-use Rattle.guarantee.specs.History.{held, onHeld, reasonsAfter, verdict, changing, changed, step, following, contentsAfter}
-use Rattle.guarantee.specs.Counts.{acceptedCalls, bringsIn, Stretch, onward, stretchAfter, lastStretch, isWithdrawal, withdrawalsBy, countIn}
+use Rattle.access.specs.Calls.{Update, changes, Holding, held, reasons, verdict, changed, step}
+use Rattle.dataset.specs.Calls.{opensDataset, setsMinima, entersTide, withdrawsTide}
+use Rattle.study_file.specs.Calls.{readsFile}
+use Rattle.guarantee.specs.Runs.{Offered, open-with, read-file, set-minima, enter, withdraw, ask, callOf, bringsIn, run, following, heldAfter}
+use Rattle.guarantee.specs.Counts.{acceptedCalls, Stretch, onward, stretchAfter, lastStretch, isWithdrawal, withdrawalsBy, countIn}
 use Rattle.guarantee.proofs.Follows.{held-some, holds-valid, holds}
 
 -- ---- one more of user v
@@ -46,21 +48,22 @@ counted-by ws u v four s t =
 -- ---- what an accepted call makes of the counts
 
 -- where there are contents, they have a count for each user
-abbrev Four : Option Contents → Type 0
+abbrev Four : Option Holding → Type 0
 Four none = Unit {0}
-Four (some H) = length (H .withdrawals) ≡ 4
+Four (some H) = length (H .contents .withdrawals) ≡ 4
 
--- a change leaves four counts, of which user u's goes up where it is a withdrawal by that user
-record Changes (u : ℕ) (c : Change) (H new : Contents) : Type 0 where
+-- a change leaves four counts, of which user u's goes up where b holds
+record Changes (u : ℕ) (b : Bool) (H new : Contents) : Type 0 where
   four : length (new .withdrawals) ≡ 4
-  count : countOf (new .withdrawals) u ≡ countOf (H .withdrawals) u + bit (isWithdrawal u (call-change c))
+  count : countOf (new .withdrawals) u ≡ countOf (H .withdrawals) u + bit b
 
-change-counts : (u : ℕ) → T (isUser u) → (c : Change) (H : Contents) → length (H .withdrawals) ≡ 4 → allOf isUser (updating c .users) ≡ true
-    → Changes u c H (updating c .makes H)
-unfolding updating settingMinima entering withdrawing counted
-change-counts u s (set-minima M) H four k = record { four = four; count = omega arith }
-change-counts u s (enter setting row) H four k = record { four = four; count = omega arith }
-change-counts u s (withdraw v t) H four k =
+kept-counts : (u : ℕ) {H new : Contents} → new .withdrawals ≡ H .withdrawals → length (H .withdrawals) ≡ 4 → Changes u false H new
+kept-counts u e four = record { four = ap length e ∙ four; count = let z = ap (λ ws. countOf ws u) e in omega arith }
+
+withdraw-counts : (u : ℕ) → T (isUser u) → (v t : ℕ) (H : Contents) → length (H .withdrawals) ≡ 4 → allOf isUser (v ∷ []) ≡ true
+    → Changes u (eqb v u) H (withdrawing v t H)
+unfolding withdrawing counted
+withdraw-counts u s v t H four k =
     record {
       four = length-set (H .withdrawals) (v - 1) (countOf (H .withdrawals) v + 1) ∙ four;
       count = counted-by (H .withdrawals) u v four s (T-left (isUser v) true (true-T (allOf isUser (v ∷ [])) k));
@@ -78,17 +81,17 @@ decoded-four file = counts-valid file .four
 start-four : (start : State) → Four (held start)
 start-four start = by (held start) refl
   where
-    by : (h : Option Contents) → held start ≡ h → Four h
+    by : (h : Option Holding) → held start ≡ h → Four h
     by none e = tt
     by (some H) e = holds-valid (held-some start H e) .counts .four
 
 -- ---- along the calls
 
 -- the withdrawals in a list with one call more
-one-more : (u : ℕ) (c : Call) (cs : List Call) → withdrawalsBy u (cs ++ (c ∷ [])) ≡ withdrawalsBy u cs + bit (isWithdrawal u c)
+one-more : (u : ℕ) (c : Offered) (cs : List Offered) → withdrawalsBy u (cs ++ (c ∷ [])) ≡ withdrawalsBy u cs + bit (isWithdrawal u c)
 one-more u c [] = by (isWithdrawal u c)
   where
-    by : (b : Bool) → length (let r : List Call = [] in cond b (c ∷ r) r) ≡ 0 + bit b
+    by : (b : Bool) → length (let r : List Offered = [] in cond b (c ∷ r) r) ≡ 0 + bit b
     by true = refl
     by false = refl
 one-more u c (d ∷ cs) = by (isWithdrawal u d) (one-more u c cs)
@@ -100,49 +103,54 @@ one-more u c (d ∷ cs) = by (isWithdrawal u d) (one-more u c cs)
     by false ih = ih
 
 -- h is what the stretch has come to: user u's count is the one it began with and the withdrawals since
-record Reckoned (u : ℕ) (s : Stretch) (h : Option Contents) : Type 0 where
+record Reckoned (u : ℕ) (s : Stretch) (h : Option Holding) : Type 0 where
   four : Four h
   count : countIn u h ≡ countIn u (s .from) + withdrawalsBy u (s .calls)
 
 module _ (tooShort : Bool) (u : ℕ) (user : T (isUser u)) where
   -- an accepted change
-  reckon-change : (c : Change) (s : Stretch) (h : Option Contents) → firstOf (onHeld tooShort (updating c .users) h (updating c .own)) ≡ accepted
-      → Reckoned u s h → Reckoned u (onward s (call-change c) none) (changing h (updating c .makes))
-  reckon-change c s none e R = absurd (true≢false (sym (ladder-accepts tooShort (updating c .users) false [] e .tested)))
-  reckon-change c s (some H) e R =
-      let K = change-counts u user c H (R .four) (ladder-accepts tooShort (updating c .users) true (updating c .own H) e .known) in
-      record { four = K .four; count = omega (arith, K .count, one-more u (call-change c) (s .calls), R .count) }
+  reckon-change : (U : Update) (c : Offered)
+      → ((H : Contents) → length (H .withdrawals) ≡ 4 → allOf isUser (U .caller .users) ≡ true → Changes u (isWithdrawal u c) H (U .makes H))
+      → (s : Stretch) (h : Option Holding) → verdict tooShort h (changes U) ≡ accepted → Reckoned u s h
+      → Reckoned u (onward s c none) (changed h (changes U))
+  unfolding verdict reasons changed
+  reckon-change U c m s none e R = absurd (true≢false (sym (ladder-accepts tooShort (U .caller .users) false [] e .tested)))
+  reckon-change U c m s (some H) e R =
+      let K = m (H .contents) (R .four) (ladder-accepts tooShort (U .caller .users) true (U .own (H .contents)) e .known) in
+      record { four = K .four; count = omega (arith, K .count, one-more u c (s .calls), R .count) }
 
   -- an accepted call
-  reckon-changed : (c : Call) (s : Stretch) (h : Option Contents) → verdict tooShort h c ≡ accepted → Reckoned u s h
-      → Reckoned u (onward s c (bringsIn c)) (changed h c)
-  unfolding verdict reasonsAfter changed
-  reckon-changed (call-open k) s h e R = record { four = opening-four k; count = omega arith }
-  reckon-changed (call-read file) s h e R = record { four = decoded-four file; count = omega arith }
-  reckon-changed (call-change c) s h e R = reckon-change c s h e R
-  reckon-changed (call-ask q) s h e R =
-      record { four = R .four; count = omega (arith, one-more u (call-ask q) (s .calls), R .count) }
+  reckon-changed : (c : Offered) (s : Stretch) (h : Option Holding) → verdict tooShort h (callOf c) ≡ accepted → Reckoned u s h
+      → Reckoned u (onward s c (bringsIn (callOf c))) (changed h (callOf c))
+  unfolding callOf opensDataset readsFile setsMinima entersTide withdrawsTide changed settingMinima entering
+  reckon-changed (open-with k) s h e R = record { four = opening-four k; count = omega arith }
+  reckon-changed (read-file file) s h e R = record { four = decoded-four file; count = omega arith }
+  reckon-changed (set-minima M) s h e R = reckon-change _ (set-minima M) (λ H four k. kept-counts u refl four) s h e R
+  reckon-changed (enter setting row) s h e R = reckon-change _ (enter setting row) (λ H four k. kept-counts u refl four) s h e R
+  reckon-changed (withdraw v t) s h e R = reckon-change _ (withdraw v t) (withdraw-counts u user v t) s h e R
+  reckon-changed (ask Q) s h e R =
+      record { four = R .four; count = omega (arith, one-more u (ask Q) (s .calls), R .count) }
 
-  reckon-following : (cs : List Call) (s : Stretch) (h : Option Contents) → Reckoned u s h
+  reckon-following : (cs : List Offered) (s : Stretch) (h : Option Holding) → Reckoned u s h
       → Reckoned u (stretchAfter s (acceptedCalls tooShort h cs)) (following tooShort h cs)
   unfolding following acceptedCalls step
   reckon-following [] s h R = R
-  reckon-following (c ∷ cs) s h R = by (λ next t. reckon-following cs next t) (verdict tooShort h c) refl
+  reckon-following (c ∷ cs) s h R = by (λ next t. reckon-following cs next t) (verdict tooShort h (callOf c)) refl
     where
       -- the rest of the calls, from anywhere
       Rest : Type 0
-      Rest = (next : Stretch) (t : Option Contents) → Reckoned u next t → Reckoned u (stretchAfter next (acceptedCalls tooShort t cs)) (following tooShort t cs)
+      Rest = (next : Stretch) (t : Option Holding) → Reckoned u next t → Reckoned u (stretchAfter next (acceptedCalls tooShort t cs)) (following tooShort t cs)
 
-      by : Rest → (v : Verdict) → verdict tooShort h c ≡ v
-          → let next = settled v (changed h c) h in
+      by : Rest → (v : Verdict) → verdict tooShort h (callOf c) ≡ v
+          → let next = settled v (changed h (callOf c)) h in
           let rest = acceptedCalls tooShort next cs in
           Reckoned u (stretchAfter s (settled v (c ∷ rest) rest)) (following tooShort next cs)
-      by go accepted e = go (onward s c (bringsIn c)) (changed h c) (reckon-changed c s h e R)
+      by go accepted e = go (onward s c (bringsIn (callOf c))) (changed h (callOf c)) (reckon-changed c s h e R)
       by go (refused r) e = go s h R
 
-pub counted-after : (start : State) (calls : List Call) (H : Contents) (u : ℕ) → held (run start calls) ≡ some H → T (isUser u)
-    → let last = lastStretch start calls in countOf (H .withdrawals) u ≡ countIn u (last .from) + withdrawalsBy u (last .calls)
-unfolding lastStretch contentsAfter
+pub counted-after : (start : State) (calls : List Offered) (H : Holding) (u : ℕ) → held (run start calls) ≡ some H → T (isUser u)
+    → let last = lastStretch start calls in countOf (H .contents .withdrawals) u ≡ countIn u (last .from) + withdrawalsBy u (last .calls)
+unfolding lastStretch heldAfter
 counted-after start calls H u e user =
     ap (countIn u) (sym e ∙ holds start calls)
     ∙ reckon-following (short start) u user calls (record { from = held start; calls = [] }) (held start)

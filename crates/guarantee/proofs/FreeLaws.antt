@@ -16,59 +16,67 @@ use Rattle.study.proofs.DuplicateLaws.{none-opened, none-set, none-withdrawn}
 use Rattle.study.proofs.Proofs.{for-duplicates}
 use Rattle.file_format.specs.File.{decoded}
 use Rattle.validity.specs.Memory.{State, short}
-use Rattle.guarantee.specs.Runs.{Change, set-minima, enter, withdraw, updating, Call, call-open, call-read, call-change, call-ask, run}
-use Rattle.guarantee.specs.History.{held, onHeld, reasonsAfter, verdict, changing, changed, step, following, contentsAfter}
+use Rattle.access.specs.Calls.{Update, changes, Holding, held, reasons, verdict, changed, step}
+use Rattle.dataset.specs.Calls.{opensDataset, setsMinima, entersTide, withdrawsTide}
+use Rattle.study_file.specs.Calls.{readsFile}
+use Rattle.guarantee.specs.Runs.{Offered, open-with, read-file, set-minima, enter, withdraw, ask, callOf, run, following, heldAfter}
+use Rattle.guarantee.specs.Counts.{acceptedCalls}
 use Rattle.guarantee.proofs.Follows.{holds}
 
 -- what is held, if anything, holds none
-abbrev Free : Option Contents → Type 0
+abbrev Free : Option Holding → Type 0
 Free none = Unit {0}
-Free (some H) = holdsDuplicate (H .study) ≡ false
+Free (some H) = holdsDuplicate (H .contents .study) ≡ false
 
 -- none of the files that these calls read holds one
-abbrev CleanFiles : List Call → Type 0
-CleanFiles calls = (file : List ℕ) → call-read file among calls → holdsDuplicate (decoded file .study) ≡ false
-
--- an accepted change
-free-change : (c : Change) (H : Contents) → firstOf (updating c .own H) ≡ accepted → Free (some H) → Free (some (updating c .makes H))
-unfolding updating settingMinima entering withdrawing
-free-change (set-minima M) H e F = none-set (understood M) (H .study) ∙ F
-free-change (enter setting row) H e F = for-duplicates (H .study) setting row .none-after F e
-free-change (withdraw u t) H e F = let w = withdraws H u t e in none-withdrawn (t - 1) (H .study) (omega (arith, w .low, w .high)) F
+abbrev CleanFiles : List Offered → Type 0
+CleanFiles calls = (file : List ℕ) → read-file file among calls → holdsDuplicate (decoded file .study) ≡ false
 
 module _ (tooShort : Bool) where
-  free-changing : (c : Change) (h : Option Contents) → firstOf (onHeld tooShort (updating c .users) h (updating c .own)) ≡ accepted → Free h
-      → Free (changing h (updating c .makes))
-  free-changing c none e F = tt
-  free-changing c (some H) e F = free-change c H (ladder-accepts tooShort (updating c .users) true (updating c .own H) e .reasons) F
+  -- an accepted change
+  free-changing : (U : Update)
+      → ((H : Contents) → firstOf (U .own H) ≡ accepted → holdsDuplicate (H .study) ≡ false → holdsDuplicate (U .makes H .study) ≡ false)
+      → (h : Option Holding) → verdict tooShort h (changes U) ≡ accepted → Free h → Free (changed h (changes U))
+  unfolding verdict reasons changed
+  free-changing U keeps none e F = tt
+  free-changing U keeps (some H) e F =
+      keeps (H .contents) (ladder-accepts tooShort (U .caller .users) true (U .own (H .contents)) e .reasons) F
 
   -- an accepted call
-  free-changed : (c : Call) (cs : List Call) (h : Option Contents) → CleanFiles (c ∷ cs) → verdict tooShort h c ≡ accepted → Free h → Free (changed h c)
-  unfolding verdict reasonsAfter changed opening
-  free-changed (call-open k) cs h clean e F = none-opened k
-  free-changed (call-read file) cs h clean e F = clean file (here refl)
-  free-changed (call-change c) cs h clean e F = free-changing c h e F
-  free-changed (call-ask q) cs h clean e F = F
+  free-changed : (c : Offered) (cs : List Offered) (h : Option Holding) → CleanFiles (c ∷ cs) → verdict tooShort h (callOf c) ≡ accepted → Free h
+      → Free (changed h (callOf c))
+  unfolding callOf opensDataset readsFile setsMinima entersTide withdrawsTide changed opening settingMinima entering withdrawing
+  free-changed (open-with k) cs h clean e F = none-opened k
+  free-changed (read-file file) cs h clean e F = clean file (here refl)
+  free-changed (set-minima M) cs h clean e F = free-changing _ (λ H r G. none-set (understood M) (H .study) ∙ G) h e F
+  free-changed (enter setting row) cs h clean e F = free-changing _ (λ H r G. for-duplicates (H .study) setting row .none-after G r) h e F
+  free-changed (withdraw u t) cs h clean e F =
+      free-changing _ (λ H r G. let w = withdraws H u t r in none-withdrawn (t - 1) (H .study) (omega (arith, w .low, w .high)) G) h e F
+  free-changed (ask Q) cs h clean e F = F
 
-  free-step : (c : Call) (cs : List Call) (h : Option Contents) → CleanFiles (c ∷ cs) → Free h → Free (step tooShort h c)
-  unfolding step
-  free-step c cs h clean F = by (verdict tooShort h c) refl
-    where
-      by : (v : Verdict) → verdict tooShort h c ≡ v → Free (settled v (changed h c) h)
-      by accepted e = free-changed c cs h clean e F
-      by (refused r) e = F
-
-  free-following : (cs : List Call) (h : Option Contents) → CleanFiles cs → Free h → Free (following tooShort h cs)
-  unfolding following
+  free-following : (cs : List Offered) (h : Option Holding) → CleanFiles (acceptedCalls tooShort h cs) → Free h → Free (following tooShort h cs)
+  unfolding following acceptedCalls step
   free-following [] h clean F = F
-  free-following (c ∷ cs) h clean F = free-following cs (step tooShort h c) (λ file m. clean file (there m)) (free-step c cs h clean F)
+  free-following (c ∷ cs) h clean F = by (λ t k G. free-following cs t k G) (verdict tooShort h (callOf c)) refl clean
+    where
+      -- the rest of the calls, from anywhere
+      Rest : Type 0
+      Rest = (t : Option Holding) → CleanFiles (acceptedCalls tooShort t cs) → Free t → Free (following tooShort t cs)
 
-free-start : (h : Option Contents) → ((H : Contents) → h ≡ some H → holdsDuplicate (H .study) ≡ false) → Free h
+      by : Rest → (v : Verdict) → verdict tooShort h (callOf c) ≡ v
+          → let next = settled v (changed h (callOf c)) h in
+          let rest = acceptedCalls tooShort next cs in
+          CleanFiles (settled v (c ∷ rest) rest) → Free (following tooShort next cs)
+      by go accepted e k = go (changed h (callOf c)) (λ file m. k file (there m)) (free-changed c (acceptedCalls tooShort (changed h (callOf c)) cs) h k e F)
+      by go (refused r) e k = go h k F
+
+free-start : (h : Option Holding) → ((H : Holding) → h ≡ some H → holdsDuplicate (H .contents .study) ≡ false) → Free h
 free-start none f = tt
 free-start (some H) f = f H refl
 
-pub free-after : (start : State) (calls : List Call) → ((H : Contents) → held start ≡ some H → holdsDuplicate (H .study) ≡ false)
-    → CleanFiles calls → (H : Contents) → held (run start calls) ≡ some H → holdsDuplicate (H .study) ≡ false
-unfolding contentsAfter
+pub free-after : (start : State) (calls : List Offered) → ((H : Holding) → held start ≡ some H → holdsDuplicate (H .contents .study) ≡ false)
+    → CleanFiles (acceptedCalls (short start) (held start) calls) → (H : Holding) → held (run start calls) ≡ some H
+    → holdsDuplicate (H .contents .study) ≡ false
+unfolding heldAfter
 free-after start calls begin clean H e =
     subst Free (sym (holds start calls) ∙ e) (free-following (short start) calls (held start) clean (free-start (held start) begin))

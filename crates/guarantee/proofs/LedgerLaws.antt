@@ -17,16 +17,18 @@ use Rattle.lists.proofs.Counts.{sum-bump, count-same, count-hit, count-all}
 use Rattle.lists.proofs.Counting.{count-front, Nth}
 use Rattle.study.specs.declared.Minima.{Minima}
 use Rattle.study.specs.Study.{Tide, Study, Contents, size, noTide, tide, distance}
-use Rattle.study.specs.Refusals.{Verdict, accepted, refused, settled, Reason, firstOf}
+use Rattle.study.specs.Refusals.{Verdict, accepted, refused, settled, firstOf}
 use Rattle.study.specs.Calls.{opened, opening, understood, withMinima, settingMinima, entered, entering, withdrawn, withdrawing, skip}
 use Rattle.study.proofs.CallLaws.{entered-size, entered-old, entered-new, entered-held, entered-row, old-or-new, skip-is, withdrawn-setting}
 use Rattle.study.proofs.CallLaws.{withdrawn-distance, withdrawn-size, skip-inside, withdraws}
 use Rattle.study.proofs.LadderLaws.{ladder-accepts}
 use Rattle.file_format.specs.File.{decoded}
 use Rattle.validity.specs.Memory.{State, short}
-use Rattle.guarantee.specs.Runs.{Change, set-minima, enter, withdraw, updating, Call, call-open, call-read, call-change, call-ask, answer, run}
-use Rattle.guarantee.specs.History.{held, onHeld, reasonsAfter, verdict, changing, changed, step, following, contentsAfter}
-use Rattle.guarantee.specs.Ledger.{Arrival, Ledger, noArrival, named, nameOf, fileLedger, emptyLedger, withArrival, withGone, noting, noted, noteAll}
+use Rattle.access.specs.Calls.{Update, changes, Holding, holding, held, reasons, verdict, changing, changed, step, answer}
+use Rattle.dataset.specs.Calls.{opensDataset, setsMinima, entersTide, withdrawsTide}
+use Rattle.study_file.specs.Calls.{readsFile}
+use Rattle.guarantee.specs.Runs.{Offered, open-with, read-file, set-minima, enter, withdraw, ask, callOf, bringsIn, run, following, heldAfter}
+use Rattle.guarantee.specs.Ledger.{Arrival, Ledger, noArrival, named, nameOf, fileLedger, emptyLedger, withArrival, withGone, noted, noteAll}
 use Rattle.guarantee.specs.Ledger.{begun, ledgerAfter, Exactly}
 use Rattle.guarantee.specs.Theorems.{Anew}
 use Rattle.guarantee.proofs.Follows.{holds, answers}
@@ -265,92 +267,118 @@ module _ (S : Study) (L : Ledger) (t : ℕ) (K : Matches S L) (inside : t - 1 < 
 -- ---- along the calls
 
 -- where there is a study there is a ledger, and they match
-abbrev Matched : Option Contents → Option Ledger → Type 0
+abbrev Matched : Option Holding → Option Ledger → Type 0
 Matched none l = Unit {0}
 Matched (some H) none = ⊥
-Matched (some H) (some L) = Matches (H .study) L
+Matched (some H) (some L) = Matches (H .contents .study) L
 
-agree-settled : (v : Verdict) (a h : Option Contents) (b l : Option Ledger) → (v ≡ accepted → Matched a b) → Matched h l → Matched (settled v a h) (settled v b l)
+agree-settled : (v : Verdict) (a h : Option Holding) (b l : Option Ledger) → (v ≡ accepted → Matched a b) → Matched h l → Matched (settled v a h) (settled v b l)
 agree-settled accepted a h b l f K = f refl
 agree-settled (refused r) a h b l f K = K
 
-agree-changing : (own : Contents → List Reason) (f : Contents → Contents) (g : Ledger → Ledger)
-    → ((H : Contents) (L : Ledger) → firstOf (own H) ≡ accepted → Matches (H .study) L → Matches (f H .study) (g L))
-    → (tooShort : Bool) (users : List ℕ) (h : Option Contents) (l : Option Ledger) → firstOf (onHeld tooShort users h own) ≡ accepted → Matched h l
-    → Matched (changing h f) (changing l g)
-agree-changing own f g m tooShort users none l e K = tt
-agree-changing own f g m tooShort users (some H) none e K = absurd K
-agree-changing own f g m tooShort users (some H) (some L) e K = m H L (ladder-accepts tooShort users true (own H) e .reasons) K
+-- a change that makes g of the ledger
+agree-changing : (U : Update) (g : Ledger → Ledger)
+    → ((H : Contents) (L : Ledger) → firstOf (U .own H) ≡ accepted → Matches (H .study) L → Matches (U .makes H .study) (g L))
+    → (tooShort : Bool) (h : Option Holding) (l : Option Ledger) → verdict tooShort h (changes U) ≡ accepted → Matched h l
+    → Matched (changed h (changes U)) (changing l g)
+unfolding verdict reasons changed
+agree-changing U g m tooShort none l e K = tt
+agree-changing U g m tooShort (some H) none e K = absurd K
+agree-changing U g m tooShort (some H) (some L) e K =
+    m (H .contents) L (ladder-accepts tooShort (U .caller .users) true (U .own (H .contents)) e .reasons) K
 
-change-matches : (c : Change) (H : Contents) (L : Ledger) → firstOf (updating c .own H) ≡ accepted → Matches (H .study) L
-    → Matches (updating c .makes H .study) (noting c L)
-unfolding updating settingMinima entering withdrawing
-change-matches (set-minima M) H L e K = minima-matches (H .study) L (understood M) K
-change-matches (enter setting row) H L e K = arrival-matches (H .study) L setting row K
-change-matches (withdraw u t) H L e K = let w = withdraws H u t e in gone-matches (H .study) L t K (omega (arith, w .low, w .high))
+same-ledger : (l : Option Ledger) → changing l (λ L. L) ≡ l
+same-ledger none = refl
+same-ledger (some L) = refl
 
-agree-changed : (tooShort : Bool) (h : Option Contents) (l : Option Ledger) (c : Call) → verdict tooShort h c ≡ accepted → Matched h l
-    → Matched (changed h c) (noted l c)
-unfolding verdict reasonsAfter changed noted opening
-agree-changed tooShort h l (call-open k) e K = empty-matches k
-agree-changed tooShort h l (call-read file) e K = file-matches (decoded file .study)
-agree-changed tooShort h l (call-change c) e K =
-    agree-changing (updating c .own) (updating c .makes) (noting c) (change-matches c) tooShort (updating c .users) h l e K
-agree-changed tooShort h l (call-ask q) e K = K
+agree-changed : (tooShort : Bool) (h : Option Holding) (l : Option Ledger) (c : Offered) → verdict tooShort h (callOf c) ≡ accepted → Matched h l
+    → Matched (changed h (callOf c)) (noted l c)
+unfolding callOf opensDataset readsFile setsMinima entersTide withdrawsTide changed noted opening settingMinima entering withdrawing
+agree-changed tooShort h l (open-with k) e K = empty-matches k
+agree-changed tooShort h l (read-file file) e K = file-matches (decoded file .study)
+agree-changed tooShort h l (set-minima M) e K =
+    subst (λ m. Matched (changed h (setsMinima M)) m) (same-ledger l)
+    (agree-changing _ (λ L. L) (λ H L r. minima-matches (H .study) L (understood M)) tooShort h l e K)
+agree-changed tooShort h l (enter setting row) e K =
+    agree-changing _ (withArrival setting row) (λ H L r. arrival-matches (H .study) L setting row) tooShort h l e K
+agree-changed tooShort h l (withdraw u t) e K =
+    agree-changing _ (withGone t) (λ H L r M. let w = withdraws H u t r in gone-matches (H .study) L t M (omega (arith, w .low, w .high))) tooShort h l e K
+agree-changed tooShort h l (ask Q) e K = K
 
-agree-following : (tooShort : Bool) (h : Option Contents) (l : Option Ledger) (cs : List Call) → Matched h l
+agree-following : (tooShort : Bool) (h : Option Holding) (l : Option Ledger) (cs : List Offered) → Matched h l
     → Matched (following tooShort h cs) (noteAll tooShort h l cs)
 unfolding following noteAll step
 agree-following tooShort h l [] K = K
 agree-following tooShort h l (c ∷ cs) K =
-    agree-following tooShort (step tooShort h c) (settled (verdict tooShort h c) (noted l c) l) cs
-    (agree-settled (verdict tooShort h c) (changed h c) h (noted l c) l (λ e. agree-changed tooShort h l c e K) K)
+    agree-following tooShort (step tooShort h (callOf c)) (settled (verdict tooShort h (callOf c)) (noted l c) l) cs
+    (agree-settled (verdict tooShort h (callOf c)) (changed h (callOf c)) h (noted l c) l (λ e. agree-changed tooShort h l c e K) K)
 
-agree-begun : (h : Option Contents) → Matched h (begun h)
+agree-begun : (h : Option Holding) → Matched h (begun h)
 agree-begun none = tt
-agree-begun (some H) = file-matches (H .study)
+agree-begun (some H) = file-matches (H .contents .study)
 
-pub exactly : (start : State) (calls : List Call) (H : Contents) → held (run start calls) ≡ some H
-    → (L : Ledger) × (ledgerAfter start calls ≡ some L) × Exactly (H .study) L
-unfolding contentsAfter ledgerAfter
+pub exactly : (start : State) (calls : List Offered) (H : Holding) → held (run start calls) ≡ some H
+    → (L : Ledger) × (ledgerAfter start calls ≡ some L) × Exactly (H .contents .study) L
+unfolding heldAfter ledgerAfter
 exactly start calls H e =
     from (ledgerAfter start calls) refl
     (subst (λ h. Matched h (ledgerAfter start calls)) (sym (holds start calls) ∙ e)
     (agree-following (short start) (held start) (begun (held start)) calls (agree-begun (held start))))
   where
-    from : (l : Option Ledger) → ledgerAfter start calls ≡ l → Matched (some H) l → (L : Ledger) × (ledgerAfter start calls ≡ some L) × Exactly (H .study) L
+    from : (l : Option Ledger) → ledgerAfter start calls ≡ l → Matched (some H) l
+        → (L : Ledger) × (ledgerAfter start calls ≡ some L) × Exactly (H .contents .study) L
     from none q K = absurd K
     from (some L) q K = (L, q, K .exact)
 
--- ---- since the last accepted Open or Read
+-- ---- since the last accepted call that begins anew
 
 module _ (tooShort : Bool) where
-  note-append : (h : Option Contents) (l : Option Ledger) (cs ds : List Call)
+  note-append : (h : Option Holding) (l : Option Ledger) (cs ds : List Offered)
       → noteAll tooShort h l (cs ++ ds) ≡ noteAll tooShort (following tooShort h cs) (noteAll tooShort h l cs) ds
   unfolding noteAll following
   note-append h l [] ds = refl
-  note-append h l (c ∷ cs) ds = note-append (step tooShort h c) (settled (verdict tooShort h c) (noted l c) l) cs ds
+  note-append h l (c ∷ cs) ds = note-append (step tooShort h (callOf c)) (settled (verdict tooShort h (callOf c)) (noted l c) l) cs ds
 
-  note-accepted : (h : Option Contents) (l : Option Ledger) (c : Call) (cs : List Call) → verdict tooShort h c ≡ accepted
-      → noteAll tooShort h l (c ∷ cs) ≡ noteAll tooShort (changed h c) (noted l c) cs
+  note-accepted : (h : Option Holding) (l : Option Ledger) (c : Offered) (cs : List Offered) → verdict tooShort h (callOf c) ≡ accepted
+      → noteAll tooShort h l (c ∷ cs) ≡ noteAll tooShort (changed h (callOf c)) (noted l c) cs
   unfolding noteAll step
-  note-accepted h l c cs e = ap (λ v. noteAll tooShort (settled v (changed h c) h) (settled v (noted l c) l) cs) e
+  note-accepted h l c cs e = ap (λ v. noteAll tooShort (settled v (changed h (callOf c)) h) (settled v (noted l c) l) cs) e
 
-module _ (start : State) (before since : List Call) where
-  abbrev h : Option Contents
-  h = contentsAfter start before
+-- what a call that begins anew makes of what is held, and of the ledger
+record Begins (h : Option Holding) (l : Option Ledger) (c : Offered) (H : Contents) : Type 0 where
+  makes : changed h (callOf c) ≡ some (holding H)
+  notes : noted l c ≡ some (fileLedger (H .study))
+
+brought : (h : Option Holding) (l : Option Ledger) (c : Offered) (H : Contents) → bringsIn (callOf c) ≡ some H → Begins h l c H
+unfolding callOf opensDataset readsFile setsMinima entersTide withdrawsTide changed noted opening opened emptyLedger fileLedger
+brought h l (open-with k) H e =
+    let q : opening k ≡ H = cc in
+    record { makes = ap (λ K. some (holding K)) q; notes = ap (λ (K : Contents). some (fileLedger (K .study))) q }
+brought h l (read-file file) H e =
+    let q : decoded file ≡ H = cc in
+    record { makes = ap (λ K. some (holding K)) q; notes = ap (λ (K : Contents). some (fileLedger (K .study))) q }
+brought h l (set-minima M) H e = absurd (let z : _≡_ {A = ℕ} 0 1 = cc in omega arith)
+brought h l (enter setting row) H e = absurd (let z : _≡_ {A = ℕ} 0 1 = cc in omega arith)
+brought h l (withdraw u t) H e = absurd (let z : _≡_ {A = ℕ} 0 1 = cc in omega arith)
+brought h l (ask Q) H e = absurd (let z : _≡_ {A = ℕ} 0 1 = cc in omega arith)
+
+module _ (start : State) (before since : List Offered) where
+  abbrev h : Option Holding
+  h = heldAfter start before
 
   abbrev l : Option Ledger
   l = ledgerAfter start before
 
   -- the ledger after an accepted call and the calls since
-  since-accepted : (c : Call) → answer (run start before) c ≡ accepted
-      → ledgerAfter start (before ++ (c ∷ since)) ≡ noteAll (short start) (changed h c) (noted l c) since
-  unfolding ledgerAfter contentsAfter
+  since-accepted : (c : Offered) → answer (run start before) (callOf c) ≡ accepted
+      → ledgerAfter start (before ++ (c ∷ since)) ≡ noteAll (short start) (changed h (callOf c)) (noted l c) since
+  unfolding ledgerAfter heldAfter
   since-accepted c e =
       note-append (short start) (held start) (begun (held start)) before (c ∷ since)
-      ∙ note-accepted (short start) h l c since (sym (answers start before c) ∙ e)
+      ∙ note-accepted (short start) h l c since (sym (answers start before (callOf c)) ∙ e)
 
   pub anew : Anew start before since
-  unfolding changed noted
-  anew = record { opened = λ k. since-accepted (call-open k); read = λ file. since-accepted (call-read file) }
+  anew =
+      record {
+        begun = λ c H e a. let B = brought h l c H e in since-accepted c a ∙ ap₂ (λ x y. noteAll (short start) x y since) (B .makes) (B .notes);
+      }

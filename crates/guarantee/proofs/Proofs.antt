@@ -1,150 +1,182 @@
 -- The six records of specs/Theorems.antt. Assumes nothing.
 use Prim.Native.Nat.{ℕ, _<_}
 use native.Mathlib.Omega.{arith}
-use mathlib.Core.Path.{_≡_, refl, sym, ap, _∙_, subst}
+use mathlib.Core.Path.{_≡_, refl, sym, ap, ap₂, _∙_, subst}
 use mathlib.Core.Logic.{_↔_}
-use mathlib.Core.Bool.{Bool, true, false, cond}
+use mathlib.Core.Bool.{Bool, true, false, cond, not}
 use mathlib.Core.List.{List}
 use mathlib.Core.Option.{Option, none, some}
+use lib.ListN.{length}
+use Rattle.lists.specs.Lists.{allOf}
 use Rattle.study.specs.declared.BlockRecord.{BlockRecord}
 use Rattle.study.specs.Problem.{Feasible}
-use Rattle.study.specs.Study.{Study, Contents, size, problem}
-use Rattle.study.specs.Refusals.{Numbered, number, accepted, refused, firstOf, freshReasons, heldReasons}
-use Rattle.study.specs.Calls.{CentreLists, Figures}
+use Rattle.study.specs.Study.{Study, size, problem}
+use Rattle.study.specs.Refusals.{Numbered, number, accepted, refused, firstOf, freshReasons, isUser, heldReasons}
+use Rattle.study.specs.Calls.{CentreLists, blockReasons, Figures}
 use Rattle.study.specs.Theorems.{ValidContents}
 use Rattle.validity.specs.Memory.{State, short}
 use Rattle.pricing.specs.Tariff.{total, shares}
 use Rattle.pricing.specs.Theorems.{StudyShares}
-use Rattle.guarantee.specs.Runs.{find-centres, make-blocks, price-blocks, Query, inquiring, Call, call-ask, reasons, answer, Response, response, run}
-use Rattle.guarantee.specs.History.{reasonsAfter, verdict, contentsAfter, studyIn, studyAfter, learnt}
+use Rattle.access.specs.Calls.{Inquiry, Call, asks, Holding, held, reasons, verdict, Response, learnt, answer, output, response}
+use Rattle.blocking.specs.Calls.{findsCentres, makesBlocks}
+use Rattle.priced_blocks.specs.Calls.{pricesBlocks}
+use Rattle.priced_blocks.proofs.ReplyLaws.{as-block}
+use Rattle.guarantee.specs.Runs.{Offered, run, heldAfter, studyIn, studyAfter}
 use Rattle.guarantee.specs.Theorems.{Guaranteed, CanonicalBlock, blocked, Demand1, Demand2, Demand3, charged, ForTariff, centred, CentresTold}
 use Rattle.guarantee.specs.Theorems.{ForCentres, DuplicateFree}
-use Rattle.guarantee.proofs.Follows.{held-some, holds-valid, holds, as-short, settles}
+use Rattle.guarantee.proofs.Follows.{held-some, holds-valid, holds, as-short, settles, answers}
 use Rattle.guarantee.proofs.LedgerLaws.{exactly, anew}
 use Rattle.guarantee.proofs.CountLaws.{counted-after}
 use Rattle.guarantee.proofs.FreeLaws.{free-after}
-use Rattle.guarantee.proofs.BlockLaws.{block-25, block-guaranteed, block-canonical, block-charged, block-shared}
+use Rattle.guarantee.proofs.BlockLaws.{block-25, block-shaped, block-guaranteed, block-canonical, block-charged, block-shared}
 use Rattle.guarantee.proofs.CentresLaws.{centres-told}
-use Rattle.guarantee.proofs.DemandLaws.{unchanged, unwritten, only-reads, as-contracts, files-and-datasets}
+use Rattle.guarantee.proofs.DemandLaws.{first, only, unchanged, unwritten, only-reads, learns, files-and-datasets}
 
 -- the study is that of the contents
-record Studied (h : Option Contents) (S : Study) : Type 0 where
-  contents : Contents
-  is : h ≡ some contents
-  study : contents .study ≡ S
+record Studied (h : Option Holding) (S : Study) : Type 0 where
+  holding : Holding
+  is : h ≡ some holding
+  study : holding .contents .study ≡ S
 
-studied : (h : Option Contents) (S : Study) → studyIn h ≡ some S → Studied h S
+studied : (h : Option Holding) (S : Study) → studyIn h ≡ some S → Studied h S
 studied none S e = absurd (let z : _≡_ {A = ℕ} 0 1 = cc in omega arith)
-studied (some H) S e = record { contents = H; is = refl; study = cc }
+studied (some H) S e = record { holding = H; is = refl; study = cc }
 
-not-studied : (h : Option Contents) → studyIn h ≡ none → h ≡ none
+not-studied : (h : Option Holding) → studyIn h ≡ none → h ≡ none
 not-studied none e = refl
 not-studied (some H) e = absurd (let z : _≡_ {A = ℕ} 0 1 = cc in omega arith)
 
-module _ (start : State) (calls : List Call) where
-  valid-after : (H : Contents) → contentsAfter start calls ≡ some H → ValidContents H
+module _ (start : State) (calls : List Offered) where
+  valid-after : (H : Holding) → heldAfter start calls ≡ some H → ValidContents (H .contents)
   valid-after H e = holds-valid (held-some (run start calls) H (holds start calls ∙ e))
 
-  long : (H : Contents) → contentsAfter start calls ≡ some H → short start ≡ false
+  long : (H : Holding) → heldAfter start calls ≡ some H → short start ≡ false
   long H e = sym (as-short start calls) ∙ held-some (run start calls) H (holds start calls ∙ e) .not-short
 
-  -- what the caller of a query learns
-  module _ (q : Query) where
-    learns : {h : Option Contents} → contentsAfter start calls ≡ h → response (run start calls) (call-ask q) ≡ learnt (short start) h (call-ask q)
-    learns e = settles start calls (call-ask q) ∙ ap (λ h. learnt (short start) h (call-ask q)) e
+  -- what the caller of a call learns, where H is held
+  learns-some : (c : Call) (H : Holding) → heldAfter start calls ≡ some H → response (run start calls) c ≡ learnt false (some H) c
+  learns-some c H e = settles start calls c ∙ ap₂ (λ tooShort h. learnt tooShort h c) (long H e) e
 
-    refused-none : contentsAfter start calls ≡ none → (r : Numbered) × (answer (run start calls) (call-ask q) ≡ refused r)
-    unfolding response learnt verdict reasonsAfter heldReasons freshReasons firstOf
-    refused-none e = by (short start) (ap (λ (r : Response). r .verdict) (learns e))
-      where
-        by : (tooShort : Bool) → answer (run start calls) (call-ask q) ≡ cond tooShort (refused (number 1)) (refused (number 21))
-            → (r : Numbered) × (answer (run start calls) (call-ask q) ≡ refused r)
-        by true q = (number 1, q)
-        by false q = (number 21, q)
+  answers-some : (c : Call) (H : Holding) → heldAfter start calls ≡ some H → answer (run start calls) c ≡ verdict false (some H) c
+  answers-some c H e = answers start calls c ∙ ap₂ (λ tooShort h. verdict tooShort h c) (long H e) e
 
-    learns-some : (H : Contents) → contentsAfter start calls ≡ some H → response (run start calls) (call-ask q) ≡ learnt false (some H) (call-ask q)
-    learns-some H e = learns e ∙ ap (λ tooShort. learnt tooShort (some H) (call-ask q)) (long H e)
+  -- a question, where nothing is held
+  refused-none : (Q : Inquiry) → heldAfter start calls ≡ none → (r : Numbered) × (answer (run start calls) (asks Q) ≡ refused r)
+  unfolding verdict reasons heldReasons freshReasons firstOf
+  refused-none Q e =
+      by (short start) (allOf isUser (Q .caller .users)) (answers start calls (asks Q) ∙ ap (λ h. verdict (short start) h (asks Q)) e)
+    where
+      by : (a b : Bool) → answer (run start calls) (asks Q) ≡ cond a (refused (number 1)) (cond (not b) (refused (number 14)) (refused (number 21)))
+          → (r : Numbered) × (answer (run start calls) (asks Q) ≡ refused r)
+      by true b q = (number 1, q)
+      by false true q = (number 21, q)
+      by false false q = (number 14, q)
 
-    answer-own : (H : Contents) → contentsAfter start calls ≡ some H → answer (run start calls) (call-ask q) ≡ firstOf (inquiring q .own H)
-    unfolding response learnt verdict reasonsAfter heldReasons freshReasons firstOf
-    answer-own H e = ap (λ (r : Response). r .verdict) (learns-some H e)
+  block-none : (list : List ℕ) (records : List BlockRecord) → heldAfter start calls ≡ none
+      → (r : Numbered) × (answer (run start calls) (makesBlocks list records) ≡ refused r)
+  unfolding makesBlocks
+  block-none list records e = refused-none _ e
+
+  -- Block's own reasons answer
+  block-own : (list : List ℕ) (records : List BlockRecord) (H : Holding) → heldAfter start calls ≡ some H
+      → answer (run start calls) (makesBlocks list records) ≡ firstOf (blockReasons (H .contents .study) (length list) (length records))
+  unfolding makesBlocks verdict reasons heldReasons freshReasons firstOf
+  block-own list records H e = answers-some (makesBlocks list records) H e
 
   no-study : (list : List ℕ) (records : List BlockRecord) → studyAfter start calls ≡ none
-      → (r : Numbered) × (answer (run start calls) (call-ask (make-blocks list records)) ≡ refused r)
+      → (r : Numbered) × (answer (run start calls) (makesBlocks list records) ≡ refused r)
   unfolding studyAfter
-  no-study list records e = refused-none (make-blocks list records) (not-studied (contentsAfter start calls) e)
+  no-study list records e = block-none list records (not-studied (heldAfter start calls) e)
 
   too-few : (S : Study) (list : List ℕ) (records : List BlockRecord) → studyAfter start calls ≡ some S → 0 < size S
-      → (answer (run start calls) (call-ask (make-blocks list records)) ≡ refused (number 25)) ↔ ((D : ℕ → ℕ) → Feasible (problem S) D → ⊥)
+      → (answer (run start calls) (makesBlocks list records) ≡ refused (number 25)) ↔ ((D : ℕ → ℕ) → Feasible (problem S) D → ⊥)
   unfolding studyAfter
   too-few S list records e =
-      let K = studied (contentsAfter start calls) S e in
-      let H = K .contents in
-      let v = answer (run start calls) (call-ask (make-blocks list records)) in
+      let K = studied (heldAfter start calls) S e in
+      let H = K .holding in
+      let v = answer (run start calls) (makesBlocks list records) in
       subst (λ R. 0 < size R → (v ≡ refused (number 25)) ↔ ((D : ℕ → ℕ) → Feasible (problem R) D → ⊥)) (K .study)
-      (λ l. subst (λ v. (v ≡ refused (number 25)) ↔ ((D : ℕ → ℕ) → Feasible (problem (H .study)) D → ⊥)) (sym (answer-own (make-blocks list records) H (K .is)))
-      (block-25 H (valid-after H (K .is)) list records l))
+      (λ l. subst (λ v. (v ≡ refused (number 25)) ↔ ((D : ℕ → ℕ) → Feasible (problem (H .contents .study)) D → ⊥)) (sym (block-own list records H (K .is)))
+      (block-25 (H .contents .study) (valid-after H (K .is) .study) (length list) (length records) l))
 
-  -- Block is accepted
+  -- Block is accepted: its caller learns figures, a list and records
+  shaped : (list₀ : List ℕ) (records₀ : List BlockRecord) → answer (run start calls) (makesBlocks list₀ records₀) ≡ accepted
+      → (F : Figures) × (list : List ℕ) × (records : List BlockRecord)
+      × (response (run start calls) (makesBlocks list₀ records₀) ≡ blocked F list records)
+  shaped list₀ records₀ a = by (heldAfter start calls) refl
+    where
+      by : (h : Option Holding) → heldAfter start calls ≡ h
+          → (F : Figures) × (list : List ℕ) × (records : List BlockRecord)
+          × (response (run start calls) (makesBlocks list₀ records₀) ≡ blocked F list records)
+      by none e =
+          let r = sym (block-none list₀ records₀ e .1) ∙ a in
+          absurd (let z : _≡_ {A = ℕ} 0 1 = cc in omega arith)
+      by (some H) e = (
+        _,
+        _,
+        _,
+        learns-some (makesBlocks list₀ records₀) H e
+            ∙ block-shaped H (valid-after H e) list₀ records₀ (sym (answers-some (makesBlocks list₀ records₀) H e) ∙ a),
+      )
+
+  -- the caller has learnt them
   module _ (list₀ list : List ℕ) (records₀ records : List BlockRecord) (F : Figures)
-      (q : response (run start calls) (call-ask (make-blocks list₀ records₀)) ≡ blocked F list records) where
-    accepts : answer (run start calls) (call-ask (make-blocks list₀ records₀)) ≡ accepted
-    unfolding response
+      (q : response (run start calls) (makesBlocks list₀ records₀) ≡ blocked F list records) where
+    accepts : answer (run start calls) (makesBlocks list₀ records₀) ≡ accepted
+    unfolding response learnt answer
     accepts = ap (λ (r : Response). r .verdict) q
 
-    told : (H : Contents) → contentsAfter start calls ≡ some H → learnt false (some H) (call-ask (make-blocks list₀ records₀)) ≡ blocked F list records
-    told H e = sym (learns-some (make-blocks list₀ records₀) H e) ∙ q
+    told : (H : Holding) → heldAfter start calls ≡ some H → learnt false (some H) (makesBlocks list₀ records₀) ≡ blocked F list records
+    told H e = sym (learns-some (makesBlocks list₀ records₀) H e) ∙ q
 
     guaranteed : (S : Study) × (studyAfter start calls ≡ some S) × Guaranteed S F list
     unfolding studyAfter
-    guaranteed = by (contentsAfter start calls) refl
+    guaranteed = by (heldAfter start calls) refl
       where
-        by : (h : Option Contents) → contentsAfter start calls ≡ h → (S : Study) × (studyIn (contentsAfter start calls) ≡ some S) × Guaranteed S F list
+        by : (h : Option Holding) → heldAfter start calls ≡ h → (S : Study) × (studyIn (heldAfter start calls) ≡ some S) × Guaranteed S F list
         by none e =
-            let r = sym (refused-none (make-blocks list₀ records₀) e .1) ∙ accepts in
+            let r = sym (block-none list₀ records₀ e .1) ∙ accepts in
             absurd (let z : _≡_ {A = ℕ} 0 1 = cc in omega arith)
         by (some H) e =
-            (H .study, ap studyIn e, block-guaranteed H (valid-after H e) list₀ list records₀ records F (told H e))
+            (H .contents .study, ap studyIn e, block-guaranteed H (valid-after H e) list₀ list records₀ records F (told H e))
 
     single : (S : Study) → studyAfter start calls ≡ some S → CanonicalBlock S F list₀ list records₀ records
     unfolding studyAfter
     single S e =
-        let K = studied (contentsAfter start calls) S e in
-        let H = K .contents in
+        let K = studied (heldAfter start calls) S e in
+        let H = K .holding in
         subst (λ R. CanonicalBlock R F list₀ list records₀ records) (K .study)
         (block-canonical H (valid-after H (K .is)) list₀ list records₀ records F (told H (K .is)))
 
     charges : (S : Study) → studyAfter start calls ≡ some S
-        → (response (run start calls) (call-ask (price-blocks list₀ records₀)) ≡ charged F (total S) (shares S) list records)
+        → (response (run start calls) (pricesBlocks list₀ records₀) ≡ charged F (total S) (shares S) list records)
         × StudyShares S
     unfolding studyAfter
     charges S e =
-        let K = studied (contentsAfter start calls) S e in
-        let H = K .contents in
+        let K = studied (heldAfter start calls) S e in
+        let H = K .holding in
         let ok = valid-after H (K .is) in
         let block = told H (K .is) in
-        let price = price-blocks list₀ records₀ in
         subst
-        (λ R. (response (run start calls) (call-ask price) ≡ charged F (total R) (shares R) list records) × StudyShares R)
+        (λ R. (response (run start calls) (pricesBlocks list₀ records₀) ≡ charged F (total R) (shares R) list records) × StudyShares R)
         (K .study) (
-          learns-some price H (K .is) ∙ block-charged H ok list₀ list records₀ records F block,
+          learns-some (pricesBlocks list₀ records₀) H (K .is) ∙ block-charged H ok list₀ list records₀ records F block,
           block-shared H ok list₀ list records₀ records F block,
         )
 
   -- Centres is accepted
   centres-tell : (S : Study) (g count : ℕ) (l₀ l : CentreLists) → studyAfter start calls ≡ some S
-      → response (run start calls) (call-ask (find-centres g l₀)) ≡ centred count l → CentresTold S g count l₀ l
+      → response (run start calls) (findsCentres g l₀) ≡ centred count l → CentresTold S g count l₀ l
   unfolding studyAfter
   centres-tell S g count l₀ l e q =
-      let K = studied (contentsAfter start calls) S e in
-      let H = K .contents in
+      let K = studied (heldAfter start calls) S e in
+      let H = K .holding in
       subst (λ R. CentresTold R g count l₀ l) (K .study)
-      (centres-told H (valid-after H (K .is)) g count l₀ l (sym (learns-some (find-centres g l₀) H (K .is)) ∙ q))
+      (centres-told H (valid-after H (K .is)) g count l₀ l (sym (learns-some (findsCentres g l₀) H (K .is)) ∙ q))
 
 pub demand1 : Demand1
-unfolding answer
 demand1 =
-    record { contracts = as-contracts; first = λ s c. refl; unchanged = unchanged; unwritten = unwritten; only-reads = only-reads }
+    record { first = first; only = only; unchanged = unchanged; unwritten = unwritten; only-reads = only-reads; learns = learns }
 
 pub demand2 : Demand2
 demand2 =
@@ -160,13 +192,12 @@ demand2 =
     }
 
 pub demand3 : Demand3
-demand3 = record { guaranteed = guaranteed; no-study = no-study }
+demand3 = record { shaped = shaped; guaranteed = guaranteed; no-study = no-study }
 
 pub for-tariff : ForTariff
-unfolding answer reasons inquiring
 for-tariff =
     record {
-      as-block = λ start calls list records. refl;
+      as-block = λ start calls. as-block (run start calls);
       charges = λ start calls S list₀ list records₀ records F e q. charges start calls list₀ list records₀ records F q S e;
     }
 

@@ -1,19 +1,20 @@
 -- What the caller of an accepted query learns of the contents held. Assumes nothing.
 use mathlib.Core.Path.{_≡_, sym, ap, _∙_}
-use mathlib.Core.Bool.{false}
+use mathlib.Core.Bool.{true, false}
 use mathlib.Core.Option.{some}
-use Rattle.study.specs.Study.{Contents}
-use Rattle.study.specs.Refusals.{Verdict, accepted, settled, firstOf, freshReasons, heldReasons}
-use Rattle.guarantee.specs.Runs.{Query, Output, inquiring, call-ask, Response, lent}
-use Rattle.guarantee.specs.History.{reasonsAfter, toldAfter, verdict, outputs, learnt}
+use Rattle.study.specs.Refusals.{Verdict, accepted, settled, firstOf}
+use Rattle.study.proofs.LadderLaws.{ladder-accepts}
+use Rattle.access.specs.Calls.{Inquiry, Output, asks, Holding, reasons, verdict, told, lent, Response, learnt}
 
-module _ (H : Contents) (q : Query) {o : Output} (e : learnt false (some H) (call-ask q) ≡ record { verdict = accepted; output = o }) where
-  pub query-accepts : firstOf (inquiring q .own H) ≡ accepted
-  unfolding learnt verdict reasonsAfter heldReasons freshReasons firstOf
-  query-accepts = ap (λ (r : Response). r .verdict) e
+module _ (H : Holding) (Q : Inquiry) {o : Output} (e : learnt false (some H) (asks Q) ≡ record { verdict = accepted; output = o }) where
+  agreed : verdict false (some H) (asks Q) ≡ accepted
+  unfolding learnt
+  agreed = ap (λ (r : Response). r .verdict) e
 
-  pub query-tells : inquiring q .tells H ≡ o
-  unfolding learnt outputs toldAfter lent verdict reasonsAfter heldReasons freshReasons firstOf
-  query-tells =
-      let Q = inquiring q in
-      sym (ap (λ (v : Verdict). settled v (Q .tells H) (Q .lent)) query-accepts) ∙ ap (λ (r : Response). r .output) e
+  pub query-accepts : firstOf (Q .own (H .contents)) ≡ accepted
+  unfolding verdict reasons
+  query-accepts = ladder-accepts false (Q .caller .users) true (Q .own (H .contents)) agreed .reasons
+
+  pub query-tells : Q .tells (H .contents) ≡ o
+  unfolding learnt told lent
+  query-tells = sym (ap (λ (v : Verdict). settled v (Q .tells (H .contents)) (Q .lent)) agreed) ∙ ap (λ (r : Response). r .output) e

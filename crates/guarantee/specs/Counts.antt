@@ -7,59 +7,53 @@ use mathlib.Core.Option.{Option, none, some}
 use lib.Dec.{eqb}
 use lib.ListN.{length}
 use Rattle.lists.specs.Lists.{filter}
-use Rattle.study.specs.Study.{Contents}
 use Rattle.study.specs.Refusals.{settled}
-use Rattle.study.specs.Calls.{opening, countOf}
-use Rattle.file_format.specs.File.{decoded}
+use Rattle.study.specs.Calls.{countOf}
+use Rattle.study.specs.Study.{Contents}
 use Rattle.validity.specs.Memory.{State, short}
-use Rattle.guarantee.specs.Runs.{set-minima, enter, withdraw, Call, call-open, call-read, call-change, call-ask}
-use Rattle.guarantee.specs.History.{held, verdict, step}
+use Rattle.access.specs.Calls.{Holding, holding, held, verdict, step}
+use Rattle.guarantee.specs.Runs.{Offered, open-with, read-file, set-minima, enter, withdraw, ask, callOf, bringsIn}
 
 -- the calls of a list that are accepted, in order
-unfoldable pub acceptedCalls : Bool → Option Contents → List Call → List Call
+unfoldable pub acceptedCalls : Bool → Option Holding → List Offered → List Offered
 acceptedCalls tooShort h [] = []
-acceptedCalls tooShort h (c ∷ cs) = let rest = acceptedCalls tooShort (step tooShort h c) cs in settled (verdict tooShort h c) (c ∷ rest) rest
-
--- what an accepted Open or Read brings in; nothing of another call
-abbrev pub bringsIn : Call → Option Contents
-bringsIn (call-open k) = some (opening k)
-bringsIn (call-read file) = some (decoded file)
-bringsIn (call-change c) = none
-bringsIn (call-ask q) = none
+acceptedCalls tooShort h (c ∷ cs) =
+    let rest = acceptedCalls tooShort (step tooShort h (callOf c)) cs in
+    settled (verdict tooShort h (callOf c)) (c ∷ rest) rest
 
 -- what was held where a stretch began, and the accepted calls since
 pub record Stretch : Type 0 where
-  pub from : Option Contents
-  pub calls : List Call
+  pub from : Option Holding
+  pub calls : List Offered
 
 -- one accepted call more: it belongs to the stretch, or brings something in and begins another
-abbrev pub onward : Stretch → Call → Option Contents → Stretch
+abbrev pub onward : Stretch → Offered → Option Contents → Stretch
 onward s c none = record { from = s .from; calls = s .calls ++ (c ∷ []) }
-onward s c (some H) = record { from = some H; calls = [] }
+onward s c (some H) = record { from = some (holding H); calls = [] }
 
 -- along accepted calls
-abbrev pub stretchAfter : Stretch → List Call → Stretch
+abbrev pub stretchAfter : Stretch → List Offered → Stretch
 stretchAfter s [] = s
-stretchAfter s (c ∷ cs) = stretchAfter (onward s c (bringsIn c)) cs
+stretchAfter s (c ∷ cs) = stretchAfter (onward s c (bringsIn (callOf c))) cs
 
 -- the last stretch: from the start or the last accepted Open or Read, whichever is later
-unfoldable pub lastStretch : State → List Call → Stretch
+unfoldable pub lastStretch : State → List Offered → Stretch
 lastStretch start calls = stretchAfter (record { from = held start; calls = [] }) (acceptedCalls (short start) (held start) calls)
 
 -- whether a call is a withdrawal by user u
-abbrev pub isWithdrawal : ℕ → Call → Bool
-isWithdrawal u (call-open k) = false
-isWithdrawal u (call-read file) = false
-isWithdrawal u (call-change (set-minima M)) = false
-isWithdrawal u (call-change (enter setting row)) = false
-isWithdrawal u (call-change (withdraw v t)) = eqb v u
-isWithdrawal u (call-ask q) = false
+abbrev pub isWithdrawal : ℕ → Offered → Bool
+isWithdrawal u (open-with k) = false
+isWithdrawal u (read-file file) = false
+isWithdrawal u (set-minima M) = false
+isWithdrawal u (enter setting row) = false
+isWithdrawal u (withdraw v t) = eqb v u
+isWithdrawal u (ask Q) = false
 
 -- how many withdrawals by user u are among these calls
-abbrev pub withdrawalsBy : ℕ → List Call → ℕ
+abbrev pub withdrawalsBy : ℕ → List Offered → ℕ
 withdrawalsBy u calls = length (filter (isWithdrawal u) calls)
 
 -- the count of user u in what is held; 0 where nothing is
-abbrev pub countIn : ℕ → Option Contents → ℕ
+abbrev pub countIn : ℕ → Option Holding → ℕ
 countIn u none = 0
-countIn u (some H) = countOf (H .withdrawals) u
+countIn u (some H) = countOf (H .contents .withdrawals) u

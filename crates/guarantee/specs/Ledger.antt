@@ -9,12 +9,12 @@ use mathlib.Core.Option.{Option, none, some}
 use lib.Dec.{eqb}
 use lib.ListN.{length, getD}
 use Rattle.lists.specs.Lists.{iota, countBelow, filter}
-use Rattle.study.specs.Study.{Tide, Study, Contents, size, tide, distance}
+use Rattle.study.specs.Study.{Tide, Study, size, tide, distance}
 use Rattle.study.specs.Refusals.{settled}
 use Rattle.file_format.specs.File.{decoded}
 use Rattle.validity.specs.Memory.{State, short}
-use Rattle.guarantee.specs.Runs.{Change, set-minima, enter, withdraw, Call, call-open, call-read, call-change, call-ask}
-use Rattle.guarantee.specs.History.{held, verdict, changing, step}
+use Rattle.access.specs.Calls.{Holding, held, verdict, changing, step}
+use Rattle.guarantee.specs.Runs.{Offered, open-with, read-file, set-minima, enter, withdraw, ask, callOf}
 
 -- a tide that came in, by a file or by Enter: its setting, and its distance to the tide of each earlier name
 pub record Arrival : Type 0 where
@@ -62,31 +62,28 @@ withArrival setting row L =
 unfoldable pub withGone : ℕ → Ledger → Ledger
 withGone t L = record { arrivals = L .arrivals; gone = λ m. cond (eqb m (nameOf L (t - 1))) true (L .gone m) }
 
--- what an accepted change makes of the ledger
-abbrev pub noting : Change → Ledger → Ledger
-noting (set-minima M) L = L
-noting (enter setting row) L = withArrival setting row L
-noting (withdraw u t) L = withGone t L
-
--- what an accepted call makes of it: Open and Read begin anew
-unfoldable pub noted : Option Ledger → Call → Option Ledger
-noted l (call-open k) = some emptyLedger
-noted l (call-read file) = some (fileLedger (decoded file .study))
-noted l (call-change c) = changing l (noting c)
-noted l (call-ask q) = l
+-- what an accepted call makes of the ledger: Open and Read begin anew
+unfoldable pub noted : Option Ledger → Offered → Option Ledger
+noted l (open-with k) = some emptyLedger
+noted l (read-file file) = some (fileLedger (decoded file .study))
+noted l (set-minima M) = l
+noted l (enter setting row) = changing l (withArrival setting row)
+noted l (withdraw u t) = changing l (withGone t)
+noted l (ask Q) = l
 
 -- along the calls; a refused call changes nothing
-unfoldable pub noteAll : Bool → Option Contents → Option Ledger → List Call → Option Ledger
+unfoldable pub noteAll : Bool → Option Holding → Option Ledger → List Offered → Option Ledger
 noteAll tooShort h l [] = l
-noteAll tooShort h l (c ∷ cs) = noteAll tooShort (step tooShort h c) (settled (verdict tooShort h c) (noted l c) l) cs
+noteAll tooShort h l (c ∷ cs) =
+    noteAll tooShort (step tooShort h (callOf c)) (settled (verdict tooShort h (callOf c)) (noted l c) l) cs
 
 -- a dataset at the start counts as a file's
-abbrev pub begun : Option Contents → Option Ledger
+abbrev pub begun : Option Holding → Option Ledger
 begun none = none
-begun (some H) = some (fileLedger (H .study))
+begun (some H) = some (fileLedger (H .contents .study))
 
 -- the ledger that the start and the calls bring in
-unfoldable pub ledgerAfter : State → List Call → Option Ledger
+unfoldable pub ledgerAfter : State → List Offered → Option Ledger
 ledgerAfter start calls = noteAll (short start) (held start) (begun (held start)) calls
 
 -- a study's tides are exactly those that remain, in order

@@ -3,82 +3,52 @@
 use Prim.Native.Nat.{ℕ, suc, _+_, _*_, _≤_, _<_}
 use mathlib.Core.Path.{_≡_}
 use mathlib.Core.Logic.{_⊎_, _↔_}
-use mathlib.Core.Bool.{false}
+use mathlib.Core.Bool.{true, false}
 use mathlib.Core.List.{List, [], _∷_, _++_}
 use mathlib.Core.Option.{none, some}
 use lib.Dec.{T}
 use lib.ListN.{length, take}
 use Rattle.lists.specs.Lists.{_among_, at, greatest, overwrite, over}
-use Rattle.study.specs.declared.Minima.{Minima}
 use Rattle.study.specs.declared.BlockRecord.{BlockRecord}
 use Rattle.study.specs.Problem.{centres, centreOf, labels, radius, blocking, diameter, greatestDiameter, Feasible}
 use Rattle.study.specs.Study.{Study, Contents, size, distance, problem, Renumbered}
 use Rattle.study.specs.Theorems.{Canonical, IsNearest}
-use Rattle.study.specs.Refusals.{number, Numbered, accepted, refused, settled, Reply, value, refusal, firstOf, isUser}
-use Rattle.study.specs.Calls.{opening, holdsDuplicate, countOf, CentreLists, centresWritten, Figures, blockRecord}
+use Rattle.study.specs.Refusals.{number, Numbered, Verdict, accepted, refused, value, Reason, isUser}
+use Rattle.study.specs.Calls.{holdsDuplicate, countOf, CentreLists, centresWritten, Figures, blockRecord}
 use Rattle.file_format.specs.File.{newMark, oldMark, markOf, decoded}
 use Rattle.file_format.specs.Theorems.{Bytes, OldFile}
 use Rattle.validity.specs.Memory.{State, short, isDataset, contentsOf}
-use Rattle.dataset.specs.Answers.{openAnswer, openLeaves, minimaAnswer, minimaLeaves, enterAnswer, enterLeaves, withdrawAnswer, withdrawLeaves}
-use Rattle.study_file.specs.Answers.{readAnswer, readLeaves, writeAnswer, writeReply, writeLeaves}
-use Rattle.blocking.specs.Answers.{centresAnswer, centresFront, centresLeaves, blockAnswer, blockReply, blockList, blockRecords, judgeAnswer, judgeReply}
+use Rattle.access.specs.Calls.{Inquiry, Call, asks, Holding, holding, held, reasons, lent, Response, learnt, answer, reply, output, response, after}
+use Rattle.study_file.specs.Calls.{readsFile, writesFile}
+use Rattle.blocking.specs.Calls.{allThree, figureNumbers, findsCentres, makesBlocks}
 use Rattle.pricing.specs.Tariff.{total, shares}
 use Rattle.pricing.specs.Theorems.{StudyShares}
-use Rattle.priced_blocks.specs.Answers.{Bill, tariffReply}
-use Rattle.guarantee.specs.Runs.{set-minima, enter, withdraw, find-centres, make-blocks, price-blocks, judge-list, write-file, Query}
-use Rattle.guarantee.specs.Runs.{allThree, figureNumbers, judgementNumbers}
-use Rattle.guarantee.specs.Runs.{Call, call-open, call-read, call-change, call-ask, reasons, answer, after, lent, output, Response, response, run}
-use Rattle.guarantee.specs.History.{held, contentsAfter, studyAfter, learnt}
-use Rattle.guarantee.specs.Ledger.{Ledger, emptyLedger, fileLedger, noteAll, ledgerAfter, Exactly}
-use Rattle.guarantee.specs.Counts.{lastStretch, withdrawalsBy, countIn}
-
--- ---- the calls of a run are the calls of the contracts
-
--- the numbers of an answer that carries a value; none of a refusal
-abbrev pub replyNumbers : {A : Type 0} → (A → List ℕ) → Reply A → List ℕ
-replyNumbers f (value x) = f x
-replyNumbers f (refusal r) = []
-
--- what a run says of each call is, by equations, what the call's contract says of it
-pub record AsContracts (s : State) : Type 0 where
-  pub on-open : (k : ℕ) → (answer s (call-open k) ≡ openAnswer s k) × (after s (call-open k) ≡ openLeaves s k)
-  pub on-read : (file : List ℕ) → (answer s (call-read file) ≡ readAnswer s file) × (after s (call-read file) ≡ readLeaves s file)
-  pub on-minima : (M : Minima) → let c = call-change (set-minima M) in (answer s c ≡ minimaAnswer s M) × (after s c ≡ minimaLeaves s M)
-  pub on-enter : (setting : ℕ) (row : List ℕ)
-      → let c = call-change (enter setting row) in (answer s c ≡ enterAnswer s setting row) × (after s c ≡ enterLeaves s setting row)
-  pub on-withdraw : (u t : ℕ) → let c = call-change (withdraw u t) in (answer s c ≡ withdrawAnswer s u t) × (after s c ≡ withdrawLeaves s u t)
-  pub on-centres : (g : ℕ) (l : CentreLists) → let c = call-ask (find-centres g l) in
-      (answer s c ≡ centresAnswer s l) × (output s c .lists ≡ allThree (centresLeaves s g l))
-      × (output s c .numbers ≡ settled (answer s c) (length (centresFront s g l) ∷ []) [])
-  pub on-block : (list : List ℕ) (records : List BlockRecord) → let c = call-ask (make-blocks list records) in
-      (answer s c ≡ blockAnswer s (length list) (length records))
-      × (output s c .numbers ≡ replyNumbers figureNumbers (blockReply s (length list) (length records)))
-      × (output s c .lists ≡ blockList s list (length records) ∷ [])
-      × (output s c .records ≡ blockRecords s (length list) records)
-  pub on-tariff : (list : List ℕ) (records : List BlockRecord) → let c = call-ask (price-blocks list records) in
-      let B = tariffReply s (length list) (length records) in
-      (answer s c ≡ blockAnswer s (length list) (length records))
-      × (output s c .numbers ≡ replyNumbers (λ F. figureNumbers F ++ (B .total ∷ B .shares)) (B .blocked))
-      × (output s c .lists ≡ blockList s list (length records) ∷ [])
-      × (output s c .records ≡ blockRecords s (length list) records)
-  pub on-judge : (list : List ℕ) → let c = call-ask (judge-list list) in
-      (answer s c ≡ judgeAnswer s list) × (output s c .numbers ≡ replyNumbers judgementNumbers (judgeReply s list))
-  pub on-write : (bytes : List ℕ) → let c = call-ask (write-file bytes) in
-      (answer s c ≡ writeAnswer s (length bytes))
-      × (output s c .numbers ≡ replyNumbers (λ n. n ∷ []) (writeReply s (length bytes)))
-      × (output s c .lists ≡ writeLeaves s bytes ∷ [])
+use Rattle.priced_blocks.specs.Calls.{pricesBlocks}
+use Rattle.guarantee.specs.Runs.{Offered, read-file, callOf, bringsIn, run, heldAfter, studyAfter}
+use Rattle.guarantee.specs.Ledger.{Ledger, fileLedger, noteAll, ledgerAfter, Exactly}
+use Rattle.guarantee.specs.Counts.{acceptedCalls, lastStretch, withdrawalsBy, countIn}
 
 -- ---- demand 1
 
--- for any record and memory and any call: the answer is the first of the documents' reasons that holds, and accepted where none does; a
--- refused call leaves record and memory as they were, and writes into nothing that it is lent
+-- of a list of reasons: accepted, and none of them holds; or refused, by one that holds where none before it does
+abbrev pub IsFirst : List Reason → Verdict → Type 0
+IsFirst rs accepted = (r : Reason) → r among rs → r .holds ≡ false
+IsFirst rs (refused x) =
+    (before : List Reason) × (r : Reason) × (rest : List Reason)
+    × (rs ≡ before ++ (r ∷ rest)) × ((q : Reason) → q among before → q .holds ≡ false) × (r .holds ≡ true) × (r .because ≡ x)
+
+-- for any record and memory and any call, as its contract cites it
 pub record Demand1 : Type 0 where
-  pub contracts : (s : State) → AsContracts s
-  pub first : (s : State) (c : Call) → answer s c ≡ firstOf (reasons s c)
+  -- the answer is the first of the documents' reasons that holds, and accepted where none does; there is no other such answer
+  pub first : (s : State) (c : Call) → IsFirst (reasons (short s) (held s) c) (answer s c)
+  pub only : (s : State) (c : Call) (v : Verdict) → IsFirst (reasons (short s) (held s) c) v → v ≡ answer s c
+  -- a refused call leaves record and memory as they were, and writes into nothing that it is lent
   pub unchanged : (s : State) (c : Call) (r : Numbered) → answer s c ≡ refused r → after s c ≡ s
   pub unwritten : (s : State) (c : Call) (r : Numbered) → answer s c ≡ refused r → output s c ≡ lent c
   -- a call that only reads leaves record and memory, accepted or not
-  pub only-reads : (s : State) (q : Query) → after s (call-ask q) ≡ s
+  pub only-reads : (s : State) (Q : Inquiry) → after s (asks Q) ≡ s
+  -- answer and output, of which the contracts speak, are all that the caller learns
+  pub learns : (s : State) (c : Call) → response s c ≡ record { verdict = answer s c; output = output s c }
 
 -- ---- demand 3
 
@@ -104,13 +74,18 @@ blocked F list records = record { verdict = accepted; output = record { numbers 
 
 -- for every start, every list of calls, and the Block after it, lent any list and records
 pub record Demand3 : Type 0 where
-  -- where it is not refused, there is a study, and the guarantee holds of it
-  pub guaranteed : (start : State) (calls : List Call) (list₀ list : List ℕ) (records₀ records : List BlockRecord) (F : Figures)
-      → response (run start calls) (call-ask (make-blocks list₀ records₀)) ≡ blocked F list records
+  -- where it is not refused, its caller learns figures, a list and records
+  pub shaped : (start : State) (calls : List Offered) (list₀ : List ℕ) (records₀ : List BlockRecord)
+      → answer (run start calls) (makesBlocks list₀ records₀) ≡ accepted
+      → (F : Figures) × (list : List ℕ) × (records : List BlockRecord)
+      × (response (run start calls) (makesBlocks list₀ records₀) ≡ blocked F list records)
+  -- then there is a study, and the guarantee holds of it
+  pub guaranteed : (start : State) (calls : List Offered) (list₀ list : List ℕ) (records₀ records : List BlockRecord) (F : Figures)
+      → response (run start calls) (makesBlocks list₀ records₀) ≡ blocked F list records
       → (S : Study) × (studyAfter start calls ≡ some S) × Guaranteed S F list
   -- while there is no study, it is refused
-  pub no-study : (start : State) (calls : List Call) (list : List ℕ) (records : List BlockRecord) → studyAfter start calls ≡ none
-      → (r : Numbered) × (answer (run start calls) (call-ask (make-blocks list records)) ≡ refused r)
+  pub no-study : (start : State) (calls : List Offered) (list : List ℕ) (records : List BlockRecord) → studyAfter start calls ≡ none
+      → (r : Numbered) × (answer (run start calls) (makesBlocks list records) ≡ refused r)
 
 -- ---- demand 2
 
@@ -124,50 +99,52 @@ pub record CanonicalBlock (S : Study) (F : Figures) (list₀ list : List ℕ) (r
   -- an assignment at the radius, the first by the order in which the tides prefer blocks; no smaller candidate has one
   pub canonical : Canonical (problem S)
 
--- after an accepted Open or Read the ledger begins with that file's tides, or none, and goes on with the calls since
-pub record Anew (start : State) (before since : List Call) : Type 0 where
-  pub opened : (k : ℕ) → answer (run start before) (call-open k) ≡ accepted
-      → ledgerAfter start (before ++ (call-open k ∷ since)) ≡ noteAll (short start) (some (opening k)) (some emptyLedger) since
-  pub read : (file : List ℕ) → answer (run start before) (call-read file) ≡ accepted
-      → ledgerAfter start (before ++ (call-read file ∷ since)) ≡ noteAll (short start) (some (decoded file)) (some (fileLedger (decoded file .study))) since
+-- after an accepted call that begins anew the ledger begins with the tides that it brings in, if any, and goes on with the calls since
+pub record Anew (start : State) (before since : List Offered) : Type 0 where
+  pub begun : (c : Offered) (H : Contents) → bringsIn (callOf c) ≡ some H → answer (run start before) (callOf c) ≡ accepted
+      → ledgerAfter start (before ++ (c ∷ since)) ≡ noteAll (short start) (some (holding H)) (some (fileLedger (H .study))) since
+
+-- Write, lent these bytes, is accepted, answers n and leaves bytes
+pub record Wrote (s : State) (bytes : List ℕ) (n : ℕ) (left : List ℕ) : Type 0 where
+  pub replied : reply s (writesFile bytes) ≡ value (n ∷ [])
+  pub leaves : output s (writesFile bytes) .lists ≡ left ∷ []
 
 -- files and datasets correspond one to one, of what Write and Read leave; a dataset's only file is that of mark 55 (document 02, 2.7)
 pub record FilesAndDatasets : Type 0 where
   -- what Write writes, Read reads back: onto the same record and memory nothing changes, onto any other there is the same dataset
-  pub same : (s : State) (bytes : List ℕ) (n : ℕ) → writeReply s (length bytes) ≡ value n → readLeaves s (take n (writeLeaves s bytes)) ≡ s
-  pub read-back : (s onto : State) (bytes : List ℕ) (n : ℕ) → writeReply s (length bytes) ≡ value n → short onto ≡ false
-      → let read = readLeaves onto (take n (writeLeaves s bytes)) in T (isDataset read) × (contentsOf read ≡ contentsOf s)
+  pub same : (s : State) (bytes left : List ℕ) (n : ℕ) → Wrote s bytes n left → after s (readsFile (take n left)) ≡ s
+  pub read-back : (s onto : State) (bytes left : List ℕ) (n : ℕ) → Wrote s bytes n left → short onto ≡ false
+      → let read = after onto (readsFile (take n left)) in T (isDataset read) × (contentsOf read ≡ contentsOf s)
   -- a file that Read accepts has one of two marks; one of mark 55 is what Write then writes
-  pub marked : (onto : State) (file : List ℕ) → readAnswer onto file ≡ accepted → (markOf file ≡ newMark) ⊎ (markOf file ≡ oldMark)
-  pub written-again : (onto : State) (file bytes : List ℕ) → Bytes file → readAnswer onto file ≡ accepted → markOf file ≡ newMark
+  pub marked : (onto : State) (file : List ℕ) → answer onto (readsFile file) ≡ accepted → (markOf file ≡ newMark) ⊎ (markOf file ≡ oldMark)
+  pub written-again : (onto : State) (file bytes : List ℕ) → Bytes file → answer onto (readsFile file) ≡ accepted → markOf file ≡ newMark
       → length file ≤ length bytes
-      → let read = readLeaves onto file in
-      (writeReply read (length bytes) ≡ value (length file)) × (take (length file) (writeLeaves read bytes) ≡ file)
+      → (left : List ℕ) × Wrote (after onto (readsFile file)) bytes (length file) left × (take (length file) left ≡ file)
   -- one of mark 54 is read to the dataset whose own file says the same of k, minima, tides and counts
-  pub old-file : (onto : State) (file : List ℕ) → Bytes file → readAnswer onto file ≡ accepted → markOf file ≡ oldMark
-      → OldFile file (contentsOf (readLeaves onto file))
+  pub old-file : (onto : State) (file : List ℕ) → Bytes file → answer onto (readsFile file) ≡ accepted → markOf file ≡ oldMark
+      → OldFile file (contentsOf (after onto (readsFile file)))
 
 -- for every start and every list of calls
 pub record Demand2 : Type 0 where
   -- what record and memory hold is what the start and the calls brought in, and the same settles all that the caller of any call learns
-  pub holds : (start : State) (calls : List Call) → held (run start calls) ≡ contentsAfter start calls
-  pub settles : (start : State) (calls : List Call) (c : Call) → response (run start calls) c ≡ learnt (short start) (contentsAfter start calls) c
+  pub holds : (start : State) (calls : List Offered) → held (run start calls) ≡ heldAfter start calls
+  pub settles : (start : State) (calls : List Offered) (c : Call) → response (run start calls) c ≡ learnt (short start) (heldAfter start calls) c
   -- the last file's tides, if any, and those entered since, without those withdrawn, in order
-  pub exactly : (start : State) (calls : List Call) (H : Contents) → held (run start calls) ≡ some H
-      → (L : Ledger) × (ledgerAfter start calls ≡ some L) × Exactly (H .study) L
-  pub anew : (start : State) (before since : List Call) → Anew start before since
+  pub exactly : (start : State) (calls : List Offered) (H : Holding) → held (run start calls) ≡ some H
+      → (L : Ledger) × (ledgerAfter start calls ≡ some L) × Exactly (H .contents .study) L
+  pub anew : (start : State) (before since : List Offered) → Anew start before since
   -- document 02, 2.7: each count is the one it began with, and the withdrawals accepted from that user since the start or the last Open or
   -- Read, whichever is later
-  pub counted : (start : State) (calls : List Call) (H : Contents) (u : ℕ) → held (run start calls) ≡ some H → T (isUser u)
-      → let last = lastStretch start calls in countOf (H .withdrawals) u ≡ countIn u (last .from) + withdrawalsBy u (last .calls)
+  pub counted : (start : State) (calls : List Offered) (H : Holding) (u : ℕ) → held (run start calls) ≡ some H → T (isUser u)
+      → let last = lastStretch start calls in countOf (H .contents .withdrawals) u ≡ countIn u (last .from) + withdrawalsBy u (last .calls)
   -- 25, where no earlier reason holds, exactly when no partition is feasible
-  pub too-few : (start : State) (calls : List Call) (S : Study) (list : List ℕ) (records : List BlockRecord)
+  pub too-few : (start : State) (calls : List Offered) (S : Study) (list : List ℕ) (records : List BlockRecord)
       → studyAfter start calls ≡ some S → 0 < size S
-      → (answer (run start calls) (call-ask (make-blocks list records)) ≡ refused (number 25)) ↔ ((D : ℕ → ℕ) → Feasible (problem S) D → ⊥)
+      → (answer (run start calls) (makesBlocks list records) ≡ refused (number 25)) ↔ ((D : ℕ → ℕ) → Feasible (problem S) D → ⊥)
   -- an accepted Block's figures, list and records are those that documents 01 and 02 single out
-  pub blocking : (start : State) (calls : List Call) (S : Study) (list₀ list : List ℕ) (records₀ records : List BlockRecord) (F : Figures)
+  pub blocking : (start : State) (calls : List Offered) (S : Study) (list₀ list : List ℕ) (records₀ records : List BlockRecord) (F : Figures)
       → studyAfter start calls ≡ some S
-      → response (run start calls) (call-ask (make-blocks list₀ records₀)) ≡ blocked F list records
+      → response (run start calls) (makesBlocks list₀ records₀) ≡ blocked F list records
       → CanonicalBlock S F list₀ list records₀ records
   -- files and datasets correspond one to one
   pub files : FilesAndDatasets
@@ -182,14 +159,14 @@ charged F price parts list records =
 -- for every start, every list of calls, and the tariff after it, lent any list and records
 pub record ForTariff : Type 0 where
   -- it is accepted, or refused by a number, exactly as Block is
-  pub as-block : (start : State) (calls : List Call) (list : List ℕ) (records : List BlockRecord)
-      → let s = run start calls in answer s (call-ask (price-blocks list records)) ≡ answer s (call-ask (make-blocks list records))
+  pub as-block : (start : State) (calls : List Offered) (list : List ℕ) (records : List BlockRecord)
+      → let s = run start calls in answer s (pricesBlocks list records) ≡ answer s (makesBlocks list records)
   -- where Block is accepted, figures, list and records are Block's, the price is that of the study's blocking, and the shares of the
   -- settings add up to it (pricing/Theorems)
-  pub charges : (start : State) (calls : List Call) (S : Study) (list₀ list : List ℕ) (records₀ records : List BlockRecord) (F : Figures)
+  pub charges : (start : State) (calls : List Offered) (S : Study) (list₀ list : List ℕ) (records₀ records : List BlockRecord) (F : Figures)
       → studyAfter start calls ≡ some S
-      → response (run start calls) (call-ask (make-blocks list₀ records₀)) ≡ blocked F list records
-      → (response (run start calls) (call-ask (price-blocks list₀ records₀)) ≡ charged F (total S) (shares S) list records)
+      → response (run start calls) (makesBlocks list₀ records₀) ≡ blocked F list records
+      → (response (run start calls) (pricesBlocks list₀ records₀) ≡ charged F (total S) (shares S) list records)
       × StudyShares S
 
 -- ---- Centres (document 02, 2.4)
@@ -212,15 +189,15 @@ pub record CentresTold (S : Study) (g count : ℕ) (l₀ l : CentreLists) : Type
 
 -- for every start, every list of calls, and the Centres after it, at any g and lent any lists, where it is not refused
 pub record ForCentres : Type 0 where
-  pub tells : (start : State) (calls : List Call) (S : Study) (g count : ℕ) (l₀ l : CentreLists) → studyAfter start calls ≡ some S
-      → response (run start calls) (call-ask (find-centres g l₀)) ≡ centred count l → CentresTold S g count l₀ l
+  pub tells : (start : State) (calls : List Offered) (S : Study) (g count : ℕ) (l₀ l : CentreLists) → studyAfter start calls ≡ some S
+      → response (run start calls) (findsCentres g l₀) ≡ centred count l → CentresTold S g count l₀ l
 
 -- ---- duplicates (document 02, 2.8: twins)
 
 -- for every start and every list of calls
 pub record DuplicateFree : Type 0 where
   -- where the start holds none, and no file that is read holds one, none is held afterwards
-  pub stays : (start : State) (calls : List Call)
-      → ((H : Contents) → held start ≡ some H → holdsDuplicate (H .study) ≡ false)
-      → ((file : List ℕ) → call-read file among calls → holdsDuplicate (decoded file .study) ≡ false)
-      → (H : Contents) → held (run start calls) ≡ some H → holdsDuplicate (H .study) ≡ false
+  pub stays : (start : State) (calls : List Offered)
+      → ((H : Holding) → held start ≡ some H → holdsDuplicate (H .contents .study) ≡ false)
+      → ((file : List ℕ) → read-file file among acceptedCalls (short start) (held start) calls → holdsDuplicate (decoded file .study) ≡ false)
+      → (H : Holding) → held (run start calls) ≡ some H → holdsDuplicate (H .contents .study) ≡ false

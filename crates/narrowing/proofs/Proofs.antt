@@ -26,10 +26,10 @@ use Rattle.study.proofs.MinimaLaws.{fit-acceptable, acceptable-T}
 use Rattle.validity.specs.Memory.{State, stateOf, setK, setMinima, short, isDataset, contentsOf, stored}
 use Rattle.validity.specs.Validity.{IsStudy}
 use Rattle.validity.proofs.Proofs.{for-datasets}
-use Rattle.dataset.specs.Answers.{freshLeaves, heldAnswer, heldLeaves, openAnswer, openLeaves, minimaAnswer, minimaLeaves}
-use Rattle.dataset.specs.Answers.{enterAnswer, enterLeaves, withdrawAnswer, withdrawLeaves}
-use Rattle.dataset.proofs.AnswerLaws.{fresh-own, accepted-held, user-place}
-use Rattle.narrowing.specs.Narrowing.{narrowed, narrowMinima, narrowDataset, narrowState, Unchanged}
+use Rattle.access.specs.Calls.{Update, Call, changes, held, verdict, reasons, answer, made, after}
+use Rattle.access.proofs.AccessLaws.{source-own, ladder-is, accepted-held, user-place, update-answer}
+use Rattle.dataset.specs.Calls.{opensDataset, setsMinima, entersTide, withdrawsTide}
+use Rattle.narrowing.specs.Narrowing.{narrowed, narrowMinima, narrowDataset, narrowState, Alike, Unchanged}
 
 -- what either of two tests tells, or that neither passes
 either : {A : Type 0} (a b : Bool) → (T a → A) → (T b → A) → A ⊎ ((a ≡ false) × (b ≡ false))
@@ -133,22 +133,26 @@ module _ (s : State) where
   valid : isDataset s ≡ true → ValidContents (contentsOf s)
   valid e = for-datasets .valid s (true-T (isDataset s) e)
 
-  -- of a user who is none nothing else matters
-  module _ (users users′ : List ℕ) (users-same : allOf isUser users′ ≡ allOf isUser users)
-      (own own′ : Contents → List Reason) {makes makes′ : Contents → Contents}
-      (same : (H : Contents) → ValidContents H → allOf isUser users ≡ true → firstOf (own′ H) ≡ firstOf (own H))
-      (makes-same : (H : Contents) → ValidContents H → allOf isUser users ≡ true → firstOf (own H) ≡ accepted → makes′ H ≡ makes H) where
-    answer-same : heldAnswer s users′ own′ ≡ heldAnswer s users own
-    unfolding heldAnswer
+  -- two updates; of a user who is none nothing else matters
+  module _ (U W : Update) (users-same : allOf isUser (W .caller .users) ≡ allOf isUser (U .caller .users))
+      (same : (H : Contents) → ValidContents H → allOf isUser (U .caller .users) ≡ true → firstOf (W .own H) ≡ firstOf (U .own H))
+      (makes-same : (H : Contents) → ValidContents H → allOf isUser (U .caller .users) ≡ true → firstOf (U .own H) ≡ accepted
+      → W .makes H ≡ U .makes H) where
+    answer-same : answer s (changes W) ≡ answer s (changes U)
     answer-same =
-        ladder-same (short s) users users′ (isDataset s) (own (contentsOf s)) (own′ (contentsOf s)) users-same
-        (λ A. same (contentsOf s) (valid (A .tested)) (A .known))
+        let H = contentsOf s in
+        update-answer s W ∙ sym (ladder-is s (W .caller) (W .own))
+        ∙ ladder-same (short s) (U .caller .users) (W .caller .users) (isDataset s) (U .own H) (W .own H) users-same
+        (λ A. same H (valid (A .tested)) (A .known))
+        ∙ ladder-is s (U .caller) (U .own) ∙ sym (update-answer s U)
 
-    held-same : (heldAnswer s users′ own′ ≡ heldAnswer s users own)
-        × (settled (heldAnswer s users′ own′) (stored (makes′ (contentsOf s)) s) s ≡ settled (heldAnswer s users own) (stored (makes (contentsOf s)) s) s)
-    held-same = (
+    update-same : Alike s (changes W) (changes U)
+    unfolding after made
+    update-same = (
       answer-same,
-      leaves-same answer-same (λ e. let A = accepted-held s users own e in makes-same (contentsOf s) (valid (A .tested)) (A .known) (A .reasons)),
+      leaves-same answer-same (λ e.
+          let A = accepted-held s (U .caller) (U .own) (sym (update-answer s U) ∙ e) in
+          makes-same (contentsOf s) (valid (A .tested)) (A .known) (A .reasons)),
     )
 
   -- ---- the record itself
@@ -169,41 +173,49 @@ module _ (s : State) where
       record-uncut (narrow-below (s .dataset .k) (omega (arith, D .k-high)))
       (narrow-uncut (narrowed (s .dataset .k)) (s .dataset .minima) (fit-acceptable (D .minima)))
 
-  record-same : (users : List ℕ) (own : Contents → List Reason)
-      → (heldAnswer (narrowState s) users own ≡ heldAnswer s users own) × (heldAnswer s users own ≡ accepted → narrowState s ≡ s)
-  unfolding heldAnswer heldReasons freshReasons firstOf short
-  record-same users own =
-      ⊎-elim (λ e. (ap (λ t. heldAnswer t users own) e, λ a. e))
-      (λ n. (rw (n .0, n .1), λ a. absurd (true≢false (sym (accepted-held s users own a .tested) ∙ n .1))))
-      (either (isDataset (narrowState s)) (isDataset s) (λ t. narrow-dataset-uncut (for-datasets .exactly (narrowState s) .0 t .study))
-      (λ t. dataset-uncut (for-datasets .exactly s .0 t .study)))
+  -- the record as it is, or neither is a dataset
+  cut-or-none : (narrowState s ≡ s) ⊎ ((isDataset (narrowState s) ≡ false) × (isDataset s ≡ false))
+  cut-or-none =
+      either (isDataset (narrowState s)) (isDataset s) (λ t. narrow-dataset-uncut (for-datasets .exactly (narrowState s) .0 t .study))
+      (λ t. dataset-uncut (for-datasets .exactly s .0 t .study))
+
+  held-same : held (narrowState s) ≡ held s
+  unfolding held short
+  held-same = ⊎-elim (λ e. ap held e) (λ n. rw (n .0, n .1)) cut-or-none
+
+  within : isDataset s ≡ true → narrowState s ≡ s
+  within f = ⊎-elim (λ e. e) (λ n. absurd (true≢false (sym f ∙ n .1))) cut-or-none
+
+  open-same : (k : ℕ) → Alike s (opensDataset (narrowed k)) (opensDataset k)
+  unfolding opensDataset answer verdict reasons after made openReasons
+  open-same k =
+      let e : answer s (opensDataset (narrowed k)) ≡ answer s (opensDataset k) = rw (between-same 8 k (omega arith)) in
+      (e, leaves-same e (λ a. ap opening (between-uncut 8 k (omega arith) (none-holds (openReasons k) (source-own s (record { own = openReasons k; brings = opening k }) a .1) .0))))
 
 pub unchanged : (s : State) → Unchanged s
-unfolding openAnswer openLeaves freshLeaves heldLeaves openReasons minimaAnswer minimaLeaves minimaReasons
-    enterAnswer enterLeaves enterReasons withdrawAnswer withdrawLeaves withdrawReasons
+unfolding setsMinima entersTide withdrawsTide minimaReasons enterReasons withdrawReasons
 unchanged s =
     record {
-      on-open = λ k.
-          let e : openAnswer s (narrowed k) ≡ openAnswer s k = rw (between-same 8 k (omega arith)) in
-          (e, leaves-same s e (λ a. ap opening (between-uncut 8 k (omega arith) (none-holds (openReasons k) (fresh-own s (openReasons k) a .1) .0))));
+      on-open = open-same s;
       on-minima = λ M.
-          held-same s [] [] refl _ _ (λ H ok k. rw (valid-same (H .study .k) M))
+          update-same s _ _ refl (λ H ok k. rw (valid-same (H .study .k) M))
           (λ H ok k a. ap (λ N. settingMinima N H) (valid-uncut (H .study .k) M (none-holds (minimaReasons (H .study) M) a .0)));
       on-enter = λ x row.
-          held-same s [] [] refl _ _ (λ H ok k. enter-same (H .study) x row (omega (arith, ok .study .k-high)))
+          update-same s _ _ refl (λ H ok k. enter-same (H .study) x row (omega (arith, ok .study .k-high)))
           (λ H ok k a. ap (λ y. entering y row H)
           (between-uncut (H .study .k) x (omega (arith, ok .study .k-high)) (none-holds (enterReasons (H .study) x row) a .1 .1 .0)));
       on-withdraw = λ u t.
-          held-same s (u ∷ []) (narrowed u ∷ []) (users-same u) _ _
+          update-same s _ _ (users-same u)
           (λ H ok k. rw (user-uncut u k, between-same (size (H .study)) t (omega (arith, ok .study .few))))
           (λ H ok k a. ap₂ (λ v x. withdrawing v x H) (user-uncut u k)
           (between-uncut (size (H .study)) t (omega (arith, ok .study .few)) (none-holds (withdrawReasons H u t) a .0)));
-      on-record = record-same s;
+      on-record = held-same s;
+      within = within s;
     }
 
 -- ---- for the callers
 
 -- a call that took y did what it does with x, where y is z, and z does what x does
-pub as-given : {A : Type 0} (answer : A → Verdict) (leaves : A → State) {w : Verdict} {t : State} {x y z : A} → y ≡ z
-    → (answer z ≡ answer x) × (leaves z ≡ leaves x) → (w ≡ answer y) × (t ≡ leaves y) → (w ≡ answer x) × (t ≡ leaves x)
-as-given answer leaves e same did = (did .0 ∙ ap answer e ∙ same .0, did .1 ∙ ap leaves e ∙ same .1)
+pub as-given : {A : Type 0} (s : State) (call : A → Call) (x : A) {w : Verdict} {t : State} {y z : A} → y ≡ z
+    → Alike s (call z) (call x) → (w ≡ answer s (call y)) × (t ≡ after s (call y)) → (w ≡ answer s (call x)) × (t ≡ after s (call x))
+as-given s call x e same did = (did .0 ∙ ap (λ y. answer s (call y)) e ∙ same .0, did .1 ∙ ap (λ y. after s (call y)) e ∙ same .1)

@@ -2,15 +2,14 @@
 -- it; `unchanged` of proofs/Proofs.antt proves it. Assumes nothing.
 use Prim.Native.Nat.{ℕ}
 use mathlib.Core.Path.{_≡_}
-use mathlib.Core.Bool.{cond}
+use mathlib.Core.Bool.{true, cond}
 use mathlib.Core.List.{List, map}
 use lib.Dec.{ltb}
 use Rattle.study.specs.declared.Minima.{Minima}
 use Rattle.study.specs.declared.Dataset.{Dataset}
-use Rattle.study.specs.Study.{Contents}
-use Rattle.study.specs.Refusals.{accepted, Reason}
-use Rattle.validity.specs.Memory.{State, stateOf, setK, setMinima}
-use Rattle.dataset.specs.Answers.{heldAnswer, openAnswer, openLeaves, minimaAnswer, minimaLeaves, enterAnswer, enterLeaves, withdrawAnswer, withdrawLeaves}
+use Rattle.validity.specs.Memory.{State, stateOf, isDataset, setK, setMinima}
+use Rattle.access.specs.Calls.{Call, held, answer, after}
+use Rattle.dataset.specs.Calls.{opensDataset, setsMinima, entersTide, withdrawsTide}
 
 -- 255 for each number above it
 unfoldable pub narrowed : ℕ → ℕ
@@ -28,14 +27,16 @@ narrowDataset r = setK (narrowed (r .k)) (setMinima (narrowMinima (r .minima)) r
 abbrev pub narrowState : State → State
 narrowState s = stateOf (narrowDataset (s .dataset)) (s .distances) (s .settings)
 
+-- two calls answer and leave the same
+abbrev pub Alike : State → Call → Call → Type 0
+Alike s c d = (answer s c ≡ answer s d) × (after s c ≡ after s d)
+
 -- for any record and memory: no answer changes, and nothing that a call leaves
 pub record Unchanged (s : State) : Type 0 where
-  pub on-open : (k : ℕ) → (openAnswer s (narrowed k) ≡ openAnswer s k) × (openLeaves s (narrowed k) ≡ openLeaves s k)
-  pub on-minima : (M : Minima) → (minimaAnswer s (narrowMinima M) ≡ minimaAnswer s M) × (minimaLeaves s (narrowMinima M) ≡ minimaLeaves s M)
-  pub on-enter : (setting : ℕ) (row : List ℕ)
-      → (enterAnswer s (narrowed setting) row ≡ enterAnswer s setting row) × (enterLeaves s (narrowed setting) row ≡ enterLeaves s setting row)
-  pub on-withdraw : (u t : ℕ) → (withdrawAnswer s (narrowed u) (narrowed t) ≡ withdrawAnswer s u t)
-      × (withdrawLeaves s (narrowed u) (narrowed t) ≡ withdrawLeaves s u t)
-  -- any call on a dataset, of the record itself; where it is accepted, the record was within bytes
-  pub on-record : (users : List ℕ) (own : Contents → List Reason)
-      → (heldAnswer (narrowState s) users own ≡ heldAnswer s users own) × (heldAnswer s users own ≡ accepted → narrowState s ≡ s)
+  pub on-open : (k : ℕ) → Alike s (opensDataset (narrowed k)) (opensDataset k)
+  pub on-minima : (M : Minima) → Alike s (setsMinima (narrowMinima M)) (setsMinima M)
+  pub on-enter : (setting : ℕ) (row : List ℕ) → Alike s (entersTide (narrowed setting) row) (entersTide setting row)
+  pub on-withdraw : (u t : ℕ) → Alike s (withdrawsTide (narrowed u) (narrowed t)) (withdrawsTide u t)
+  -- of the record itself: the same is held, so any call answers and tells the same; where a dataset is held, the record was within bytes
+  pub on-record : held (narrowState s) ≡ held s
+  pub within : isDataset s ≡ true → narrowState s ≡ s

@@ -1,3 +1,3 @@
--- To be read beside document 02, 2.3: Answers. Accepted: an inner promise.
-pub mod Answers
+-- To be read beside document 02, 2.3: Calls. Accepted: an inner promise.
+pub mod Calls
 pub mod Accepted

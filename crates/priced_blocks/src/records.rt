@@ -5,10 +5,10 @@ use blocking::storing::put_records;
 use study::BlockRecord;
 use study::Dataset;
 ghost use mathlib.Core.Path.{_≡_};
-ghost use lib.ListN.{length};
+ghost use mathlib.Core.List.{[], _∷_};
 ghost use Rattle.validity.specs.Memory.{entryState};
-ghost use Rattle.blocking.specs.Answers.{blockList, blockRecords};
-ghost use Rattle.priced_blocks.specs.Answers.{billOf, tariffReply};
+ghost use Rattle.access.specs.Calls.{output};
+ghost use Rattle.priced_blocks.specs.Calls.{pricesBlocks, Billed};
 
 // The tariff: list and records as Block leaves them; Block's answer, the total and the shares. A refusal writes nothing.
 pub fn price_blocks(
@@ -18,12 +18,11 @@ pub fn price_blocks(
     list: &mut [u8],
     records: &mut [BlockRecord],
 ) -> Priced
-    ensures answer { λ r. ⌜ billOf r
-        ≡ tariffReply (entryState dataset distances settings) (length (now (list .entry))) (length (now (records .entry))) ⌝ }
-    ensures list { λ _. ⌜ now (list .exit)
-        ≡ blockList (entryState dataset distances settings) (now (list .entry)) (length (now (records .entry))) ⌝ }
+    ensures answer { λ r. ⌜ Billed (entryState dataset distances settings) (pricesBlocks (now (list .entry)) (now (records .entry))) r ⌝ }
+    ensures list { λ _. ⌜ now (list .exit) ∷ []
+        ≡ output (entryState dataset distances settings) (pricesBlocks (now (list .entry)) (now (records .entry))) .lists ⌝ }
     ensures records { λ _. ⌜ now (records .exit)
-        ≡ blockRecords (entryState dataset distances settings) (length (now (list .entry))) (now (records .entry)) ⌝ }
+        ≡ output (entryState dataset distances settings) (pricesBlocks (now (list .entry)) (now (records .entry))) .records ⌝ }
 {
     let room = records.len();
     let computed = price_core(dataset, distances, settings, list, room);

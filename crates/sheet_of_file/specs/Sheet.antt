@@ -1,6 +1,7 @@
 -- The sheet that document 01 prints for given bytes, of the definitions of Read and Block alone. Assumes nothing.
 use Prim.Native.Nat.{ℕ}
 use mathlib.Core.List.{List, _++_}
+use lib.ListN.{replicate}
 use Rattle.lists.specs.Lists.{tabulate}
 use Rattle.study.specs.Limits.{maxTides}
 use Rattle.study.specs.Study.{Contents}
@@ -8,8 +9,9 @@ use Rattle.study.specs.Refusals.{Verdict, replied, firstOf}
 use Rattle.study.specs.Calls.{blockReasons, figures, blockRecord}
 use Rattle.file_format.specs.File.{decoded, readReasons}
 use Rattle.sheet_text.specs.Text.{sheetText}
-use Rattle.validity.specs.Memory.{State}
-use Rattle.blocking.specs.Answers.{blockReply, blockRecords}
+use Rattle.validity.specs.Memory.{State, contentsOf}
+use Rattle.access.specs.Calls.{answer}
+use Rattle.blocking.specs.Calls.{makesBlocks}
 use Rattle.blocking.specs.Rows.{noRecords}
 
 -- accepted: the blocks of the study, and the withdrawals; otherwise the refusal
@@ -31,4 +33,4 @@ sheetOf file = fileText printed file
 
 -- what is printed of Block on a record and memory, with room for 120 tides
 unfoldable pub blockedText : State → List ℕ
-blockedText s = sheetText (blockReply s maxTides maxTides) (blockRecords s maxTides noRecords) (s .dataset .withdrawn)
+blockedText s = printed (answer s (makesBlocks (replicate maxTides 0) noRecords)) (contentsOf s)

@@ -1,61 +1,57 @@
 -- The record of Theorems.antt, proved. Assumes nothing.
 use Prim.Native.Nat.{ℕ}
-use native.Mathlib.Omega.{arith}
 use mathlib.Core.Path.{_≡_, sym, ap, _∙_, subst}
-use mathlib.Core.Bool.{Bool, true, false, cond}
+use mathlib.Core.Bool.{false}
 use mathlib.Core.List.{List}
 use lib.Dec.{T}
-use Rattle.study.specs.Refusals.{number, Verdict, accepted, refused, settled, firstOf, freshReasons}
+use Rattle.study.specs.Refusals.{accepted, settled, firstOf, freshReasons}
 use Rattle.study.specs.Theorems.{ValidContents}
 use Rattle.file_format.specs.File.{newMark, oldMark, fileOf, markOf, decoded, readReasons}
 use Rattle.file_format.specs.Theorems.{Bytes, OldFile}
 use Rattle.file_format.proofs.Proofs.{files}
 use Rattle.validity.specs.Memory.{State, short, isDataset, contentsOf, stored}
-use Rattle.dataset.specs.Answers.{freshAnswer, freshLeaves}
 use Rattle.validity.proofs.Proofs.{for-datasets}
-use Rattle.study_file.specs.Answers.{readAnswer, readLeaves}
+use Rattle.access.specs.Calls.{verdict, reasons, answer, made, after}
+use Rattle.access.proofs.AccessLaws.{source-own}
+use Rattle.study_file.specs.Calls.{readsFile}
 use Rattle.study_file.specs.Theorems.{ForFiles}
 
 -- an accepted Read leaves the contents of its file
-leaves : (over : State) (bytes : List ℕ) → readAnswer over bytes ≡ accepted → readLeaves over bytes ≡ stored (decoded bytes) over
-unfolding readLeaves freshLeaves readAnswer
+leaves : (over : State) (bytes : List ℕ) → answer over (readsFile bytes) ≡ accepted → after over (readsFile bytes) ≡ stored (decoded bytes) over
+unfolding after made readsFile
 leaves over bytes e = ap (λ v. settled v (stored (decoded bytes) over) over) e
 
 -- what it accepts has no reason against it
-own : (over : State) (bytes : List ℕ) → readAnswer over bytes ≡ accepted → firstOf (readReasons bytes) ≡ accepted
-unfolding readAnswer freshAnswer freshReasons firstOf
-own over bytes e = by (short over) (firstOf (readReasons bytes)) e
-  where
-    by : (b : Bool) (v : Verdict) → cond b (refused (number 1)) v ≡ accepted → v ≡ accepted
-    by true v h = let z : _≡_ {A = ℕ} 0 1 = cc in absurd (omega arith)
-    by false v h = h
+own : (over : State) (bytes : List ℕ) → answer over (readsFile bytes) ≡ accepted → firstOf (readReasons bytes) ≡ accepted
+unfolding readsFile
+own over bytes e = source-own over _ e .1
 
 module _ (s over : State) (t : T (isDataset s)) (e : short over ≡ false) where
   abbrev valid : ValidContents (contentsOf s)
   valid = for-datasets .valid s t
 
-  accepts : readAnswer over (fileOf (contentsOf s)) ≡ accepted
-  unfolding readAnswer freshAnswer freshReasons firstOf
+  accepts : answer over (readsFile (fileOf (contentsOf s))) ≡ accepted
+  unfolding readsFile answer verdict reasons freshReasons firstOf
   accepts = rw e (files .accepts (contentsOf s) valid)
 
-  gives : readLeaves over (fileOf (contentsOf s)) ≡ stored (contentsOf s) over
+  gives : after over (readsFile (fileOf (contentsOf s))) ≡ stored (contentsOf s) over
   gives = leaves over (fileOf (contentsOf s)) accepts ∙ ap (λ H. stored H over) (files .gives (contentsOf s) valid)
 
-module _ (over : State) (bytes : List ℕ) (e : readAnswer over bytes ≡ accepted) where
+module _ (over : State) (bytes : List ℕ) (e : answer over (readsFile bytes) ≡ accepted) where
   abbrev held : ValidContents (decoded bytes)
   held = files .valid bytes (own over bytes e)
 
-  dataset : T (isDataset (readLeaves over bytes))
+  dataset : T (isDataset (after over (readsFile bytes)))
   dataset = subst (λ z. T (isDataset z)) (sym (leaves over bytes e)) (for-datasets .laid-out (decoded bytes) over held)
 
   -- the dataset holds what the bytes hold
-  holds : contentsOf (readLeaves over bytes) ≡ decoded bytes
+  holds : contentsOf (after over (readsFile bytes)) ≡ decoded bytes
   holds = ap contentsOf (leaves over bytes e) ∙ for-datasets .read-back (decoded bytes) over held
 
-  only : Bytes bytes → markOf bytes ≡ newMark → fileOf (contentsOf (readLeaves over bytes)) ≡ bytes
+  only : Bytes bytes → markOf bytes ≡ newMark → fileOf (contentsOf (after over (readsFile bytes))) ≡ bytes
   only b m = ap fileOf holds ∙ files .only bytes b (own over bytes e) m
 
-  old-only : Bytes bytes → markOf bytes ≡ oldMark → OldFile bytes (contentsOf (readLeaves over bytes))
+  old-only : Bytes bytes → markOf bytes ≡ oldMark → OldFile bytes (contentsOf (after over (readsFile bytes)))
   old-only b m = subst (OldFile bytes) (sym holds) (files .old-only bytes b (own over bytes e) m)
 
 pub for-files : ForFiles

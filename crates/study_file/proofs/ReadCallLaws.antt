@@ -18,8 +18,8 @@ use Rattle.file_format.proofs.DecodedLaws.{decoded-size}
 use Rattle.file_format.specs.Head.{Head}
 use Rattle.file_format.proofs.ReadLaws.{head-T, refused-head}
 use Rattle.validity.specs.Memory.{State, stateOf, short, recordOf, stored}
-use Rattle.dataset.specs.Answers.{freshAnswer, freshLeaves}
-use Rattle.study_file.specs.Answers.{readAnswer, readLeaves}
+use Rattle.access.specs.Calls.{verdict, reasons, answer, made, after}
+use Rattle.study_file.specs.Calls.{readsFile}
 use Rattle.bit_reader.specs.declared.Place.{Place}
 use Rattle.study_file.specs.Heading.{HeadRecord}
 use Rattle.study_file.specs.Loading.{Loaded, Reading, TidesRead}
@@ -40,9 +40,9 @@ blank x n i e =
     ⊎-elim (λ l. getD-replicate n i x 0 l ∙ e) (λ l. List·getD-eq-default (replicate n x) 0 (subst (λ z. z ≤ i) (sym (length-replicate n x)) l)) (split i n)
 
 -- where the reasons before any tide have passed
-module _ (s : List ℕ) {a : Answer} (verdict : verdictOf a ≡ firstOf (headReasons s)) (q : a ≡ Done) where
+module _ (s : List ℕ) {a : Answer} (answered : verdictOf a ≡ firstOf (headReasons s)) (q : a ≡ Done) where
   head-passed : Head s
-  head-passed = head-T s .0 (sym verdict ∙ ap verdictOf q)
+  head-passed = head-T s .0 (sym answered ∙ ap verdictOf q)
 
   pub tides-begin : {o r : Dataset} {p : Place} → HeadRecord s o r p → {matrix vector : List ℕ} → matrix ≡ replicate 14400 0 → vector ≡ replicate 120 0
       → (r .k ≡ bitsAt s 15 4) × (r .n ≡ bitsAt s 8 7) × TidesRead s 0 p matrix vector
@@ -50,7 +50,7 @@ module _ (s : List ℕ) {a : Answer} (verdict : verdictOf a ≡ firstOf (headRea
     k-is s o (H .is),
     count-is s o (H .is),
     record {
-      loaded = loaded-none s matrix vector head-passed (sym verdict ∙ ap verdictOf q)
+      loaded = loaded-none s matrix vector head-passed (sym answered ∙ ap verdictOf q)
           (ap length x ∙ length-replicate {A = ℕ} 14400 0) (ap length y ∙ length-replicate {A = ℕ} 120 0)
           (λ i. ap (λ (l : List ℕ). getD l i 0) x ∙ blank 0 14400 i refl) (λ i. ap (λ (l : List ℕ). getD l i 0) y ∙ blank 0 120 i refl);
       here = H .first;
@@ -60,36 +60,36 @@ module _ (s : List ℕ) {a : Answer} (verdict : verdictOf a ≡ firstOf (headRea
 -- ---- the ways out
 
 module _ (σ : State) (file : List ℕ) where
-  by-verdict : (v : Verdict) → readAnswer σ file ≡ v → (v ≡ readAnswer σ file) × (settled v (stored (decoded file) σ) σ ≡ readLeaves σ file)
-  unfolding readLeaves freshLeaves readAnswer
+  by-verdict : (v : Verdict) → answer σ (readsFile file) ≡ v → (v ≡ answer σ (readsFile file)) × (settled v (stored (decoded file) σ) σ ≡ after σ (readsFile file))
+  unfolding after made readsFile
   by-verdict v e = (sym e, ap (λ v. settled v (stored (decoded file) σ) σ) (sym e))
 
-  pub read-short : short σ ≡ true → (refused (number 1) ≡ readAnswer σ file) × (σ ≡ readLeaves σ file)
-  unfolding readAnswer freshAnswer freshReasons firstOf
+  pub read-short : short σ ≡ true → (refused (number 1) ≡ answer σ (readsFile file)) × (σ ≡ after σ (readsFile file))
+  unfolding readsFile answer verdict reasons freshReasons firstOf
   read-short e = by-verdict (refused (number 1)) (ap (λ b. cond b (refused (number 1)) (firstOf (readReasons file))) e)
 
   module _ (long : short σ ≡ false) where
-    own : readAnswer σ file ≡ firstOf (readReasons file)
-    unfolding readAnswer freshAnswer freshReasons firstOf
+    own : answer σ (readsFile file) ≡ firstOf (readReasons file)
+    unfolding readsFile answer verdict reasons freshReasons firstOf
     own = ap (λ b. cond b (refused (number 1)) (firstOf (readReasons file))) long
 
     refuses : {a : Answer} {why : Refusal} → a ≡ Refused why → firstOf (readReasons file) ≡ refused (numbered why)
-        → (verdictOf a ≡ readAnswer σ file) × (σ ≡ readLeaves σ file)
+        → (verdictOf a ≡ answer σ (readsFile file)) × (σ ≡ after σ (readsFile file))
     refuses {a} {why} q f = let w = by-verdict (refused (numbered why)) (own ∙ f) in (ap verdictOf q ∙ w .0, w .1)
 
     -- before any tide
     pub read-head : {a : Answer} {why : Refusal} → verdictOf a ≡ firstOf (headReasons file) → a ≡ Refused why
-        → (verdictOf a ≡ readAnswer σ file) × (σ ≡ readLeaves σ file)
+        → (verdictOf a ≡ answer σ (readsFile file)) × (σ ≡ after σ (readsFile file))
     read-head {a} {why} e q = refuses q (refused-head file (sym e ∙ ap verdictOf q))
 
     -- while a tide is read
     pub read-tide : {a : Answer} {why : Refusal} {n : ℕ} {x y : List ℕ} → Reading file n a x y → a ≡ Refused why
-        → (verdictOf a ≡ readAnswer σ file) × (σ ≡ readLeaves σ file)
+        → (verdictOf a ≡ answer σ (readsFile file)) × (σ ≡ after σ (readsFile file))
     read-tide {why = why} r q = refuses q (r .stops why q)
 
     pub read-done : {a : Answer} {r : Dataset} {x y d g : List ℕ} → Reading file (r .n) a x y → a ≡ Done → r ≡ recordOf (decoded file) (σ .dataset)
         → d ≡ overwrite 14400 (at x) (σ .distances) → g ≡ overwrite 120 (at y) (σ .settings)
-        → (verdictOf a ≡ readAnswer σ file) × (stateOf r d g ≡ readLeaves σ file)
+        → (verdictOf a ≡ answer σ (readsFile file)) × (stateOf r d g ≡ after σ (readsFile file))
     unfolding stored
     read-done {r = r} {x} {y} t q e f h =
         let count : r .n ≡ bitsAt file 8 7 = count-is file (σ .dataset) e in

@@ -1,5 +1,5 @@
--- To be read beside document 01: Answers, Theorems. The rest: inner promises.
-pub mod Answers
+-- To be read beside document 01: Calls, Theorems. The rest: inner promises.
+pub mod Calls
 pub mod Writing
 pub mod Putting
 pub mod Advance

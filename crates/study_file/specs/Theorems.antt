@@ -10,19 +10,20 @@ use Rattle.study.specs.Refusals.{accepted}
 use Rattle.file_format.specs.File.{newMark, oldMark, fileOf, markOf}
 use Rattle.file_format.specs.Theorems.{Bytes, OldFile}
 use Rattle.validity.specs.Memory.{State, short, isDataset, contentsOf, stored}
-use Rattle.study_file.specs.Answers.{readAnswer, readLeaves}
+use Rattle.access.specs.Calls.{answer, after}
+use Rattle.study_file.specs.Calls.{readsFile}
 
 -- files and datasets correspond one to one
 pub record ForFiles : Type 0 where
   -- Read accepts the file of a dataset, whatever it is read over, and gives that dataset
-  pub accepts : (s over : State) → T (isDataset s) → short over ≡ false → readAnswer over (fileOf (contentsOf s)) ≡ accepted
-  pub gives : (s over : State) → T (isDataset s) → short over ≡ false → readLeaves over (fileOf (contentsOf s)) ≡ stored (contentsOf s) over
+  pub accepts : (s over : State) → T (isDataset s) → short over ≡ false → answer over (readsFile (fileOf (contentsOf s))) ≡ accepted
+  pub gives : (s over : State) → T (isDataset s) → short over ≡ false → after over (readsFile (fileOf (contentsOf s))) ≡ stored (contentsOf s) over
   -- over its own memory, nothing changes
-  pub again : (s : State) → T (isDataset s) → short s ≡ false → readLeaves s (fileOf (contentsOf s)) ≡ s
+  pub again : (s : State) → T (isDataset s) → short s ≡ false → after s (readsFile (fileOf (contentsOf s))) ≡ s
   -- what Read accepts gives a dataset; bytes of mark 55 are then exactly its file, bytes of mark 54 an old file of the same
-  pub dataset : (over : State) (bytes : List ℕ) → readAnswer over bytes ≡ accepted → T (isDataset (readLeaves over bytes))
-  pub marked : (over : State) (bytes : List ℕ) → readAnswer over bytes ≡ accepted → (markOf bytes ≡ newMark) ⊎ (markOf bytes ≡ oldMark)
-  pub only : (over : State) (bytes : List ℕ) → Bytes bytes → readAnswer over bytes ≡ accepted → markOf bytes ≡ newMark
-      → fileOf (contentsOf (readLeaves over bytes)) ≡ bytes
-  pub old-only : (over : State) (bytes : List ℕ) → Bytes bytes → readAnswer over bytes ≡ accepted → markOf bytes ≡ oldMark
-      → OldFile bytes (contentsOf (readLeaves over bytes))
+  pub dataset : (over : State) (bytes : List ℕ) → answer over (readsFile bytes) ≡ accepted → T (isDataset (after over (readsFile bytes)))
+  pub marked : (over : State) (bytes : List ℕ) → answer over (readsFile bytes) ≡ accepted → (markOf bytes ≡ newMark) ⊎ (markOf bytes ≡ oldMark)
+  pub only : (over : State) (bytes : List ℕ) → Bytes bytes → answer over (readsFile bytes) ≡ accepted → markOf bytes ≡ newMark
+      → fileOf (contentsOf (after over (readsFile bytes))) ≡ bytes
+  pub old-only : (over : State) (bytes : List ℕ) → Bytes bytes → answer over (readsFile bytes) ≡ accepted → markOf bytes ≡ oldMark
+      → OldFile bytes (contentsOf (after over (readsFile bytes)))

@@ -5,7 +5,6 @@ use crate::memory::copy_settings;
 use crate::tides::read_tides;
 use crate::writing::byte_length;
 use crate::writing::put_fields;
-use dataset::check;
 use study::Answer;
 use study::Dataset;
 use study::MAX_TIDES;
@@ -22,11 +21,12 @@ mod tides;
 mod writing;
 
 ghost use mathlib.Core.Path.{_≡_};
-ghost use lib.ListN.{length};
+ghost use mathlib.Core.List.{[], _∷_};
 ghost use Rattle.validity.specs.Memory.{stateOf, entryState, exitState};
-ghost use Rattle.dataset.specs.Accepted.{Passed};
+ghost use Rattle.access.specs.Calls.{answer, after, reply, output};
+ghost use Rattle.access.specs.Passed.{Passed};
 ghost use Rattle.study.specs.Refusals.{verdictOf};
-ghost use Rattle.study_file.specs.Answers.{readAnswer, readLeaves, writtenOf, writeReply, writeLeaves};
+ghost use Rattle.study_file.specs.Calls.{readsFile, writesFile, writtenOf};
 
 // The byte length of the file that was written, or why none was.
 pub enum Written {
@@ -36,8 +36,8 @@ pub enum Written {
 
 // The dataset that a file holds. It is read into memory of its own, and copied into the lent memory once nothing can refuse it any more.
 pub fn read(dataset: Dataset, distances: &mut [u32], settings: &mut [u8], file: &[u8]) -> Outcome
-    ensures answer { λ r. ⌜ verdictOf (r .answer) ≡ readAnswer (entryState dataset distances settings) (now (file .entry)) ⌝ }
-    ensures leaves { λ r. ⌜ exitState (r .dataset) distances settings ≡ readLeaves (entryState dataset distances settings) (now (file .entry)) ⌝ }
+    ensures answer { λ r. ⌜ verdictOf (r .answer) ≡ answer (entryState dataset distances settings) (readsFile (now (file .entry))) ⌝ }
+    ensures leaves { λ r. ⌜ exitState (r .dataset) distances settings ≡ after (entryState dataset distances settings) (readsFile (now (file .entry))) ⌝ }
 {
     if is_short(distances, settings) {
         return Outcome {
@@ -78,8 +78,8 @@ pub fn read(dataset: Dataset, distances: &mut [u32], settings: &mut [u8], file: 
 // The file of a dataset, where there is room for it.
 fn write_file(dataset: Dataset, distances: &[u32], settings: &[u8], file: &mut [u8]) -> Written
     requires { ⌜ Passed (stateOf dataset (now distances) (now settings)) ⌝ }
-    ensures reply { λ r. ⌜ writtenOf r ≡ writeReply (entryState dataset distances settings) (length (now (file .entry))) ⌝ }
-    ensures leaves { λ r. ⌜ now (file .exit) ≡ writeLeaves (entryState dataset distances settings) (now (file .entry)) ⌝ }
+    ensures reply { λ r. ⌜ writtenOf r ≡ reply (entryState dataset distances settings) (writesFile (now (file .entry))) ⌝ }
+    ensures leaves { λ r. ⌜ now (file .exit) ∷ [] ≡ output (entryState dataset distances settings) (writesFile (now (file .entry))) .lists ⌝ }
 {
     let size = byte_length(dataset.k as usize, dataset.n);
     if file.len() < size {
@@ -91,10 +91,10 @@ fn write_file(dataset: Dataset, distances: &[u32], settings: &[u8], file: &mut [
 
 // The file over the front of the lent bytes; those past it stay.
 pub fn write(dataset: Dataset, distances: &[u32], settings: &[u8], file: &mut [u8]) -> Written
-    ensures reply { λ r. ⌜ writtenOf r ≡ writeReply (entryState dataset distances settings) (length (now (file .entry))) ⌝ }
-    ensures leaves { λ r. ⌜ now (file .exit) ≡ writeLeaves (entryState dataset distances settings) (now (file .entry)) ⌝ }
+    ensures reply { λ r. ⌜ writtenOf r ≡ reply (entryState dataset distances settings) (writesFile (now (file .entry))) ⌝ }
+    ensures leaves { λ r. ⌜ now (file .exit) ∷ [] ≡ output (entryState dataset distances settings) (writesFile (now (file .entry))) .lists ⌝ }
 {
-    let answer = check(dataset, distances, settings);
+    let answer = access::check(dataset, distances, settings);
     match answer {
         Answer::Refused(why) => Written::Refused(why),
         Answer::Done => write_file(dataset, distances, settings, file),

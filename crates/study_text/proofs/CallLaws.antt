@@ -2,12 +2,12 @@
 use Prim.Native.Nat.{ℕ, zero, suc, _+_}
 use native.Mathlib.Omega.{arith}
 use mathlib.Core.Path.{_≡_, refl, sym, ap, _∙_, subst}
-use mathlib.Core.Bool.{false}
+use mathlib.Core.Bool.{true, false}
 use native.Mathlib.Numerals.{add-one}
 use mathlib.Core.List.{List, [], _∷_, _++_}
 use lib.ListN.{drop, getD, replicate}
 use lib.Seq.{getD-drop}
-use Rattle.lists.specs.Lists.{tabulate}
+use Rattle.lists.specs.Lists.{tabulate, allOf}
 use Rattle.study.specs.declared.Minima.{Minima}
 use Rattle.study.specs.declared.Dataset.{Dataset}
 use Rattle.study.specs.declared.Answer.{Answer}
@@ -15,14 +15,14 @@ use Rattle.study.specs.declared.Outcome.{Outcome}
 use Rattle.study.specs.Study.{Contents, size}
 use Rattle.study.proofs.CallLaws.{opening-valid, minima-valid, entering-valid}
 use Rattle.study.specs.Calls.{openReasons, opening, minimaReasons, settingMinima, enterReasons, entering}
-use Rattle.study.specs.Refusals.{accepted, verdictOf, settled, Reason, firstOf, freshReasons}
+use Rattle.study.specs.Refusals.{accepted, verdictOf, settled, isUser, firstOf, freshReasons}
 use Rattle.study.specs.Theorems.{ValidContents}
 use Rattle.validity.specs.Memory.{State, stateOf, short, studyOf, contentsOf, stored}
 use Rattle.validity.proofs.ValidityLaws.{study-size}
-use Rattle.dataset.specs.Answers.{freshAnswer, heldAnswer, freshLeaves, heldLeaves}
-use Rattle.dataset.specs.Answers.{openAnswer, openLeaves, minimaAnswer, minimaLeaves, enterAnswer, enterLeaves}
-use Rattle.dataset.specs.Accepted.{Passed}
-use Rattle.dataset.proofs.AnswerLaws.{held-own}
+use Rattle.access.specs.Calls.{Update, changes, verdict, reasons, answer, made, after}
+use Rattle.access.specs.Passed.{Passed}
+use Rattle.access.proofs.AccessLaws.{users-own, update-answer}
+use Rattle.dataset.specs.Calls.{opensDataset, setsMinima, entersTide}
 use Rattle.narrowing.specs.Narrowing.{narrowed, narrowMinima}
 use Rattle.narrowing.proofs.Proofs.{unchanged, as-given}
 use Rattle.study_text.specs.declared.Packed.{Packed}
@@ -44,31 +44,30 @@ use Rattle.study_text.proofs.ReachedLaws.{Answers, call-reaches, call-b
 -- ---- the answers
 
 module _ {s t : State} {a : Answer} where
-  open-answers : (k : ℕ) → short s ≡ false → (verdictOf a ≡ openAnswer s k) × (t ≡ openLeaves s k)
+  open-answers : (k : ℕ) → short s ≡ false → (verdictOf a ≡ answer s (opensDataset k)) × (t ≡ after s (opensDataset k))
       → Answers s a t (firstOf (openReasons k)) (opening k)
-  unfolding openAnswer openLeaves freshLeaves freshAnswer freshReasons firstOf
+  unfolding opensDataset answer verdict reasons after made freshReasons firstOf
   open-answers k e did = record { not-short = e; verdict = rw e at (did .0); leaves = rw e at (did .1); valid = opening-valid k }
 
-  -- a call on a dataset that names no user
-  held-answers : (own : Contents → List Reason) (new : Contents) → Passed s
-      → (verdictOf a ≡ heldAnswer s [] own) × (t ≡ settled (heldAnswer s [] own) (stored new s) s)
-      → (firstOf (own (contentsOf s)) ≡ accepted → ValidContents new) → Answers s a t (firstOf (own (contentsOf s))) new
-  held-answers own new P (v, l) ok =
-      let e = sym (held-own s own (P .not-short) (P .tested)) in
-      record { not-short = P .not-short; verdict = v ∙ e; leaves = l ∙ ap (λ w. settled w (stored new s) s) e; valid = ok }
+  -- a change of a dataset in the name of users that there are
+  update-answers : (U : Update) → allOf isUser (U .caller .users) ≡ true → Passed s → (verdictOf a ≡ answer s (changes U)) × (t ≡ after s (changes U))
+      → (firstOf (U .own (contentsOf s)) ≡ accepted → ValidContents (U .makes (contentsOf s)))
+      → Answers s a t (firstOf (U .own (contentsOf s))) (U .makes (contentsOf s))
+  unfolding after made
+  update-answers U k P (v, l) ok =
+      let e = update-answer s U ∙ sym (users-own s (U .caller) (U .own) (P .not-short) k (P .tested)) in
+      record { not-short = P .not-short; verdict = v ∙ e; leaves = l ∙ ap (λ w. settled w (stored (U .makes (contentsOf s)) s) s) e; valid = ok }
 
   module _ (P : Passed s) where
-    minima-answers : (M : Minima) → (verdictOf a ≡ minimaAnswer s M) × (t ≡ minimaLeaves s M)
+    minima-answers : (M : Minima) → (verdictOf a ≡ answer s (setsMinima M)) × (t ≡ after s (setsMinima M))
         → Answers s a t (firstOf (minimaReasons (contentsOf s .study) M)) (settingMinima M (contentsOf s))
-    unfolding minimaAnswer minimaLeaves heldLeaves
-    minima-answers M did =
-        held-answers (λ H. minimaReasons (H .study) M) (settingMinima M (contentsOf s)) P did (minima-valid M (contentsOf s) (valid-held P))
+    unfolding setsMinima
+    minima-answers M did = update-answers _ refl P did (minima-valid M (contentsOf s) (valid-held P))
 
-    enter-answers : (x : ℕ) (row : List ℕ) → (verdictOf a ≡ enterAnswer s x row) × (t ≡ enterLeaves s x row)
+    enter-answers : (x : ℕ) (row : List ℕ) → (verdictOf a ≡ answer s (entersTide x row)) × (t ≡ after s (entersTide x row))
         → Answers s a t (firstOf (enterReasons (contentsOf s .study) x row)) (entering x row (contentsOf s))
-    unfolding enterAnswer enterLeaves heldLeaves
-    enter-answers x row did =
-        held-answers (λ H. enterReasons (H .study) x row) (entering x row (contentsOf s)) P did (entering-valid x row (contentsOf s) (valid-held P))
+    unfolding entersTide
+    enter-answers x row did = update-answers _ refl P did (entering-valid x row (contentsOf s) (valid-held P))
 
 -- ---- Open
 
@@ -82,12 +81,12 @@ module _ {text : List ℕ} (from : Cursor) {g : Given} (e : givenOf g ≡ number
 
   pub open-goes : (s : State) (o : Outcome) {k y : ℕ} {c : Cursor} {q : Reached} (d t : List ℕ) → g ≡ GivenCase.Number k c
       → CursorWithin text from → short s ≡ false → y ≡ narrowed k
-      → (verdictOf (o .answer) ≡ openAnswer s y) × (stateOf (o .dataset) d t ≡ openLeaves s y) → q ≡ afterCall o c
+      → (verdictOf (o .answer) ≡ answer s (opensDataset y)) × (stateOf (o .dataset) d t ≡ after s (opensDataset y)) → q ≡ afterCall o c
       → Begins text q d t (openingOf text from)
   unfolding openingOf
   open-goes s o {k} {y} {c} {q} d t h w f i did j =
       let n : numberOf text from ≡ got k c = sym e ∙ ap givenOf h in
-      let same = as-given (openAnswer s) (openLeaves s) i (unchanged s .on-open k) did in
+      let same = as-given s opensDataset k i (unchanged s .on-open k) did in
       subst (λ q. Begins text q d t (openingOf text from)) (sym j)
       (rw n (call-begins (open-answers {a = o .answer} k f same) (number-within w n)))
 
@@ -128,13 +127,13 @@ module _ {text : List ℕ} {from : Cursor} {s : State} (w : CursorWithin text fr
 
   pub minima-goes : {row : Row} (xs : List ℕ) (m : ℕ) {M : Minima} (o : Outcome) {c : Cursor} {q : Reached} → readOf row xs ≡ numbersOf text n from
       → n ≡ s .dataset .k + 1 → row ≡ RowCase.Read c → M ≡ narrowMinima (minimaFrom (xs ++ drop m (replicate 9 0)))
-      → (verdictOf (o .answer) ≡ minimaAnswer s M) × (stateOf (o .dataset) (s .distances) (s .settings) ≡ minimaLeaves s M) → q ≡ afterCall o c
+      → (verdictOf (o .answer) ≡ answer s (setsMinima M)) × (stateOf (o .dataset) (s .distances) (s .settings) ≡ after s (setsMinima M)) → q ≡ afterCall o c
       → Reaches RuleCase.Entered text q (s .distances) (s .settings) (entered (minimaOf text (contentsOf s) from))
   unfolding minimaOf
   minima-goes {row} xs m {M} o {c} {q} e f h j did k =
       let read : numbersOf text (suc (contentsOf s .study .k)) from ≡ got xs c = minima-numbers e f ∙ ap (λ r. readOf r xs) h in
       let given : M ≡ narrowMinima (minimaFrom xs) = j ∙ ap narrowMinima (minima-padded xs m) in
-      let same = as-given (minimaAnswer s) (minimaLeaves s) given (unchanged s .on-minima (minimaFrom xs)) did in
+      let same = as-given s setsMinima (minimaFrom xs) given (unchanged s .on-minima (minimaFrom xs)) did in
       subst (λ q. Reaches RuleCase.Entered text q (s .distances) (s .settings) (entered (minimaOf text (contentsOf s) from))) (sym k)
       (rw read
       (call-reaches (minima-answers {a = o .answer} P (minimaFrom xs) same) (numbers-within (suc (contentsOf s .study .k)) w read) P))
@@ -143,9 +142,9 @@ module _ {text : List ℕ} {from : Cursor} {s : State} (w : CursorWithin text fr
 
 -- Enter, given the setting as a byte
 pub enter-took : {s t : State} (a : Answer) {x y : ℕ} {row : List ℕ} → Passed s → y ≡ narrowed x
-    → (verdictOf a ≡ enterAnswer s y row) × (t ≡ enterLeaves s y row) → Took RuleCase.Entered s x row a t
+    → (verdictOf a ≡ answer s (entersTide y row)) × (t ≡ after s (entersTide y row)) → Took RuleCase.Entered s x row a t
 enter-took {s} a {x} {y} {row} P i did =
-    let same = as-given (λ z. enterAnswer s z row) (λ z. enterLeaves s z row) i (unchanged s .on-enter x row) did in
+    let same = as-given s (λ z. entersTide z row) x i (unchanged s .on-enter x row) did in
     took-entered a (enter-answers {a = a} P x row same) P
 
 module _ (rule : Rule) {text : List ℕ} {from : Cursor} (s : State) (w : CursorWithin text from) (P : Held rule s) (x : ℕ) {n : ℕ} where

@@ -15,8 +15,8 @@ use Rattle.study.specs.Theorems.{ValidContents}
 use Rattle.validity.specs.Memory.{State, stateOf, short, isDataset, contentsOf, stored}
 use Rattle.validity.proofs.ValidityLaws.{study-size}
 use Rattle.validity.proofs.Proofs.{for-datasets}
-use Rattle.dataset.specs.Accepted.{Passed}
-use Rattle.dataset.proofs.AnswerLaws.{passed-by}
+use Rattle.access.specs.Passed.{Passed}
+use Rattle.access.proofs.AccessLaws.{passed-by}
 use Rattle.lists.proofs.Tests.{T-true, true-T}
 use Rattle.study_text.specs.declared.Packed.the-variants as PackedCase
 use Rattle.study_text.specs.declared.Rule.{Rule}

@@ -3,18 +3,20 @@ use Prim.Native.Nat.{ℕ, _≤_, _<_}
 use native.Mathlib.Omega.{arith}
 use mathlib.Core.Path.{_≡_, refl, sym, ap, _∙_}
 use mathlib.Core.Bool.{Bool, true, false, cond}
-use mathlib.Core.List.{List, _++_}
+use mathlib.Core.List.{List, [], _∷_, headD}
 use lib.Dec.{ltb}
-use lib.ListN.{length, drop}
+use lib.ListN.{length}
+use Rattle.lists.specs.Lists.{over}
 use borrow.Author.Tests.{lt-ltb, le-ltb}
-use Rattle.study.specs.Refusals.{number, numbered, accepted, refused, settled, value, refusal, replied, firstOf}
+use Rattle.study.specs.Refusals.{number, numbered, Verdict, accepted, refused, settled, value, refusal, replied, firstOf}
 use Rattle.validity.specs.Memory.{State, stateOf, contentsOf}
-use Rattle.dataset.specs.Accepted.{Passed}
-use Rattle.dataset.proofs.AnswerLaws.{held-own}
+use Rattle.access.specs.Calls.{Output, answer, reply, output}
+use Rattle.access.specs.Passed.{Passed}
+use Rattle.access.proofs.AccessLaws.{held-own, inquiry-answer, reply-tells, output-tells}
 use Rattle.file_format.specs.File.{fileOf}
 use Rattle.study_file.specs.declared.Written.{Written}
 use Rattle.study_file.specs.declared.Written.the-variants as WrittenCase
-use Rattle.study_file.specs.Answers.{writtenOf, writeReasons, writeAnswer, writeReply, writeLeaves}
+use Rattle.study_file.specs.Calls.{writtenOf, writeReasons, writesFile}
 use Rattle.study_text.specs.declared.Packed.{Packed}
 use Rattle.study_text.specs.declared.Packed.the-variants as PackedCase
 use Rattle.study_text.specs.declared.Rule.the-variants as RuleCase
@@ -26,63 +28,72 @@ use Rattle.study_text.specs.Reached.{overIs, finishedOf, Live, Finishes}
 
 -- ---- Write
 
+-- the output with these bytes in the file
+abbrev told : List ℕ → List ℕ → Output
+told numbers bytes = record { numbers = numbers; lists = bytes ∷ []; records = [] }
+
 -- what Write's reply says of a text that ends on line l
 abbrev pub packedBy : ℕ → Written → Packed
 packedBy l (WrittenCase.Done n) = PackedCase.Done n
 packedBy l (WrittenCase.Refused r) = PackedCase.Refused l r
 
-told-written : (w : Written) (l : ℕ) (t : Bool) (n : ℕ) → writtenOf w ≡ cond t (refusal (number 1)) (value n)
+told-written : (w : Written) (l : ℕ) (t : Bool) (n : ℕ) → writtenOf w ≡ cond t (refusal (number 1)) (value (n ∷ []))
     → reportOf (packedBy l w) ≡ cond t (refusedAt l (number 1)) (done n)
 told-written (WrittenCase.Done m) l true n e = absurd (let z : _≡_ {A = ℕ} 0 1 = cc in omega arith)
 told-written (WrittenCase.Done m) l false n e = cc
 told-written (WrittenCase.Refused r) l true n e = let h : numbered r ≡ number 1 = cc in ap (refusedAt l) h
 told-written (WrittenCase.Refused r) l false n e = absurd (let z : _≡_ {A = ℕ} 0 1 = cc in omega arith)
 
-module _ {s : State} (P : Passed s) where
-  write-verdict : (room : ℕ) → writeAnswer s room ≡ cond (ltb room (length (fileOf (contentsOf s)))) (refused (number 1)) accepted
-  unfolding writeAnswer writeReasons firstOf
-  write-verdict room = sym (held-own s (λ H. writeReasons H room) (P .not-short) (P .tested))
+module _ {s : State} (P : Passed s) (bytes : List ℕ) where
+  abbrev file : List ℕ
+  file = fileOf (contentsOf s)
 
-  write-reply : (room : ℕ) → writeReply s room ≡ cond (ltb room (length (fileOf (contentsOf s)))) (refusal (number 1)) (value (length (fileOf (contentsOf s))))
-  unfolding writeReply
-  write-reply room = ap (λ v. replied v (length (fileOf (contentsOf s)))) (write-verdict room) ∙ by (ltb room (length (fileOf (contentsOf s))))
+  abbrev short? : Bool
+  short? = ltb (length bytes) (length file)
+
+  write-verdict : answer s (writesFile bytes) ≡ cond short? (refused (number 1)) accepted
+  unfolding writesFile writeReasons firstOf
+  write-verdict = inquiry-answer s _ ∙ sym (held-own s (λ H. writeReasons H (length bytes)) (P .not-short) (P .tested))
+
+  write-reply : reply s (writesFile bytes) ≡ cond short? (refusal (number 1)) (value (length file ∷ []))
+  unfolding writesFile
+  write-reply = reply-tells s _ ∙ ap (λ v. replied v (length file ∷ [])) write-verdict ∙ by short?
     where
-      by : (t : Bool)
-          → replied (cond t (refused (number 1)) accepted) (length (fileOf (contentsOf s)))
-          ≡ cond t (refusal (number 1)) (value (length (fileOf (contentsOf s))))
+      by : (t : Bool) → replied (cond t (refused (number 1)) accepted) (length file ∷ []) ≡ cond t (refusal (number 1)) (value (length file ∷ []))
       by true = refl
       by false = refl
 
-  write-leaves : (bytes : List ℕ) → writeLeaves s bytes ≡ written (ended (contentsOf s) 0) bytes
-  unfolding writeLeaves
-  write-leaves bytes = ap (λ v. settled v new bytes) (write-verdict (length bytes)) ∙ by (ltb (length bytes) (length (fileOf (contentsOf s))))
+  write-leaves : {new : List ℕ} → new ∷ [] ≡ output s (writesFile bytes) .lists → new ≡ written (ended (contentsOf s) 0) bytes
+  unfolding writesFile headD
+  write-leaves e =
+      ap (λ (ls : List (List ℕ)). headD ls []) (e ∙ ap (λ (o : Output). o .lists) (output-tells s _)) ∙ by (answer s (writesFile bytes)) short? write-verdict
     where
-      new : List ℕ
-      new = fileOf (contentsOf s) ++ drop (length (fileOf (contentsOf s))) bytes
-
-      by : (t : Bool) → settled (cond t (refused (number 1)) accepted) (fileOf (contentsOf s) ++ drop (length (fileOf (contentsOf s))) bytes) bytes
-          ≡ cond t bytes (fileOf (contentsOf s) ++ drop (length (fileOf (contentsOf s))) bytes)
-      by true = refl
-      by false = refl
+      by : (v : Verdict) (t : Bool) → v ≡ cond t (refused (number 1)) accepted
+          → headD (settled v (told (length file ∷ []) (over file bytes)) (told [] bytes) .lists) [] ≡ cond t bytes (over file bytes)
+      by accepted true e = absurd (let z : _≡_ {A = ℕ} 0 1 = cc in omega arith)
+      by accepted false e = refl
+      by (refused r) true e = refl
+      by (refused r) false e = absurd (let z : _≡_ {A = ℕ} 0 1 = cc in omega arith)
 
 module _ {end : Finished} {d s : List ℕ} {l : ℕ} (L : Live RuleCase.Entered end d s) (e : end .over ≡ OverCase.End l) where
   finished-ended : ended (contentsOf (stateOf (end .dataset) d s)) l ≡ finishedOf end d s
   finished-ended = sym (ap (λ o. overIs o (contentsOf (stateOf (end .dataset) d s))) e)
 
-  write-told : (w : Written) {p : Packed} (room : ℕ) → writtenOf w ≡ writeReply (stateOf (end .dataset) d s) room → p ≡ packedBy l w
-      → reportOf p ≡ answered (finishedOf end d s) room
-  write-told w room f h =
+  write-told : (w : Written) {p : Packed} (bytes : List ℕ) → writtenOf w ≡ reply (stateOf (end .dataset) d s) (writesFile bytes) → p ≡ packedBy l w
+      → reportOf p ≡ answered (finishedOf end d s) (length bytes)
+  write-told w bytes f h =
       let n = length (fileOf (contentsOf (stateOf (end .dataset) d s))) in
-      ap reportOf h ∙ told-written w l (ltb room n) n (f ∙ write-reply (L l e) room) ∙ ap (λ t. answered t room) finished-ended
+      ap reportOf h ∙ told-written w l (ltb (length bytes) n) n (f ∙ write-reply (L l e) bytes) ∙ ap (λ t. answered t (length bytes)) finished-ended
 
-  write-left : {new : List ℕ} (bytes : List ℕ) → new ≡ writeLeaves (stateOf (end .dataset) d s) bytes → new ≡ written (finishedOf end d s) bytes
-  write-left bytes f = f ∙ write-leaves (L l e) bytes ∙ ap (λ t. written t bytes) finished-ended
+  write-left : {new : List ℕ} (bytes : List ℕ) → new ∷ [] ≡ output (stateOf (end .dataset) d s) (writesFile bytes) .lists
+      → new ≡ written (finishedOf end d s) bytes
+  write-left bytes f = write-leaves (L l e) bytes f ∙ ap (λ t. written t bytes) finished-ended
 
   -- the report and the bytes of a text that came to its end
-  pub write-ends : (w : Written) {v : Written} {p : Packed} {new : List ℕ} (room : ℕ) (bytes : List ℕ) → w ≡ v → p ≡ packedBy l v
-      → (writtenOf w ≡ writeReply (stateOf (end .dataset) d s) room) × (new ≡ writeLeaves (stateOf (end .dataset) d s) bytes)
-      → (reportOf p ≡ answered (finishedOf end d s) room) × (new ≡ written (finishedOf end d s) bytes)
-  write-ends w room bytes e h did = (write-told w room (did .0) (h ∙ ap (packedBy l) (sym e)), write-left bytes (did .1))
+  pub write-ends : (w : Written) {v : Written} {p : Packed} {new : List ℕ} (bytes : List ℕ) → w ≡ v → p ≡ packedBy l v
+      → (writtenOf w ≡ reply (stateOf (end .dataset) d s) (writesFile bytes)) × (new ∷ [] ≡ output (stateOf (end .dataset) d s) (writesFile bytes) .lists)
+      → (reportOf p ≡ answered (finishedOf end d s) (length bytes)) × (new ≡ written (finishedOf end d s) bytes)
+  write-ends w bytes e h did = (write-told w bytes (did .0) (h ∙ ap (packedBy l) (sym e)), write-left bytes (did .1))
 
 -- ---- the answer
 

@@ -12,7 +12,7 @@ use Rattle.study.specs.Refusals.{verdictOf, settled, firstOf}
 use Rattle.study.specs.Calls.{entering}
 use Rattle.validity.specs.Memory.{State, stateOf, short, studyOf, contentsOf}
 use Rattle.validity.specs.Validity.{Long}
-use Rattle.dataset.specs.Accepted.{Passed}
+use Rattle.access.specs.Passed.{Passed}
 use Rattle.study_text.specs.declared.Packed.{Packed}
 use Rattle.study_text.specs.declared.Packed.the-variants as PackedCase
 use Rattle.study_text.specs.declared.Rule.{Rule}

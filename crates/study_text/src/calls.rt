@@ -25,7 +25,7 @@ ghost use Prim.Native.Nat.{_≤_};
 ghost use lib.ListN.{length};
 ghost use Rattle.study.specs.Limits.{maxTides, tableSize};
 ghost use Rattle.validity.specs.Memory.{stateOf, contentsOf, entryState, exitState};
-ghost use Rattle.dataset.specs.Accepted.{Passed};
+ghost use Rattle.access.specs.Passed.{Passed};
 ghost use Rattle.study_text.specs.Packing.{minimaFrom, openingOf, minimaOf, headOf, tideOf, entered, turnOf, turnsOf, textOf, going};
 ghost use Rattle.text_words.specs.Words.{CursorWithin};
 ghost use Rattle.study_text.specs.Reached.{Held, Took, Reaches, Begins, Finishes, stoppedAt, afterCall};

@@ -41,7 +41,7 @@ fn checked(record: Dataset, i: usize, s: u8, p: usize, q: usize, x: u32) -> Answ
     put_setting(&mut settings, i, s);
     put_distance(&mut distances, p, x);
     put_distance(&mut distances, q, x);
-    dataset::check(record, &distances, &settings)
+    access::check(record, &distances, &settings)
 }
 
 fn with_record(k: u8, n: usize, b0: u8) -> Answer {

@@ -1,18 +1,18 @@
 -- One law for each way out: a list that is too short, a refusal, an answer. No loop. Assumes nothing.
 use borrow.Author.Needs.{needs}
 use native.Mathlib.Omega.{arith}
-use mathlib.Core.Logic.{inl, inr}
-use Rattle.c_api.specs.Api.{blockNumbers}
-use Rattle.c_api.proofs.BlockLaws.{block-narrow, blocks-small, columns-fit, written-figures}
-use Rattle.c_api.proofs.BlockLaws.{blocks-too-short, blocks-refused, blocks-done}
+use Rattle.blocking.specs.Calls.{makesBlocks}
+use Rattle.c_api.proofs.CallLaws.{lacks-yes, record-short, list-short}
+use Rattle.c_api.proofs.BlockLaws.{block-why, block-narrow, block-value, count-is, blocks-small, columns-fit, makes-lent}
+use Rattle.c_api.proofs.BlockLaws.{written-three, blocks-too-short, blocks-refused, blocks-done}
 use Rattle.c_api.proofs.tides_block.Statement.{statement}
 use Rattle.c_api.proofs.tides_block.Tie as tie
 
 returns : tie.Need-returns
-returns c = blocks-too-short 3 blockNumbers _ _ (inl (c .if1 .taken))
+returns c = blocks-too-short 3 _ _ (makesBlocks _) (makes-lent _) (record-short _ _ (c .if1 .taken))
 
 returns-2 : tie.Need-returns-2
-returns-2 c = blocks-too-short 3 blockNumbers _ _ (inr (c .if2 .taken))
+returns-2 c = blocks-too-short 3 _ _ (makesBlocks _) (makes-lent _) (list-short _ (lacks-yes 3 _ (c .if2 .taken)))
 
 refusal-code-requires : tie.Need-refusal-code-requires
 refusal-code-requires c κs = block-narrow _ _ _ _ (c .before .before .before .before .before .before .block-core .ensures .0) (c .before .answer .given .1)
@@ -36,9 +36,9 @@ returns-3 c =
     let called = c .before .before .before .before .before .before .before in
     let e = called .block-core .ensures in
     let got = called .before .before in
-    blocks-refused 3 blockNumbers _ _
+    blocks-refused 3 _ _ (makesBlocks _) (makes-lent _)
     (record { room = got .before .before .before .if1 .left; enough = got .before .before .if2 .left; held = got .dataset-of .ensures })
-    (got .before .least .ensures) _ (e .0) (e .1 .1) (c .before .before .answer .given .1) (c .refusal-code .ensures)
+    (got .before .least .ensures) (e .1 .1) (block-why _ _ _ _ (e .0) (c .before .before .answer .given .1)) (c .refusal-code .ensures)
 
 returns-4 : tie.Need-returns-4
 returns-4 c =
@@ -49,10 +49,11 @@ returns-4 c =
     let w = put .put-columns .ensures in
     let e = called .block-core .ensures in
     let got = called .before .before in
-    blocks-done 3 blockNumbers _ _
+    let done = told .answer2 .given .1 in
+    blocks-done 3 _ _ (makesBlocks _) (makes-lent _)
     (record { room = got .before .before .before .if1 .left; enough = got .before .before .if2 .left; held = got .dataset-of .ensures })
-    (got .before .least .ensures) _ (e .0) (e .1 .1) (told .answer2 .given .1) (e .1 .0) (w .0) (w .1 .0) (w .1 .1)
-    (written-figures _ _ _ _ (e .0) (told .answer2 .given .1) _ (figures .put-numbers .ensures))
+    (got .before .least .ensures) (e .1 .1) (block-value _ _ _ _ (e .0) done) (e .1 .0) (count-is _ _ _ _ (e .0) done (e .1 .0)) (w .0) (w .1 .0) (w .1 .1)
+    (written-three _ (figures .put-numbers .ensures))
 
 pub tides-block-spec : {M : Type 1} → statement M
 tides-block-spec =

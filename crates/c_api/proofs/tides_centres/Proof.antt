@@ -2,24 +2,24 @@
 use borrow.Author.Needs.{needs}
 use native.Mathlib.Omega.{arith}
 use mathlib.Core.Path.{sym, subst}
-use mathlib.Core.Logic.{inl, inr}
-use Rattle.c_api.specs.Records.{Narrow}
+use Rattle.c_api.proofs.CallLaws.{lacks-yes, record-short, list-short}
+use Rattle.c_records.specs.Records.{Narrow}
 use Rattle.c_api.proofs.OutputLaws.{centres-narrow, count-fits, centres-too-short, centres-refused, centres-done}
 use Rattle.c_api.proofs.tides_centres.Statement.{statement}
 use Rattle.c_api.proofs.tides_centres.Tie as tie
 
 returns : tie.Need-returns
-returns c = centres-too-short _ _ _ _ (inl (c .if1 .taken))
+returns c = centres-too-short _ _ _ _ (record-short _ _ (c .if1 .taken))
 
 returns-2 : tie.Need-returns-2
-returns-2 c = centres-too-short _ _ _ _ (inr (c .if2 .taken))
+returns-2 c = centres-too-short _ _ _ _ (list-short _ (lacks-yes 1 _ (c .if2 .taken)))
 
 -- the call, from where its answer is looked at
 abbrev call-of : tie.After-slice-known7 → tie.After-centres-into
 call-of c = c .before .before .before .before .before .before
 
 answer-code-requires : tie.Need-answer-code-requires
-answer-code-requires c κs = subst Narrow (sym (call-of (c .before .before) .centres-into .ensures .0)) (centres-narrow _ _)
+answer-code-requires c κs = subst Narrow (sym (call-of (c .before .before) .centres-into .ensures .0)) (centres-narrow _ _ _)
 
 returns-3 : tie.Need-returns-3
 returns-3 c =

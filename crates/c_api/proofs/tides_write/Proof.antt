@@ -1,16 +1,16 @@
 -- One law for each way out: a list that is too short, a refusal, an answer. No loop. Assumes nothing.
 use borrow.Author.Needs.{needs}
 use native.Mathlib.Omega.{arith}
-use mathlib.Core.Logic.{inl, inr}
+use Rattle.c_api.proofs.CallLaws.{lacks-yes, record-short, list-short}
 use Rattle.c_api.proofs.OutputLaws.{why-narrow, size-fits, write-too-short, write-refused, write-done}
 use Rattle.c_api.proofs.tides_write.Statement.{statement}
 use Rattle.c_api.proofs.tides_write.Tie as tie
 
 returns : tie.Need-returns
-returns c = write-too-short _ _ _ (inl (c .if1 .taken))
+returns c = write-too-short _ _ _ (record-short _ _ (c .if1 .taken))
 
 returns-2 : tie.Need-returns-2
-returns-2 c = write-too-short _ _ _ (inr (c .if2 .taken))
+returns-2 c = write-too-short _ _ _ (list-short _ (lacks-yes 1 _ (c .if2 .taken)))
 
 refusal-code-requires : tie.Need-refusal-code-requires
 refusal-code-requires c κs = why-narrow _ _ _ (c .before .before .before .before .before .write .ensures .0) (c .before .written .given .1)

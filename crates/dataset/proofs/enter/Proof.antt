@@ -1,22 +1,21 @@
 -- `enter` meets its contract: a refused call leaves everything, an accepted one what `add_tide` ensures. Assumes nothing.
-use mathlib.Core.List.{[]}
 use borrow.Author.Needs.{needs}
-use Rattle.dataset.proofs.AnswerLaws.{held-refused, passed, enter-stays, enter-accepted}
-use Rattle.dataset.specs.Answers.{enterAnswer}
+use Rattle.access.specs.Calls.{nobody}
+use Rattle.access.proofs.AccessLaws.{passed, stays, update-refused}
+use Rattle.dataset.specs.Calls.{entersTide}
+use Rattle.dataset.proofs.AnswerLaws.{enter-accepted}
 use Rattle.dataset.proofs.enter.Statement.{statement}
 use Rattle.dataset.proofs.enter.Tie as tie
 
 returns : tie.Need-returns
-unfolding enterAnswer
-returns c =
-    let f = held-refused _ [] _ (c .enum-told2 .given .1) (c .before .before .check .ensures) in
-    (f, enter-stays _ (c .enum-told2 .given .1) _ _ f)
+unfolding entersTide
+returns c = update-refused _ _ (c .enum-told2 .given .1) (c .before .before .check .ensures)
 
 enter-answer-requires : tie.Need-enter-answer-requires
-enter-answer-requires c κs = passed _ [] (c .before .before .enum-told .given .1) (c .before .before .before .before .check .ensures)
+enter-answer-requires c κs = passed _ nobody (c .before .before .enum-told .given .1) (c .before .before .before .before .check .ensures)
 
 returns-2 : tie.Need-returns-2
-returns-2 c = (c .before .before .enter-answer .ensures, enter-stays _ (c .enum-told4 .given .1) _ _ (c .before .before .enter-answer .ensures))
+returns-2 c = (c .before .before .enter-answer .ensures, stays _ _ (c .enum-told4 .given .1) (c .before .before .enter-answer .ensures))
 
 add-tide-requires : tie.Need-add-tide-requires
 add-tide-requires c κs = enter-accepted _ _ _ (c .before .before .enum-told3 .given .1) (c .before .before .before .before .enter-answer .ensures)

@@ -1,7 +1,8 @@
 -- `withdraw_answer` meets its contract: one law for each way out. Assumes nothing.
 use native.Mathlib.Omega.{arith}
 use borrow.Author.Needs.{needs}
-use Rattle.dataset.proofs.AnswerLaws.{user-place, withdraw-23, withdraw-26, withdraw-done}
+use Rattle.access.proofs.AccessLaws.{user-place}
+use Rattle.dataset.proofs.AnswerLaws.{withdraw-23, withdraw-26, withdraw-done}
 use Rattle.lists.proofs.Scans.{between-in, between-low, between-high}
 use Rattle.dataset.proofs.withdraw_answer.Statement.{statement}
 use Rattle.dataset.proofs.withdraw_answer.Tie as tie

@@ -1,7 +1,5 @@
 -- `blocked_sheet` meets its contract: the text of what Block answers. Assumes nothing.
-use mathlib.Core.Path.{ap, _∙_}
-use Prim.Native.Nat.{ℕ}
-use lib.ListN.{length-replicate}
+use mathlib.Core.Path.{refl, ap, _∙_}
 use Rattle.validity.specs.Memory.{stateOf}
 use Rattle.sheet_text.specs.Text.{laidOut}
 use Rattle.sheet_of_file.proofs.Laws.{blocked-text}
@@ -16,7 +14,7 @@ returns c =
     let blocked = call .block-by-value .ensures in
     let text = c .sheet-text .ensures in
     let s = stateOf (a .dataset) (a .distances .now) (a .settings .now) in
-    (text .0, text .1 ∙ ap laidOut (blocked-text s _ (length-replicate {A = ℕ} 120 0) (blocked .0) (blocked .1 .1)))
+    (text .0, text .1 ∙ ap laidOut (blocked-text s (call .block-by-value .result .answer) refl (blocked .0) (blocked .1 .1)))
 
 pub blocked-sheet-spec : {M : Type 1} → statement M
 blocked-sheet-spec =

@@ -1,8 +1,8 @@
 -- `write` meets its contract: what the test of a dataset refuses, Write refuses. Assumes nothing.
 use Rattle.study_file.proofs.WriteCallLaws.{write-refused}
-use Rattle.dataset.proofs.AnswerLaws.{passed}
+use Rattle.access.specs.Calls.{nobody}
+use Rattle.access.proofs.AccessLaws.{passed}
 use Rattle.validity.specs.Memory.{stateOf}
-use mathlib.Core.List.{[]}
 use borrow.Author.Needs.{needs}
 use Rattle.study_file.proofs.write.Statement.{statement}
 use Rattle.study_file.proofs.write.Tie as tie
@@ -12,7 +12,7 @@ write-file-requires c κs =
     let at-check = c .before .before .before in
     let args = at-check .before .before .before .before .args in
     let σ = stateOf (args .dataset) (args .distances .now) (args .settings .now) in
-    passed σ [] (c .before .enum-told .given .1) (at-check .check .ensures)
+    passed σ nobody (c .before .enum-told .given .1) (at-check .check .ensures)
 
 returns : tie.Need-returns
 returns c =

@@ -10,14 +10,14 @@ returns-2 c =
     let at-write = c .before .before .before .before .before in
     let told = at-write .before .before .before in
     let entry = told .before .before .before .before .before .before in
-    write-ends (entry .pre) (told .over2 .given .1) (at-write .write .result) _ _ (c .before .reply .given .1) refl (at-write .write .ensures)
+    write-ends (entry .pre) (told .over2 .given .1) (at-write .write .result) _ (c .before .reply .given .1) refl (at-write .write .ensures)
 
 returns-3 : tie.Need-returns-3
 returns-3 c =
     let at-write = c .before .before .before .before .before in
     let told = at-write .before .before .before in
     let entry = told .before .before .before .before .before .before in
-    write-ends (entry .pre) (told .over2 .given .1) (at-write .write .result) _ _ (c .before .reply2 .given .1) refl (at-write .write .ensures)
+    write-ends (entry .pre) (told .over2 .given .1) (at-write .write .result) _ (c .before .reply2 .given .1) refl (at-write .write .ensures)
 
 pub write-study-spec : {M : Type 1} → statement M
 write-study-spec =

@@ -2,7 +2,7 @@
 use borrow.Author.Needs.{needs}
 use borrow.Author.Tests.{not-true, not-false}
 use Rattle.study.specs.Calls.{blockReasons}
-use Rattle.blocking.specs.Answers.{blockAnswer}
+use Rattle.blocking.specs.Accepted.{blockAnswer}
 use Rattle.blocking.proofs.ProblemOfArrays.{sized-arrays}
 use Rattle.blocking.proofs.BlockLaws.{block-25, block-1-list, block-1-records, block-done}
 use Rattle.blocking.proofs.block.block_answer.Statement.{statement}

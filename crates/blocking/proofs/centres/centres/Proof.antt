@@ -1,6 +1,6 @@
 -- The front of the list that `centres_into` leaves, the other two lists, and the number of its answer. Assumes nothing.
 use mathlib.Core.Path.{refl, ap, _∙_}
-use Rattle.study.specs.Calls.{CentreLists}
+use lib.ListN.{drop}
 use Rattle.study.specs.Numbers.{refusalNumber}
 use Rattle.blocking.proofs.CentresLaws.{centres-part}
 use borrow.Author.Needs.{needs}
@@ -19,10 +19,7 @@ returns c =
       refl,
       (
         centres-part _ _ _ (e .1 .0) lists .1,
-        (
-          ap (λ (l : CentreLists). l .nearest) lists,
-          (ap (λ (l : CentreLists). l .away) lists, c .before .refusal-number .ensures ∙ ap refusalNumber (e .0)),
-        ),
+        (ap (drop 1) lists, c .before .refusal-number .ensures ∙ ap refusalNumber (e .0)),
       ),
     )
 

@@ -3,14 +3,16 @@ use native.Mathlib.Omega.{arith}
 use mathlib.Core.Logic.{inl, inr}
 use Rattle.study.specs.Calls.{centresReasons}
 use Rattle.blocking.proofs.CentresLaws.{centres-1, centres-done}
-use Rattle.blocking.specs.Answers.{centresAnswer}
+use Rattle.access.specs.Calls.{verdict, reasons, answer}
+use Rattle.access.specs.Passed.{heldAnswer}
+use Rattle.blocking.specs.Calls.{findsCentres}
 use borrow.Author.Needs.{needs}
 use Rattle.blocking.proofs.centres.centres_answer.Statement.{statement}
 use Rattle.blocking.proofs.centres.centres_answer.Tie as tie
 
 returns : tie.Need-returns
-unfolding centresAnswer centresReasons
-returns c = c .before .before .check-tides .ensures .refuses _ (c .enum-told2 .given .1) _
+unfolding findsCentres answer verdict reasons heldAnswer centresReasons
+returns c g = c .before .before .check-tides .ensures .refuses _ (c .enum-told2 .given .1) _
 
 returns-2 : tie.Need-returns-2
 returns-2 c = let at = c .before in centres-1 _ _ (at .before .before .check-tides .ensures) (at .enum-told .given .1) (inl (omega arith))

@@ -7,7 +7,7 @@ use Rattle.blocking.proofs.centres.centres_into.Tie as tie
 returns : tie.Need-returns
 returns c =
     let answer = c .before .before .centres-answer .ensures in
-    (answer, centres-refused _ _ _ (c .enum-told2 .given .1) answer)
+    (answer _, centres-refused _ _ _ (c .enum-told2 .given .1) (answer _))
 
 fill-lists-requires : tie.Need-fill-lists-requires
 fill-lists-requires c κs =
@@ -16,7 +16,7 @@ fill-lists-requires c κs =
 returns-2 : tie.Need-returns-2
 returns-2 c =
     let filled = c .before .before .before .before .before .before in
-    (filled .before .before .before .before .before .before .centres-answer .ensures, filled .fill-lists .ensures)
+    (filled .before .before .before .before .before .before .centres-answer .ensures _, filled .fill-lists .ensures)
 
 pub centres-into-spec : {M : Type 1} → statement M
 centres-into-spec =

@@ -1,13 +1,15 @@
 -- One law for each way out. Assumes nothing.
 use Rattle.study.specs.Calls.{judgeReasons}
 use Rattle.blocking.proofs.JudgeLaws.{judge-12, judge-done}
-use Rattle.blocking.specs.Answers.{judgeAnswer}
+use Rattle.access.specs.Calls.{verdict, reasons, answer}
+use Rattle.access.specs.Passed.{heldAnswer}
+use Rattle.blocking.specs.Calls.{judgesList}
 use borrow.Author.Needs.{needs}
 use Rattle.blocking.proofs.judge.judge_answer.Statement.{statement}
 use Rattle.blocking.proofs.judge.judge_answer.Tie as tie
 
 returns : tie.Need-returns
-unfolding judgeAnswer judgeReasons
+unfolding judgesList answer verdict reasons heldAnswer judgeReasons
 returns c = c .before .before .check-tides .ensures .refuses _ (c .enum-told2 .given .1) _
 
 returns-2 : tie.Need-returns-2

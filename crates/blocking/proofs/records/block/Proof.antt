@@ -1,10 +1,9 @@
 -- `blocking::records::block` meets its contract: an instance of the walk that all calls with lent records share (LentRecords). Assumes nothing.
 use mathlib.Core.Path.{_≡_, refl}
-use Prim.Native.Nat.{ℕ}
 use Rattle.study.specs.declared.Blocked.{Blocked}
-use Rattle.study.specs.Calls.{blockedOf}
 use Rattle.validity.specs.Memory.{State}
-use Rattle.blocking.specs.Answers.{blockReply}
+use Rattle.access.specs.Calls.{Call, reply}
+use Rattle.blocking.specs.Calls.{makesBlocks, blockedReply}
 use Rattle.study.proofs.Blocked as N
 use Rattle.study.proofs.Blocked.Laws as N′
 use Rattle.blocking.proofs.block.Computed as D
@@ -29,11 +28,11 @@ handed = record {
   parted = λ r both. (both .0, both .1 .0);
 }
 
-abbrev replied : State → ℕ → ℕ → Blocked → Type 0
-replied s list room r = blockedOf r ≡ blockReply s list room
+abbrev replied : State → Call → Blocked → Type 0
+replied s c r = blockedReply r ≡ reply s c
 
 pub block-spec : {M : Type 1} → stated.statement M
 unfolding code.routine
 block-spec 𝓤 H 𝓜 𝓖 𝓡 =
-    lent-meets handed replied 𝓤 H 𝓜 𝓖 𝓡 code.env #block #block-core (code.unfolded 𝓤 H 𝓜 𝓡)
+    lent-meets handed makesBlocks replied 𝓤 H 𝓜 𝓖 𝓡 code.env #block #block-core (code.unfolded 𝓤 H 𝓜 𝓡)
     core-def.routine code.calls-blocking·block·block-core (core-thm.met 𝓤 H 𝓜 𝓖 𝓡) code.calls-blocking·storing·put-records

@@ -42,9 +42,9 @@ use Rattle.lists.specs.Lists.{iota}
 use Rattle.study.specs.declared.BlockRecord.{BlockRecord}
 use Rattle.study.specs.declared.Blocked.{Blocked}
 use Rattle.study.specs.declared.Dataset.{Dataset}
-use Rattle.study.specs.Calls.{blockedOf}
 use Rattle.validity.specs.Memory.{State, stateOf}
-use Rattle.blocking.specs.Answers.{blockReply, blockList, blockRecords}
+use Rattle.access.specs.Calls.{reply, output}
+use Rattle.blocking.specs.Calls.{makesBlocks, blockedReply}
 use Rattle.blocking.specs.Rows.{noRecord, noRecords}
 use Rattle.blocking.specs.declared.records.Blocking.{Blocking}
 use Rattle.study.proofs.Dataset as S
@@ -169,13 +169,13 @@ module _ {M : Type 1} (𝓤 : URA M) (H : Heap 𝓤) (A : Atoms 𝓤) (W : Given
       -- [κ₂; true; κ₁; κ₀; what block owns; settings; distances; ν]
       move ! (7 ∷ 1 ∷ []) $ join ! $ move ! (1 ∷ 0 ∷ []) $ join ! $ move ! (1 ∷ 0 ∷ []) $ join ! $ move ! (1 ∷ 0 ∷ []) $ join ! $ use2 W (raw (Block 𝓤 H A mem run .pre (to-block ν b γ))) (asks-nothing 𝓤 _) $ frame ! $ move ! (1 ∷ 0 ∷ []) $ done !
 
-  exits : (r : Blocked) (zs : List ℕ) (ws : List BlockRecord) (u m : Val) → blockedOf r ≡ blockReply state (length (l .now)) (length noRecords) → zs ≡ blockList state (l .now) (length noRecords) → ws ≡ blockRecords state (length (l .now)) noRecords
+  exits : (r : Blocked) (zs : List ℕ) (ws : List BlockRecord) (u m : Val) → blockedReply r ≡ reply state (makesBlocks (l .now) noRecords) → zs ∷ [] ≡ output state (makesBlocks (l .now) noRecords) .lists → ws ≡ output state (makesBlocks (l .now) noRecords) .records
       → length zs ≡ length (l .now) → Is S.the-row d (sd ∷ []) → Is D.the-row (record { answer = r; records = ws }) (made u m ∷ [])
       → ent 𝓤 (⋆ 𝓤 H A (‵ (flft κ₂ q₂) ∷ ‵ (flft κ₁ q₁) ∷ ‵ (flft κ₀ q₀) ∷ ‵ (finally u8 (l .name) zs) ∷ ‵ (OwnV κ₀ v) ∷ ‵ (OwnW κ₁ w) ∷ [])) (Post (made u m))
   exits r zs ws u m answered listed recorded long isD is =
       qed W (‵ (flft κ₂ q₂) ∷ ‵ (flft κ₁ q₁) ∷ ‵ (flft κ₀ q₀) ∷ ‵ (finally u8 (l .name) zs) ∷ ‵ (OwnV κ₀ v) ∷ ‵ (OwnW κ₁ w) ∷ []) ∵
       suffices ! _ (ends-at 𝓤 H A f.ended stayed (f.clauses 𝓤 H A mem run) W bound (made u m) (record { answer = r; records = ws }) (tt, (tt, (tt, (zs, tt)))) (tt, (tt, (tt, (long, tt))))) $
-      says3 ! (answered ∙ ap (λ (k : ℕ). blockReply state (length (l .now)) k) length-none) (listed ∙ ap (λ (k : ℕ). blockList state (l .now) k) length-none) recorded $
+      says3 ! answered listed recorded $
       nothing ! $ move ! (1 ∷ 0 ∷ []) $ join ! $ move ! (1 ∷ 0 ∷ []) $ join ! $ move ! (1 ∷ 0 ∷ []) $ join ! $ frame ! $
       -- [list; distances; settings]
       nothing ! $ move ! (1 ∷ 0 ∷ []) $ fjoin ! $ move ! (2 ∷ 0 ∷ []) $ fjoin ! $ move ! (1 ∷ 0 ∷ []) $ fjoin ! $

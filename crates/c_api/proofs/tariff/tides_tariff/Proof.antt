@@ -2,18 +2,18 @@
 -- No loop. Assumes nothing.
 use borrow.Author.Needs.{needs}
 use native.Mathlib.Omega.{arith}
-use mathlib.Core.Logic.{inl, inr}
-use Rattle.guarantee.specs.Runs.{priceNumbers}
-use Rattle.c_api.proofs.BlockLaws.{block-narrow, blocks-small, columns-fit, blocks-too-short, blocks-refused, blocks-done}
-use Rattle.c_api.proofs.TariffLaws.{bill-reply, written-bill}
+use Rattle.priced_blocks.specs.Calls.{pricesBlocks}
+use Rattle.c_api.proofs.CallLaws.{lacks-yes, record-short, list-short}
+use Rattle.c_api.proofs.BlockLaws.{block-narrow, count-is, blocks-small, columns-fit, blocks-too-short, blocks-refused, blocks-done}
+use Rattle.c_api.proofs.TariffLaws.{prices-lent, bill-reply, bill-why, bill-numbers, bill-eight, bill-rows, written-bill}
 use Rattle.c_api.proofs.tariff.tides_tariff.Statement.{statement}
 use Rattle.c_api.proofs.tariff.tides_tariff.Tie as tie
 
 returns : tie.Need-returns
-returns c = blocks-too-short 12 priceNumbers _ _ (inl (c .if1 .taken))
+returns c = blocks-too-short 12 _ _ (pricesBlocks _) (prices-lent _) (record-short _ _ (c .if1 .taken))
 
 returns-2 : tie.Need-returns-2
-returns-2 c = blocks-too-short 12 priceNumbers _ _ (inr (c .if2 .taken))
+returns-2 c = blocks-too-short 12 _ _ (pricesBlocks _) (prices-lent _) (list-short _ (lacks-yes 12 _ (c .if2 .taken)))
 
 refusal-code-requires : tie.Need-refusal-code-requires
 refusal-code-requires c κs =
@@ -26,7 +26,7 @@ put-columns-requires c κs =
     let called = told .before .before .before .before .before .before in
     let core = called .price-core in
     let e = core .ensures in
-    columns-fit _ _ _ _ (bill-reply _ _ _ (core .result .priced) (e .0)) (told .answer2 .given .1) (e .1 .0) _ _ _
+    columns-fit _ _ _ _ (bill-reply _ _ _ (core .result .priced) (e .0)) (told .answer2 .given .1) (bill-rows _ _ _ (core .result .priced) (e .0) (e .1 .0)) _ _ _
     (called .before .before .before .least .ensures)
 
 cast-count : tie.Need-cast-count
@@ -35,7 +35,7 @@ cast-count c =
     let told = put .before .before .before .before .before in
     let core = told .before .before .before .before .before .before .price-core in
     let e = core .ensures in
-    omega (arith, blocks-small _ _ _ _ (bill-reply _ _ _ (core .result .priced) (e .0)) (told .answer2 .given .1) (e .1 .0))
+    omega (arith, blocks-small _ _ _ _ (bill-reply _ _ _ (core .result .priced) (e .0)) (told .answer2 .given .1) (bill-rows _ _ _ (core .result .priced) (e .0) (e .1 .0)))
 
 returns-3 : tie.Need-returns-3
 returns-3 c =
@@ -43,9 +43,9 @@ returns-3 c =
     let core = called .price-core in
     let e = core .ensures in
     let got = called .before .before in
-    blocks-refused 12 priceNumbers _ _
+    blocks-refused 12 _ _ (pricesBlocks _) (prices-lent _)
     (record { room = got .before .before .before .if1 .left; enough = got .before .before .if2 .left; held = got .dataset-of .ensures })
-    (got .before .least .ensures) _ (bill-reply _ _ _ (core .result .priced) (e .0)) (e .1 .1) (c .before .before .answer .given .1) (c .refusal-code .ensures)
+    (got .before .least .ensures) (e .1 .1) (bill-why _ _ _ (core .result .priced) (e .0) (c .before .before .answer .given .1)) (c .refusal-code .ensures)
 
 returns-4 : tie.Need-returns-4
 returns-4 c =
@@ -58,10 +58,13 @@ returns-4 c =
     let core = called .price-core in
     let e = core .ensures in
     let got = called .before .before in
-    blocks-done 12 priceNumbers _ _
+    let done = told .answer2 .given .1 in
+    let P = core .result .priced in
+    blocks-done 12 _ _ (pricesBlocks _) (prices-lent _)
     (record { room = got .before .before .before .if1 .left; enough = got .before .before .if2 .left; held = got .dataset-of .ensures })
-    (got .before .least .ensures) _ (bill-reply _ _ _ (core .result .priced) (e .0)) (e .1 .1) (told .answer2 .given .1) (e .1 .0) (w .0) (w .1 .0) (w .1 .1)
-    (written-bill _ _ _ (core .result .priced) (e .0) (told .answer2 .given .1) _ (row .bill-row .ensures) (bill .put-numbers .ensures))
+    (got .before .least .ensures) (e .1 .1) (bill-numbers _ _ _ P (e .0) done) (e .1 .0)
+    (count-is _ _ _ _ (bill-reply _ _ _ P (e .0)) done (bill-rows _ _ _ P (e .0) (e .1 .0))) (w .0) (w .1 .0) (w .1 .1)
+    (written-bill _ (bill-eight _ _ _ P (e .0) done) (row .bill-row .ensures) (bill .put-numbers .ensures))
 
 pub tides-tariff-spec : {M : Type 1} → statement M
 tides-tariff-spec =

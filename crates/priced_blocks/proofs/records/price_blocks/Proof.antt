@@ -1,10 +1,7 @@
 -- `priced_blocks::records::price_blocks` meets its contract: an instance of the walk that all calls with lent records share (blocking,
 -- LentRecords). Assumes nothing.
-use mathlib.Core.Path.{_≡_, refl}
-use Prim.Native.Nat.{ℕ}
-use Rattle.validity.specs.Memory.{State}
-use Rattle.priced_blocks.specs.declared.core.Priced.{Priced}
-use Rattle.priced_blocks.specs.Answers.{billOf, tariffReply}
+use mathlib.Core.Path.{refl}
+use Rattle.priced_blocks.specs.Calls.{pricesBlocks, Billed}
 use Rattle.priced_blocks.proofs.core.Priced as N
 use Rattle.priced_blocks.proofs.core.Priced.Laws as N′
 use Rattle.priced_blocks.proofs.core.PricedRows as D
@@ -29,11 +26,8 @@ handed = record {
   parted = λ r both. (both .0, both .1 .0);
 }
 
-abbrev billed : State → ℕ → ℕ → Priced → Type 0
-billed s list room r = billOf r ≡ tariffReply s list room
-
 pub price-blocks-spec : {M : Type 1} → stated.statement M
 unfolding code.routine
 price-blocks-spec 𝓤 H 𝓜 𝓖 𝓡 =
-    lent-meets handed billed 𝓤 H 𝓜 𝓖 𝓡 code.env #price-blocks #price-core (code.unfolded 𝓤 H 𝓜 𝓡)
+    lent-meets handed pricesBlocks Billed 𝓤 H 𝓜 𝓖 𝓡 code.env #price-blocks #price-core (code.unfolded 𝓤 H 𝓜 𝓡)
     core-def.routine code.calls-priced-blocks·core·price-core (core-thm.met 𝓤 H 𝓜 𝓖 𝓡) code.calls-blocking·storing·put-records

@@ -1,0 +1,3 @@
+-- Calls, to be read beside the documents. Passed: inner promises.
+pub mod Calls
+pub mod Passed

@@ -1,0 +1,108 @@
+-- Centres, Block and Judge, each as one value; what it answers and leaves is said of every call in access. Assumes nothing.
+use Prim.Native.Nat.{ℕ}
+use mathlib.Core.List.{List, [], _∷_}
+use lib.ListN.{length}
+use denote.Ref.{RefT, now}
+use denote.Triple.Both.{Both}
+use Rattle.lists.specs.Lists.{overwrite, over}
+use Rattle.study.specs.declared.BlockRecord.{BlockRecord}
+use Rattle.study.specs.declared.Blocked.{Blocked}
+use Rattle.study.specs.declared.Blocked.the-variants as BlockedCase
+use Rattle.study.specs.declared.Judged.{Judged}
+use Rattle.study.specs.declared.Judged.the-variants as JudgedCase
+use Rattle.study.specs.Problem.{blocking}
+use Rattle.study.specs.Study.{Study, problem}
+use Rattle.study.specs.Refusals.{numbered, settled, Reply, value, refusal}
+use Rattle.study.specs.Calls.{CentreLists, centresReasons, centreNumbers, centresWritten, blockReasons, Figures, figures, blockRecord, judgeReasons}
+use Rattle.study.specs.Calls.{Judgement, approval, disapproval, judgement}
+use Rattle.validity.specs.Memory.{State, studyOf, LentList}
+use Rattle.access.specs.Calls.{nobody, noOutput, Inquiry, Call, asks, answer}
+
+-- ---- Centres at g, lent three lists
+
+-- these three
+abbrev pub centreLists : List ℕ → List ℕ → List ℕ → CentreLists
+centreLists l m d = record { list = l; nearest = m; away = d }
+
+-- the lent lists as they are where the function begins; E is what is known of the first where it returns, nothing where it is handed back
+abbrev pub entryLists : {E : Type 0} → Both (RefT (List ℕ)) E → LentList → LentList → CentreLists
+entryLists l m d = centreLists (now (l .entry)) (now (m .entry)) (now (d .entry))
+
+-- the lent lists as they are where the function returns
+abbrev pub exitLists : LentList → LentList → LentList → CentreLists
+exitLists l m d = centreLists (now (l .exit)) (now (m .exit)) (now (d .exit))
+
+-- the three lists of Centres
+abbrev pub allThree : CentreLists → List (List ℕ)
+allThree l = l .list ∷ l .nearest ∷ l .away ∷ []
+
+-- the number of centres, and the three lists
+unfoldable pub findsCentres : ℕ → CentreLists → Call
+findsCentres g l =
+    asks (record {
+      caller = nobody;
+      own = λ H. centresReasons (H .study) l;
+      lent = record { numbers = []; lists = allThree l; records = [] };
+      tells = λ H. record {
+        numbers = length (centreNumbers (H .study) g) ∷ [];
+        lists = allThree (centresWritten (H .study) g l);
+        records = [];
+      };
+    })
+
+-- the filled front of the list of centres, empty on a refusal
+unfoldable pub centresFront : State → ℕ → CentreLists → List ℕ
+centresFront s g l = settled (answer s (findsCentres g l)) (centreNumbers (studyOf s) g) []
+
+-- ---- Block, lent a list and records; of each only the length counts for the answer
+
+-- a call that makes blocks, and answers these numbers of the study: the list's entries past the last tide stay, and so do the records
+-- past the last block
+abbrev pub blockInquiry : (Study → List ℕ) → List ℕ → List BlockRecord → Inquiry
+blockInquiry numbers list records =
+    record {
+      caller = nobody;
+      own = λ H. blockReasons (H .study) (length list) (length records);
+      lent = record { numbers = []; lists = list ∷ []; records = records };
+      tells = λ H. let S = H .study in record {
+        numbers = numbers S;
+        lists = over (blocking (problem S)) list ∷ [];
+        records = overwrite (figures S .blocks) (blockRecord S) records;
+      };
+    }
+
+-- block count, radius and greatest diameter
+abbrev pub figureNumbers : Figures → List ℕ
+figureNumbers F = F .blocks ∷ F .radius ∷ F .widest ∷ []
+
+-- these are its numbers
+unfoldable pub makesBlocks : List ℕ → List BlockRecord → Call
+makesBlocks list records = asks (blockInquiry (λ S. figureNumbers (figures S)) list records)
+
+-- the code's answer, by document 01's number and values
+abbrev pub blockedReply : Blocked → Reply (List ℕ)
+blockedReply (BlockedCase.Done c r w) = value (c ∷ r ∷ w ∷ [])
+blockedReply (BlockedCase.Refused r) = refusal (numbered r)
+
+-- ---- Judge, given a list
+
+-- 1 and the greatest diameter for yes, 0 and 0 for no
+abbrev pub judgementNumbers : Judgement → List ℕ
+judgementNumbers (approval w) = 1 ∷ w ∷ []
+judgementNumbers disapproval = 0 ∷ 0 ∷ []
+
+-- these are its numbers
+unfoldable pub judgesList : List ℕ → Call
+judgesList list =
+    asks (record {
+      caller = nobody;
+      own = λ H. judgeReasons (H .study) list;
+      lent = noOutput;
+      tells = λ H. record { numbers = judgementNumbers (judgement (H .study) list); lists = []; records = [] };
+    })
+
+-- the code's answer, by document 01's number and values
+abbrev pub judgedReply : Judged → Reply (List ℕ)
+judgedReply (JudgedCase.Approved w) = value (judgementNumbers (approval w))
+judgedReply JudgedCase.Declined = value (judgementNumbers disapproval)
+judgedReply (JudgedCase.Refused r) = refusal (numbered r)
