@@ -14,7 +14,6 @@ use Rattle.lists.proofs.Scans.{test-passes, test-fails}
 use Rattle.study.specs.declared.Refusal.{Refusal}
 use Rattle.study.specs.declared.Answer.{Answer}
 use Rattle.study.specs.declared.Answer.the-variants.{Done, Refused}
-use Rattle.study.specs.Study.{Contents}
 use Rattle.study.specs.Refusals.{number, Numbered, numbered, Verdict, accepted, refused, verdictOf, settled, value, refusal, replied, Reason, firstOf}
 use Rattle.study.specs.Refusals.{freshReasons, isUser, heldReasons}
 use Rattle.study.specs.Theorems.{ValidContents}
@@ -22,41 +21,32 @@ use Rattle.study.proofs.LadderLaws.{Accepts, ladder-accepts, ladder-refuses}
 use Rattle.validity.specs.Memory.{State, short, isDataset, contentsOf, stored}
 use Rattle.validity.proofs.ValidityLaws.{isDataset-T, valid-contents}
 use Rattle.validity.proofs.LayoutLaws.{long}
-use Rattle.access.specs.Calls.{Caller, nobody, theUser, Source, Update, Output, Inquiry, Call, begins, changes, asks, holding, held, onHeld}
-use Rattle.access.specs.Calls.{reasons, verdict, lent, told, answer, reply, output, anew, made, after}
+use Rattle.access.specs.Calls.{Caller, nobody, theUser, Source, Update, Output, Inquiry, Call, begins, changes, asks, Holding, holdingOf, held, onHeld}
+use Rattle.access.specs.Calls.{reasons, verdict, lent, told, learnt, response, answer, reply, output, made, after}
 use Rattle.access.specs.Passed.{Passed, heldAnswer}
 
 -- ---- what record and memory hold
 
-pub held-dataset : (s : State) → short s ≡ false → isDataset s ≡ true → held s ≡ some (holding (contentsOf s))
+pub held-dataset : (s : State) → short s ≡ false → isDataset s ≡ true → held s ≡ some (holdingOf s)
 unfolding held
 held-dataset s e f = rw (e, f)
 
 -- ---- with what every call begins
 
 module _ (s : State) where
-  -- what a call that begins anew finds of its own
-  pub source-own : (S : Source) → answer s (begins S) ≡ accepted → (short s ≡ false) × (firstOf (S .own) ≡ accepted)
-  unfolding answer verdict reasons freshReasons firstOf
-  source-own S e = by (short s) refl e
-    where
-      by : (b : Bool) → short s ≡ b → cond b (refused (number 1)) (firstOf (S .own)) ≡ accepted → (short s ≡ false) × (firstOf (S .own) ≡ accepted)
-      by true p h = absurd (let z : _≡_ {A = ℕ} 0 1 = cc in omega arith)
-      by false p h = (p, h)
-
   -- a call in this caller's name
-  module _ (by : Caller) (own : Contents → List Reason) where
+  module _ (by : Caller) (own : Holding → List Reason) where
     -- by the tests that the code makes
     abbrev pub ladder : Verdict
-    ladder = firstOf (heldReasons (short s) (by .users) (isDataset s) (own (contentsOf s)))
+    ladder = firstOf (heldReasons (short s) (by .users) (isDataset s) (own (holdingOf s)))
 
     pub ladder-is : ladder ≡ heldAnswer s by own
     unfolding heldAnswer held heldReasons freshReasons firstOf
     ladder-is = cases (short s) (isDataset s)
       where
         cases : (a b : Bool)
-            → firstOf (heldReasons a (by .users) b (own (contentsOf s)))
-            ≡ firstOf (onHeld a by (cond a none (cond b (some (holding (contentsOf s))) none)) own)
+            → firstOf (heldReasons a (by .users) b (own (holdingOf s)))
+            ≡ firstOf (onHeld a by (cond a none (cond b (some (holdingOf s)) none)) own)
         cases true b = refl
         cases false true = refl
         cases false false = refl
@@ -73,26 +63,26 @@ module _ (s : State) where
     unfolding heldReasons freshReasons firstOf
     held-21 e u f = (let q : refused (number 21) ≡ ladder = rw (e, u, f) in q) ∙ ladder-is
 
-    pub users-own : short s ≡ false → allOf isUser (by .users) ≡ true → isDataset s ≡ true → firstOf (own (contentsOf s)) ≡ heldAnswer s by own
+    pub users-own : short s ≡ false → allOf isUser (by .users) ≡ true → isDataset s ≡ true → firstOf (own (holdingOf s)) ≡ heldAnswer s by own
     unfolding heldReasons freshReasons firstOf
-    users-own e u f = (let q : firstOf (own (contentsOf s)) ≡ ladder = rw (e, u, f) in q) ∙ ladder-is
+    users-own e u f = (let q : firstOf (own (holdingOf s)) ≡ ladder = rw (e, u, f) in q) ∙ ladder-is
 
     -- what an accepted call tells
     abbrev pub HeldAccepted : Type 0
-    HeldAccepted = Accepts (short s) (by .users) (isDataset s) (own (contentsOf s))
+    HeldAccepted = Accepts (short s) (by .users) (isDataset s) (own (holdingOf s))
 
     pub accepted-held : heldAnswer s by own ≡ accepted → HeldAccepted
-    accepted-held e = ladder-accepts (short s) (by .users) (isDataset s) (own (contentsOf s)) (ladder-is ∙ e)
+    accepted-held e = ladder-accepts (short s) (by .users) (isDataset s) (own (holdingOf s)) (ladder-is ∙ e)
 
   -- what refuses before the call's own reasons refuses the call
-  pub held-refused : (by : Caller) (own : Contents → List Reason) {a : Answer} {x : Refusal} → a ≡ Refused x → verdictOf a ≡ heldAnswer s by (λ _. [])
+  pub held-refused : (by : Caller) (own : Holding → List Reason) {a : Answer} {x : Refusal} → a ≡ Refused x → verdictOf a ≡ heldAnswer s by (λ _. [])
       → verdictOf a ≡ heldAnswer s by own
   held-refused by own e f =
       let q = ap verdictOf e in
-      q ∙ sym (ladder-refuses (short s) (by .users) (isDataset s) (own (contentsOf s)) (ladder-is by (λ _. []) ∙ sym f ∙ q)) ∙ ladder-is by own
+      q ∙ sym (ladder-refuses (short s) (by .users) (isDataset s) (own (holdingOf s)) (ladder-is by (λ _. []) ∙ sym f ∙ q)) ∙ ladder-is by own
 
-  -- one that names none
-  pub held-own : (own : Contents → List Reason) → short s ≡ false → isDataset s ≡ true → firstOf (own (contentsOf s)) ≡ heldAnswer s nobody own
+  -- past the ladder, the own reasons of one that names none answer
+  pub held-own : (own : Holding → List Reason) → short s ≡ false → isDataset s ≡ true → firstOf (own (holdingOf s)) ≡ heldAnswer s nobody own
   held-own own e f = users-own nobody own e refl f
 
   pub passed-by : short s ≡ false → isDataset s ≡ true → Passed s
@@ -107,7 +97,7 @@ passed-valid s P = valid-contents s (isDataset-T s .0 (true-T (isDataset s) (P .
 
 -- ---- a call that names a user
 
-one-user : (u : ℕ) → T (isUser u) → allOf isUser (u ∷ []) ≡ true
+pub one-user : (u : ℕ) → T (isUser u) → allOf isUser (u ∷ []) ≡ true
 one-user u k = rw (T-true (isUser u) k)
 
 pub user-known : (u : ℕ) → allOf isUser (u ∷ []) ≡ true → T (isUser u)
@@ -139,47 +129,83 @@ module _ (s : State) (u : ℕ) where
   pub known-user : {a : Answer} → a ≡ Done → verdictOf a ≡ heldAnswer s (theUser u) (λ _. []) → T (isUser u)
   known-user e f = user-known u (accepted-held s (theUser u) (λ _. []) (sym (sym (ap verdictOf e) ∙ f)) .known)
 
-  -- past the ladder, the call's own reasons answer
-  pub user-own : (own : Contents → List Reason) → Passed s → T (isUser u) → firstOf (own (contentsOf s)) ≡ heldAnswer s (theUser u) own
-  user-own own P k = users-own s (theUser u) own (P .not-short) (one-user u k) (P .tested)
+-- ---- any call
+
+module _ (s : State) (c : Call) where
+  pub answer-is : answer s c ≡ verdict (short s) (held s) c
+  unfolding answer response learnt
+  answer-is = refl
+
+  pub output-is : output s c ≡ settled (answer s c) (told (held s) c) (lent c)
+  unfolding output answer response learnt
+  output-is = refl
+
+  -- a refused call leaves record and memory
+  pub unmoved : {x : Numbered} → refused x ≡ answer s c → s ≡ after s c
+  unfolding after
+  unmoved e = ap (λ w. settled w (made s c) s) e
+
+  pub stays : {a : Answer} {x : Refusal} → a ≡ Refused x → verdictOf a ≡ answer s c → s ≡ after s c
+  stays e f = unmoved (sym (ap verdictOf e) ∙ f)
+
+  -- and an accepted one what it makes of them
+  pub leaves : accepted ≡ answer s c → made s c ≡ after s c
+  unfolding after
+  leaves e = ap (λ w. settled w (made s c) s) e
+
+  -- a refused call answers no numbers, and leaves what it was lent
+  module _ {x : Numbered} (e : refused x ≡ answer s c) where
+    pub replies-refusal : refusal x ≡ reply s c
+    unfolding reply
+    replies-refusal = ap (λ w. replied w (output s c .numbers)) e
+
+    pub unwritten : lent c ≡ output s c
+    unwritten = ap (λ w. settled w (told (held s) c) (lent c)) e ∙ sym output-is
 
 -- ---- the three kinds
 
 module _ (s : State) where
+  -- a call that begins anew
+  module _ (S : Source) where
+    source-answer : answer s (begins S) ≡ firstOf (freshReasons (short s) (S .own))
+    unfolding answer response learnt verdict reasons
+    source-answer = refl
+
+    pub source-short : short s ≡ true → refused (number 1) ≡ answer s (begins S)
+    unfolding freshReasons firstOf
+    source-short e = ap (λ b. cond b (refused (number 1)) (firstOf (S .own))) (sym e) ∙ sym source-answer
+
+    pub source-own : short s ≡ false → firstOf (S .own) ≡ answer s (begins S)
+    unfolding freshReasons firstOf
+    source-own e = ap (λ b. cond b (refused (number 1)) (firstOf (S .own))) (sym e) ∙ sym source-answer
+
+    pub source-accepted : answer s (begins S) ≡ accepted → (short s ≡ false) × (firstOf (S .own) ≡ accepted)
+    source-accepted e = by (short s) refl
+      where
+        by : (b : Bool) → short s ≡ b → (short s ≡ false) × (firstOf (S .own) ≡ accepted)
+        by true p = let q = source-short p ∙ e in absurd (let z : _≡_ {A = ℕ} 0 1 = cc in omega arith)
+        by false p = (p, source-own p ∙ e)
+
   -- the answer of a call on a dataset
   pub update-answer : (U : Update) → answer s (changes U) ≡ heldAnswer s (U .caller) (U .own)
-  unfolding answer verdict reasons heldAnswer
+  unfolding answer response learnt verdict reasons heldAnswer
   update-answer U = refl
 
   pub inquiry-answer : (Q : Inquiry) → answer s (asks Q) ≡ heldAnswer s (Q .caller) (Q .own)
-  unfolding answer verdict reasons heldAnswer
+  unfolding answer response learnt verdict reasons heldAnswer
   inquiry-answer Q = refl
 
-  module _ (c : Call) where
-    -- a refused call leaves record and memory
-    pub stays : {a : Answer} {x : Refusal} → a ≡ Refused x → verdictOf a ≡ answer s c → s ≡ after s c
-    unfolding after
-    stays e f = ap (λ w. settled w (made s c) s) (sym (ap verdictOf e) ∙ f)
+  -- past the ladder, its own reasons answer
+  pub update-own : (U : Update) → Passed s → allOf isUser (U .caller .users) ≡ true → firstOf (U .own (holdingOf s)) ≡ answer s (changes U)
+  update-own U P u = users-own s (U .caller) (U .own) (P .not-short) u (P .tested) ∙ sym (update-answer U)
 
-    -- and an accepted one what it makes of them
-    pub leaves : accepted ≡ answer s c → made s c ≡ after s c
-    unfolding after
-    leaves e = ap (λ w. settled w (made s c) s) e
-
-    -- a refused call answers no numbers, and leaves what it was lent
-    module _ {x : Numbered} (e : refused x ≡ answer s c) where
-      pub replies-refusal : refusal x ≡ reply s c
-      unfolding reply
-      replies-refusal = ap (λ w. replied w (told (held s) c .numbers)) e
-
-      pub unwritten : lent c ≡ output s c
-      unfolding output
-      unwritten = ap (λ w. settled w (told (held s) c) (lent c)) e
+  pub inquiry-own : (Q : Inquiry) → Passed s → allOf isUser (Q .caller .users) ≡ true → firstOf (Q .own (holdingOf s)) ≡ answer s (asks Q)
+  inquiry-own Q P u = users-own s (Q .caller) (Q .own) (P .not-short) u (P .tested) ∙ sym (inquiry-answer Q)
 
   -- what refuses before a call's own reasons refuses the call
   pub update-refused : (U : Update) {a : Answer} {x : Refusal} → a ≡ Refused x → verdictOf a ≡ heldAnswer s (U .caller) (λ _. [])
       → (verdictOf a ≡ answer s (changes U)) × (s ≡ after s (changes U))
-  update-refused U e f = let g = held-refused s (U .caller) (U .own) e f ∙ sym (update-answer U) in (g, stays (changes U) e g)
+  update-refused U e f = let g = held-refused s (U .caller) (U .own) e f ∙ sym (update-answer U) in (g, stays s (changes U) e g)
 
   pub update-accepted : (U : Update) → answer s (changes U) ≡ accepted → HeldAccepted s (U .caller) (U .own)
   update-accepted U e = accepted-held s (U .caller) (U .own) (sym (update-answer U) ∙ e)
@@ -190,34 +216,32 @@ module _ (s : State) where
   pub inquiry-passed : (Q : Inquiry) → answer s (asks Q) ≡ accepted → Passed s
   inquiry-passed Q e = let h = inquiry-accepted Q e in passed-by s (h .not-short) (h .tested)
 
-  -- an accepted query answers and writes what it tells of the contents
+  -- an accepted inquiry answers and writes what it tells of what is held
   module _ (Q : Inquiry) (P : Passed s) (e : accepted ≡ answer s (asks Q)) where
-    told-is : Q .tells (contentsOf s) ≡ told (held s) (asks Q)
-    unfolding told
-    told-is = sym (rw (held-dataset s (P .not-short) (P .tested)))
+    pub writes : Q .tells (holdingOf s) ≡ output s (asks Q)
+    unfolding told lent
+    writes =
+        sym (rw (held-dataset s (P .not-short) (P .tested))) ∙ ap (λ w. settled w (told (held s) (asks Q)) (Q .lent)) e
+        ∙ sym (output-is s (asks Q))
 
-    pub replies : value (Q .tells (contentsOf s) .numbers) ≡ reply s (asks Q)
+    pub replies : value (Q .tells (holdingOf s) .numbers) ≡ reply s (asks Q)
     unfolding reply
-    replies = ap (λ o. value (o .numbers)) told-is ∙ ap (λ w. replied w (told (held s) (asks Q) .numbers)) e
+    replies = ap (λ (o : Output). value (o .numbers)) writes ∙ ap (λ w. replied w (output s (asks Q) .numbers)) e
 
-    pub writes : Q .tells (contentsOf s) ≡ output s (asks Q)
-    unfolding output lent
-    writes = told-is ∙ ap (λ w. settled w (told (held s) (asks Q)) (Q .lent)) e
-
-  -- what a query answers and writes, by its verdict and the contents
+  -- what an inquiry answers and writes, by its verdict and what is held
   module _ (Q : Inquiry) where
-    pub reply-tells : reply s (asks Q) ≡ replied (answer s (asks Q)) (Q .tells (contentsOf s) .numbers)
+    pub reply-tells : reply s (asks Q) ≡ replied (answer s (asks Q)) (Q .tells (holdingOf s) .numbers)
     unfolding reply
     reply-tells = by (answer s (asks Q)) refl
       where
-        by : (v : Verdict) → answer s (asks Q) ≡ v → replied v (told (held s) (asks Q) .numbers) ≡ replied v (Q .tells (contentsOf s) .numbers)
-        by accepted e = ap (λ (o : Output). value (o .numbers)) (sym (told-is Q (inquiry-passed Q e) (sym e)))
+        by : (v : Verdict) → answer s (asks Q) ≡ v → replied v (output s (asks Q) .numbers) ≡ replied v (Q .tells (holdingOf s) .numbers)
+        by accepted e = ap (λ (o : Output). value (o .numbers)) (sym (writes Q (inquiry-passed Q e) (sym e)))
         by (refused x) e = refl
 
-    pub output-tells : output s (asks Q) ≡ settled (answer s (asks Q)) (Q .tells (contentsOf s)) (Q .lent)
-    unfolding output lent
+    pub output-tells : output s (asks Q) ≡ settled (answer s (asks Q)) (Q .tells (holdingOf s)) (Q .lent)
+    unfolding lent
     output-tells = by (answer s (asks Q)) refl
       where
-        by : (v : Verdict) → answer s (asks Q) ≡ v → settled v (told (held s) (asks Q)) (Q .lent) ≡ settled v (Q .tells (contentsOf s)) (Q .lent)
-        by accepted e = sym (told-is Q (inquiry-passed Q e) (sym e))
-        by (refused x) e = refl
+        by : (v : Verdict) → answer s (asks Q) ≡ v → output s (asks Q) ≡ settled v (Q .tells (holdingOf s)) (Q .lent)
+        by accepted e = sym (writes Q (inquiry-passed Q e) (sym e))
+        by (refused x) e = sym (unwritten s (asks Q) (sym e))

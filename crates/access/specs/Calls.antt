@@ -3,12 +3,42 @@
 -- cite it. The values stand with the calls: dataset, study_file, blocking and priced_blocks, each in specs/Calls. Assumes nothing.
 use Prim.Native.Nat.{ℕ}
 use mathlib.Core.Bool.{Bool, true, false, cond}
-use mathlib.Core.List.{List, [], _∷_}
+use mathlib.Core.List.{List, [], _∷_, headD}
 use mathlib.Core.Option.{Option, none, some}
 use Rattle.study.specs.declared.BlockRecord.{BlockRecord}
 use Rattle.study.specs.Study.{Contents}
 use Rattle.study.specs.Refusals.{Verdict, settled, Reply, replied, Reason, firstOf, freshReasons, heldReasons}
 use Rattle.validity.specs.Memory.{State, short, isDataset, contentsOf, stored}
+
+-- ---- what is held
+
+-- what a call finds: the contents
+pub record Holding : Type 0 where
+  pub contents : Contents
+
+-- contents that a call brings in: nothing else is held beside them
+abbrev pub fresh : Contents → Holding
+fresh C = record { contents = C }
+
+-- other contents; all else that is held stays
+abbrev pub onContents : (Contents → Contents) → Holding → Holding
+onContents f H = record { contents = f (H .contents) }
+
+-- what a dataset holds
+abbrev pub holdingOf : State → Holding
+holdingOf s = record { contents = contentsOf s }
+
+-- what record and memory hold: where they are a dataset as described, what it holds; otherwise there is none
+unfoldable pub held : State → Option Holding
+held s = cond (short s) none (cond (isDataset s) (some (holdingOf s)) none)
+
+-- record and memory that hold this; what else they keep stays
+abbrev pub kept : Holding → State → State
+kept H s = stored (H .contents) s
+
+-- with contents that a call brings in
+abbrev pub anew : Contents → State → State
+anew C s = kept (fresh C) s
 
 -- ---- the three kinds of calls
 
@@ -29,11 +59,11 @@ pub record Source : Type 0 where
   pub own : List Reason
   pub brings : Contents
 
--- a call that changes what is held: its own reasons, and what an accepted call makes of the contents
+-- a call that changes what is held: its own reasons, and what an accepted call makes of it
 pub record Update : Type 0 where
   pub caller : Caller
-  pub own : Contents → List Reason
-  pub makes : Contents → Contents
+  pub own : Holding → List Reason
+  pub makes : Holding → Holding
 
 -- the numbers that a call answers, and the lists and records that it is lent, as they stand
 pub record Output : Type 0 where
@@ -48,9 +78,9 @@ noOutput = record { numbers = []; lists = []; records = [] }
 -- a call that only reads: its own reasons, what it is lent, and what an accepted call answers and leaves there
 pub record Inquiry : Type 0 where
   pub caller : Caller
-  pub own : Contents → List Reason
+  pub own : Holding → List Reason
   pub lent : Output
-  pub tells : Contents → Output
+  pub tells : Holding → Output
 
 -- any call, with the values of its arguments and what it is lent
 pub data Call : Type 0 where
@@ -58,26 +88,12 @@ pub data Call : Type 0 where
   changes : Update → Call
   asks : Inquiry → Call
 
--- ---- what is held
-
--- what a call finds: the contents
-pub record Holding : Type 0 where
-  pub contents : Contents
-
--- these contents
-abbrev pub holding : Contents → Holding
-holding H = record { contents = H }
-
--- what record and memory hold: where they are a dataset as described, its contents; otherwise there is none
-unfoldable pub held : State → Option Holding
-held s = cond (short s) none (cond (isDataset s) (some (holding (contentsOf s))) none)
-
 -- ---- what a call answers, makes and tells, from short memory and what is held. Memory that is too short for a dataset stays so
 
 -- the reasons of a call on a dataset, in the documents' order: the ladder that calls share, and then its own; 21 while there is none
-abbrev pub onHeld : Bool → Caller → Option Holding → (Contents → List Reason) → List Reason
+abbrev pub onHeld : Bool → Caller → Option Holding → (Holding → List Reason) → List Reason
 onHeld tooShort by none own = heldReasons tooShort (by .users) false []
-onHeld tooShort by (some H) own = heldReasons tooShort (by .users) true (own (H .contents))
+onHeld tooShort by (some H) own = heldReasons tooShort (by .users) true (own H)
 
 -- of any call
 unfoldable pub reasons : Bool → Option Holding → Call → List Reason
@@ -96,8 +112,8 @@ changing (some x) f = some (f x)
 
 -- what an accepted call makes of what is held
 unfoldable pub changed : Option Holding → Call → Option Holding
-changed h (begins S) = some (holding (S .brings))
-changed h (changes U) = changing h (λ H. holding (U .makes (H .contents)))
+changed h (begins S) = some (fresh (S .brings))
+changed h (changes U) = changing h (U .makes)
 changed h (asks Q) = h
 
 -- a refused call leaves it
@@ -110,10 +126,10 @@ lent (begins S) = noOutput
 lent (changes U) = noOutput
 lent (asks Q) = Q .lent
 
--- an accepted query tells of what is held
+-- an accepted inquiry tells of what is held
 abbrev pub tellsOf : Option Holding → Inquiry → Output
 tellsOf none Q = Q .lent
-tellsOf (some H) Q = Q .tells (H .contents)
+tellsOf (some H) Q = Q .tells H
 
 -- the numbers that an accepted call answers, and what it leaves in what it was lent
 unfoldable pub told : Option Holding → Call → Output
@@ -132,30 +148,38 @@ learnt tooShort h c = let v = verdict tooShort h c in record { verdict = v; outp
 
 -- ---- the same on record and memory
 
--- the answer of a call
-unfoldable pub answer : State → Call → Verdict
-answer s c = verdict (short s) (held s) c
-
--- its numbers, or the refusal
-unfoldable pub reply : State → Call → Reply (List ℕ)
-reply s c = replied (answer s c) (told (held s) c .numbers)
-
--- the numbers, lists and records after it
-unfoldable pub output : State → Call → Output
-output s c = settled (answer s c) (told (held s) c) (lent c)
-
--- all that its caller learns
+-- all that the caller of a call learns
 unfoldable pub response : State → Call → Response
 response s c = learnt (short s) (held s) c
 
--- record and memory with contents that a call brings in: as after a change
-abbrev pub anew : Contents → State → State
-anew H s = stored H s
+-- whether it is refused, and why
+unfoldable pub answer : State → Call → Verdict
+answer s c = response s c .verdict
+
+-- the numbers that it answers, and what it was lent, as it then stands
+unfoldable pub output : State → Call → Output
+output s c = response s c .output
+
+-- the numbers, or the refusal
+unfoldable pub reply : State → Call → Reply (List ℕ)
+reply s c = replied (answer s c) (output s c .numbers)
+
+-- the lists that it was lent, as they then stand
+abbrev pub listsAfter : State → Call → List (List ℕ)
+listsAfter s c = output s c .lists
+
+-- of a call that is lent one list: that list
+abbrev pub listAfter : State → Call → List ℕ
+listAfter s c = headD (listsAfter s c) []
+
+-- the records that it was lent, as they then stand
+abbrev pub recordsAfter : State → Call → List BlockRecord
+recordsAfter s c = output s c .records
 
 -- record and memory after an accepted call
 unfoldable pub made : State → Call → State
 made s (begins S) = anew (S .brings) s
-made s (changes U) = stored (U .makes (contentsOf s)) s
+made s (changes U) = kept (U .makes (holdingOf s)) s
 made s (asks Q) = s
 
 -- a refused call leaves them as they were

@@ -2,11 +2,10 @@
 use mathlib.Core.Path.{_≡_}
 use mathlib.Core.Bool.{true, false}
 use mathlib.Core.List.{List}
-use Rattle.study.specs.Study.{Contents}
 use Rattle.study.specs.Refusals.{Verdict, Reason, firstOf}
 use Rattle.validity.specs.Memory.{State, short, isDataset}
 use Rattle.validity.specs.Validity.{IsStudy, Long}
-use Rattle.access.specs.Calls.{Caller, held, onHeld}
+use Rattle.access.specs.Calls.{Holding, Caller, held, onHeld}
 
 -- what passes the tests of short memory and 21 is a dataset
 pub record Passed (s : State) : Type 0 where
@@ -16,5 +15,5 @@ pub record Passed (s : State) : Type 0 where
   pub long : Long s
 
 -- the answer of a call on a dataset by these own reasons: `answer` of a call that changes what is held, or asks
-unfoldable pub heldAnswer : State → Caller → (Contents → List Reason) → Verdict
+unfoldable pub heldAnswer : State → Caller → (Holding → List Reason) → Verdict
 heldAnswer s by own = firstOf (onHeld (short s) by (held s) own)

@@ -42,7 +42,7 @@ use Rattle.blocking.specs.Accepted.{TidesChecked, blockAnswer, BlockAcce
 -- Block's answer by lengths is the call's answer
 pub made-answer : (s : State) (list : List ℕ) {room : ℕ} (records : List BlockRecord) → length records ≡ room
     → blockAnswer s (length list) room ≡ answer s (makesBlocks list records)
-unfolding blockAnswer makesBlocks answer verdict reasons heldAnswer
+unfolding blockAnswer makesBlocks answer response learnt verdict reasons heldAnswer
 made-answer s list records k = ap (blockAnswer s (length list)) (sym k)
 
 module _ (s : State) (list room : ℕ) where

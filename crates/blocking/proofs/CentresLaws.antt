@@ -55,7 +55,7 @@ module _ (s : State) (l : CentreLists) where
 
   module _ {first : Answer} (F : TidesChecked s first) (done : first ≡ Done) where
     centres-own : (v : Verdict) → firstOf (centresReasons S l) ≡ v → (g : ℕ) → v ≡ answer s (findsCentres g l)
-    unfolding findsCentres answer verdict reasons heldAnswer contentsOf
+    unfolding findsCentres answer response learnt verdict reasons heldAnswer contentsOf
     centres-own v q g = sym q ∙ held-own s (λ H. centresReasons (H .study) l) (F .passed done .not-short) (F .passed done .tested)
 
     one-short : allRoomy S l ≡ false → (g : ℕ) → refused (number 1) ≡ answer s (findsCentres g l)
@@ -80,7 +80,7 @@ module _ (s : State) (l : CentreLists) where
         ))
 
   pub centres-accepted : {a : Answer} → a ≡ Done → ((g : ℕ) → verdictOf a ≡ answer s (findsCentres g l)) → CentresAccepted s l
-  unfolding findsCentres answer verdict reasons heldAnswer contentsOf centresReasons
+  unfolding findsCentres answer response learnt verdict reasons heldAnswer contentsOf centresReasons
   centres-accepted e f =
       let q : (g : ℕ) → accepted ≡ answer s (findsCentres g l) = λ g. sym (ap verdictOf e) ∙ f g in
       let h = accepted-held s nobody (λ H. centresReasons (H .study) l) (sym (q 0)) in

@@ -41,7 +41,7 @@ module _ (s : State) (list : List ℕ) where
 
   module _ {first : Answer} (F : TidesChecked s first) (done : first ≡ Done) where
     judge-own : (v : Verdict) → firstOf (judgeReasons S list) ≡ v → v ≡ answer s (judgesList list)
-    unfolding judgesList answer verdict reasons heldAnswer contentsOf
+    unfolding judgesList answer response learnt verdict reasons heldAnswer contentsOf
     judge-own v q = sym q ∙ held-own s (λ H. judgeReasons (H .study) list) (F .passed done .not-short) (F .passed done .tested)
 
     pub judge-12 : (length list ≡ n → ⊥) → refused (number 12) ≡ answer s (judgesList list)
@@ -59,7 +59,7 @@ module _ (s : State) (list : List ℕ) where
     pub answer : accepted ≡ answer s (judgesList list)
 
   pub judge-accepted : {a : Answer} → a ≡ Done → verdictOf a ≡ answer s (judgesList list) → JudgeAccepted
-  unfolding judgesList answer verdict reasons heldAnswer contentsOf judgeReasons
+  unfolding judgesList answer response learnt verdict reasons heldAnswer contentsOf judgeReasons
   judge-accepted e f =
       let q : accepted ≡ answer s (judgesList list) = sym (ap verdictOf e) ∙ f in
       let h = accepted-held s nobody (λ H. judgeReasons (H .study) list) (sym q) in

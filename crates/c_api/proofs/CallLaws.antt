@@ -25,7 +25,7 @@ use Rattle.validity.specs.Memory.{State, stateOf, short, isDataset, contentsOf,
 use Rattle.validity.proofs.Proofs.{for-datasets}
 use Rattle.access.specs.Calls.{Source, Update, Call, begins, changes, asks, held, verdict, told, answer, output, made, after}
 use Rattle.access.specs.Calls.{lent as lentTo}
-use Rattle.access.proofs.AccessLaws.{source-own, update-accepted}
+use Rattle.access.proofs.AccessLaws.{source-accepted, update-accepted}
 use Rattle.dataset.specs.Calls.{opensDataset, setsMinima, entersTide, withdrawsTide}
 use Rattle.study_file.specs.Calls.{readsFile}
 use Rattle.narrowing.specs.Narrowing.{narrowed, narrowDataset}
@@ -71,7 +71,7 @@ pub record Sound (s : State) (c : Call) (H : Contents) : Type 0 where
 module _ (s : State) where
   source-sound : (S : Source) → AllNarrow (S .own) → (firstOf (S .own) ≡ accepted → ValidContents (S .brings)) → Sound s (begins S) (S .brings)
   unfolding made
-  source-sound S n valid = record { narrow = source-narrow s S n; makes = refl; valid = λ e. valid (source-own s S e .1) }
+  source-sound S n valid = record { narrow = source-narrow s S n; makes = refl; valid = λ e. valid (source-accepted s S e .1) }
 
   update-sound : (U : Update) → ((H : Contents) → ValidContents H → AllNarrow (U .own H))
       → ((H : Contents) → ValidContents H → firstOf (U .own H) ≡ accepted → ValidContents (U .makes H)) → Sound s (changes U) (U .makes (contentsOf s))

@@ -89,7 +89,7 @@ module _ (dist : ℕ → ℕ → ℕ) (n : ℕ) (new : ℕ → ℕ) (few : n ≤
 
 module _ (s : State) where
   pub source-narrow : (S : Source) → AllNarrow (S .own) → Narrow (answer s (begins S))
-  unfolding answer verdict reasons freshReasons
+  unfolding answer response learnt verdict reasons freshReasons
   source-narrow S h = first-narrow (freshReasons (short s) (S .own)) (small tt, h)
 
   held-narrow : (by : Caller) (own : Contents → List Reason) → (isDataset s ≡ true → AllNarrow (own (contentsOf s))) → Narrow (heldAnswer s by own)

@@ -19,7 +19,7 @@ use Rattle.study.specs.declared.Refusal.{Refusal}
 use Rattle.study.specs.declared.Answer.{Answer}
 use Rattle.study.specs.declared.Answer.the-variants.{Done, Refused}
 use Rattle.study.specs.Study.{Study, Contents, size, tide, distance, validMinima}
-use Rattle.study.specs.Refusals.{number, seven, Verdict, accepted, refused, verdictOf, settled, Reason, firstOf}
+use Rattle.study.specs.Refusals.{Numbered, number, seven, Verdict, accepted, refused, verdictOf, settled, Reason, firstOf}
 use Rattle.study.specs.Refusals.{freshReasons, isUser, heldReasons}
 use Rattle.study.specs.Calls.{openReasons, opened, opening, sumOfParts, understood, minimaReasons, withMinima, settingMinima, Pair, violations}
 use Rattle.study.specs.Calls.{duplicated, enterReasons, entered, entering, countOf, withdrawReasons, withdrawn, counted, withdrawing}
@@ -37,27 +37,35 @@ use Rattle.storage.proofs.PlaceLaws.{cleared-distances, cleared-settings, enter
 use Rattle.storage.specs.Places.{withRow, movedDistance, movedSetting}
 use Rattle.triangle.specs.declared.Violation.{Violation}
 use Rattle.triangle.specs.declared.Violation.the-variants as ViolationCase
-use Rattle.access.specs.Calls.{nobody, theUser, verdict, reasons, answer, made, after}
-use Rattle.access.specs.Passed.{Passed, heldAnswer}
-use Rattle.access.proofs.AccessLaws.{accepted-held, held-own, user-own, user-known, user-place, passed-by, leaves}
+use Rattle.access.specs.Calls.{answer, made, after}
+use Rattle.access.specs.Passed.{Passed}
+use Rattle.access.proofs.AccessLaws.{one-user, user-known, user-place, passed-by, unmoved, leaves, source-short, source-own, update-own, update-accepted}
 use Rattle.dataset.specs.Calls.{opensDataset, setsMinima, entersTide, withdrawsTide}
 use Rattle.dataset.specs.Accepted.{testedMinima, duplicateOf, duplicateAnswer, EnterAccepted, WithdrawAccepted}
 
 -- ---- Open
 
 module _ (s : State) (k : ℕ) where
+  -- refused for this reason
+  open-refused : {r : Numbered} → refused r ≡ answer s (opensDataset k) → (refused r ≡ answer s (opensDataset k)) × (s ≡ after s (opensDataset k))
+  open-refused e = (e, unmoved s (opensDataset k) e)
+
   pub open-1 : short s ≡ true → (refused (number 1) ≡ answer s (opensDataset k)) × (s ≡ after s (opensDataset k))
-  unfolding opensDataset after answer verdict reasons freshReasons firstOf
-  open-1 e = (rw e, rw e)
+  unfolding opensDataset
+  open-1 e = open-refused (source-short s _ e)
 
   module _ (e : short s ≡ false) where
+    -- its one reason answers
+    open-own : (b : Bool) → between 1 8 k ≡ b → cond (not b) (refused (number 2)) accepted ≡ answer s (opensDataset k)
+    unfolding opensDataset openReasons firstOf
+    open-own b f = ap (λ b. cond (not b) (refused (number 2)) accepted) (sym f) ∙ source-own s _ e
+
     pub open-2 : between 1 8 k ≡ false → (refused (number 2) ≡ answer s (opensDataset k)) × (s ≡ after s (opensDataset k))
-    unfolding opensDataset after made answer verdict reasons freshReasons openReasons firstOf
-    open-2 f = (rw (e, f), rw (e, f))
+    open-2 f = open-refused (open-own false f)
 
     open-done : between 1 8 k ≡ true → (accepted ≡ answer s (opensDataset k)) × (stored (opening k) s ≡ after s (opensDataset k))
-    unfolding opensDataset after made answer verdict reasons freshReasons openReasons firstOf
-    open-done f = (rw (e, f), rw (e, f))
+    unfolding opensDataset made
+    open-done f = let a = open-own true f in (a, leaves s (opensDataset k) a)
 
     -- the record that Open makes, over cleared memory
     abbrev emptied : Dataset
@@ -99,8 +107,8 @@ module _ (k : ℕ) (M : Minima) {N : Minima} (e : N ≡ testedMinima M) where
 
 module _ (s : State) (M : Minima) (P : Passed s) where
   minima-own : (v : Verdict) → firstOf (minimaReasons (studyOf s) M) ≡ v → v ≡ answer s (setsMinima M)
-  unfolding setsMinima answer verdict reasons heldAnswer contentsOf
-  minima-own v q = sym q ∙ held-own s (λ H. minimaReasons (H .study) M) (P .not-short) (P .tested)
+  unfolding setsMinima contentsOf
+  minima-own v q = sym q ∙ update-own s _ P refl
 
   -- the record with other minima, over the same memory
   abbrev with-minima : Minima → State → State
@@ -112,10 +120,10 @@ module _ (s : State) (M : Minima) (P : Passed s) where
 
   module _ {N : Minima} (e : N ≡ testedMinima M) where
     pub minima-3 : validMinima (s .dataset .k) N ≡ false → (refused (number 3) ≡ answer s (setsMinima M)) × (s ≡ after s (setsMinima M))
-    unfolding minimaReasons firstOf studyOf after
+    unfolding minimaReasons firstOf studyOf
     minima-3 f =
         let a = minima-own (refused (number 3)) (rw (tested-valid (s .dataset .k) M e, f)) in
-        (a, ap (λ v. settled v (made s (setsMinima M)) s) a)
+        (a, unmoved s (setsMinima M) a)
 
     pub minima-done : validMinima (s .dataset .k) N ≡ true → (accepted ≡ answer s (setsMinima M)) × (with-minima N s ≡ after s (setsMinima M))
     unfolding minimaReasons firstOf studyOf setsMinima made
@@ -165,8 +173,8 @@ module _ (s : State) (setting : ℕ) (row : List ℕ) where
 
   module _ (P : Passed s) where
     enter-own : (v : Verdict) → firstOf (enterReasons S setting row) ≡ v → v ≡ answer s (entersTide setting row)
-    unfolding entersTide answer verdict reasons heldAnswer contentsOf
-    enter-own v q = sym q ∙ held-own s (λ H. enterReasons (H .study) setting row) (P .not-short) (P .tested)
+    unfolding entersTide contentsOf
+    enter-own v q = sym q ∙ update-own s _ P refl
 
     pub enter-22 : 120 ≤ n → refused (number 22) ≡ answer s (entersTide setting row)
     unfolding enterReasons firstOf
@@ -230,10 +238,10 @@ module _ (s : State) (setting : ℕ) (row : List ℕ) where
         (rw (past-22 (A .passed) (A .room), past-4 (A .passed) (A .room) (A .long), A .kind, A .row-fits, none, same-duplicate))
 
   pub enter-accepted : {a : Answer} → a ≡ Done → verdictOf a ≡ answer s (entersTide setting row) → EnterAccepted s setting row
-  unfolding entersTide answer verdict reasons heldAnswer made contentsOf
+  unfolding entersTide made contentsOf
   enter-accepted e f =
       let q : accepted ≡ answer s (entersTide setting row) = sym (ap verdictOf e) ∙ f in
-      let h = accepted-held s nobody (λ H. enterReasons (H .study) setting row) (sym q) in
+      let h = update-accepted s _ (sym q) in
       let w = enters (studyOf s) setting row (h .reasons) in
       record {
         passed = passed-by s (h .not-short) (h .tested);
@@ -265,8 +273,8 @@ module _ (s : State) (setting : ℕ) (row : List ℕ) where
 module _ (s : State) (u t : ℕ) where
   module _ (P : Passed s × T (isUser u)) where
     withdraw-own : (v : Verdict) → firstOf (withdrawReasons (contentsOf s) u t) ≡ v → v ≡ answer s (withdrawsTide u t)
-    unfolding withdrawsTide answer verdict reasons heldAnswer
-    withdraw-own v q = sym q ∙ user-own s u (λ H. withdrawReasons H u t) (P .0) (P .1)
+    unfolding withdrawsTide
+    withdraw-own v q = sym q ∙ update-own s _ (P .0) (one-user u (P .1))
 
     numbers : (b : Bool) → between 1 (s .dataset .n) t ≡ b → between 1 (size (studyOf s)) t ≡ b
     numbers b e = ap (λ (z : ℕ). between 1 z t) (study-size s) ∙ e
@@ -285,10 +293,10 @@ module _ (s : State) (u t : ℕ) where
       withdraw-done h = withdraw-own accepted (rw (numbers true held, lt-leb 65535 (countOf (s .dataset .withdrawn) u) h))
 
   pub withdraw-accepted : {a : Answer} → a ≡ Done → verdictOf a ≡ answer s (withdrawsTide u t) → WithdrawAccepted s u t
-  unfolding withdrawsTide answer verdict reasons heldAnswer made contentsOf
+  unfolding withdrawsTide made contentsOf
   withdraw-accepted e f =
       let q : accepted ≡ answer s (withdrawsTide u t) = sym (ap verdictOf e) ∙ f in
-      let h = accepted-held s (theUser u) (λ H. withdrawReasons H u t) (sym q) in
+      let h = update-accepted s _ (sym q) in
       let w = withdraws (contentsOf s) u t (h .reasons) in
       let k = user-place u (user-known u (h .known)) in
       record {

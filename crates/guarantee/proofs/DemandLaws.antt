@@ -21,51 +21,12 @@ use Rattle.validity.specs.Memory.{State, short, isDataset, contentsOf, stored}
 use Rattle.validity.proofs.Proofs.{for-datasets}
 use Rattle.access.specs.Calls.{nobody, Inquiry, Output, Call, asks, held, reasons, verdict, lent, told, learnt, answer, reply, output, response, made, after}
 use Rattle.access.specs.Passed.{heldAnswer}
-use Rattle.access.proofs.AccessLaws.{HeldAccepted, source-own, held-own, inquiry-answer, inquiry-accepted, inquiry-passed, writes, reply-tells}
+use Rattle.access.proofs.AccessLaws.{HeldAccepted, source-accepted, held-own, inquiry-answer, inquiry-accepted, inquiry-passed, writes, reply-tells}
 use Rattle.study_file.specs.Calls.{readsFile, writeReasons, writesFile}
 use Rattle.study_file.proofs.Proofs.{for-files}
 use Rattle.guarantee.specs.Theorems.{IsFirst, Wrote, FilesAndDatasets}
 
--- ---- the first reason that holds
-
--- of a list with one reason more in front, which does not hold
-later : (r : Reason) (rs : List Reason) → r .holds ≡ false → (v : Verdict) → IsFirst rs v → IsFirst (r ∷ rs) v
-later r rs e accepted none = by
-  where
-    by : (q : Reason) → q among (r ∷ rs) → q .holds ≡ false
-    by q (here p) = ap (λ (x : Reason). x .holds) p ∙ e
-    by q (there m) = none q m
-later r rs e (refused x) (before, q, rest, split, none, holds, because) =
-    (r ∷ before, q, rest, ap (λ l. r ∷ l) split, by, holds, because)
-  where
-    by : (p : Reason) → p among (r ∷ before) → p .holds ≡ false
-    by p (here z) = ap (λ (x : Reason). x .holds) z ∙ e
-    by p (there m) = none p m
-
-is-first : (rs : List Reason) → IsFirst rs (firstOf rs)
-unfolding firstOf
-is-first [] = λ r m. no-member m
-is-first (r ∷ rs) = by (r .holds) refl (is-first rs)
-  where
-    by : (b : Bool) → r .holds ≡ b → IsFirst rs (firstOf rs) → IsFirst (r ∷ rs) (cond b (refused (r .because)) (firstOf rs))
-    by true e f = ([], r, rs, refl, λ q m. no-member m, e, refl)
-    by false e f = later r rs e (firstOf rs) f
-
--- where none before it holds, it refuses
-refuses : (before : List Reason) (r : Reason) (rest : List Reason) → ((q : Reason) → q among before → q .holds ≡ false) → r .holds ≡ true
-    → refused (r .because) ≡ firstOf (before ++ (r ∷ rest))
-unfolding firstOf
-refuses [] r rest none e = sym (rw e)
-refuses (q ∷ before) r rest none e =
-    refuses before r rest (λ p m. none p (there m)) e ∙ sym (ap (λ b. cond b (refused (q .because)) (firstOf (before ++ (r ∷ rest)))) (none q (here refl)))
-
-only-first : (rs : List Reason) (v : Verdict) → IsFirst rs v → v ≡ firstOf rs
-unfolding firstOf
-only-first [] accepted none = refl
-only-first (r ∷ rs) accepted none =
-    only-first rs accepted (λ q m. none q (there m)) ∙ sym (ap (λ b. cond b (refused (r .because)) (firstOf rs)) (none r (here refl)))
-only-first rs (refused x) (before, r, rest, split, none, holds, because) =
-    ap refused (sym because) ∙ refuses before r rest none holds ∙ ap firstOf (sym split)
+-- ---- what a call answers and leaves
 
 module _ (s : State) (c : Call) where
   pub first : IsFirst (reasons (short s) (held s) c) (answer s c)
@@ -146,7 +107,7 @@ module _ (onto : State) (file bytes : List ℕ) (b : Bytes file) (e : answer ont
   not-short : short read ≡ false
   unfolding readsFile after made
   not-short =
-      let long = source-own onto _ e .0 in
+      let long = source-accepted onto _ e .0 in
       ap (λ v. short (settled v (stored (decoded file) onto) onto)) e ∙ for-datasets .as-long (decoded file) onto long ∙ long
 
   own-file : fileOf (contentsOf read) ≡ file

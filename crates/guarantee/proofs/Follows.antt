@@ -16,7 +16,7 @@ use Rattle.validity.specs.Memory.{State, short, isDataset, contentsOf, stored}
 use Rattle.validity.proofs.Proofs.{for-datasets}
 use Rattle.access.specs.Calls.{Source, Update, Inquiry, Call, begins, changes, asks, Holding, holding, held, verdict, changing, changed, step}
 use Rattle.access.specs.Calls.{Response, learnt, answer, response, made, after}
-use Rattle.access.proofs.AccessLaws.{held-dataset, source-own, update-accepted}
+use Rattle.access.proofs.AccessLaws.{held-dataset, source-accepted, update-accepted}
 use Rattle.dataset.specs.Calls.{opensDataset, setsMinima, entersTide, withdrawsTide}
 use Rattle.study_file.specs.Calls.{readsFile}
 use Rattle.guarantee.specs.Runs.{Offered, open-with, read-file, set-minima, enter, withdraw, ask, callOf, run, following, heldAfter}
@@ -72,7 +72,7 @@ module _ (s : State) where
   unfolding step after answer made changed
   leaves-source S valid =
       leaves-settled (answer s (begins S)) (some (holding (S .brings))) (stored (S .brings) s) (λ e.
-      let q = source-own s S e in leaves-stored s (S .brings) (q .0) (valid (q .1)))
+      let q = source-accepted s S e in leaves-stored s (S .brings) (q .0) (valid (q .1)))
 
   -- a change that keeps contents valid
   leaves-update : (U : Update) → ((H : Contents) → ValidContents H → firstOf (U .own H) ≡ accepted → ValidContents (U .makes H)) → Kept (changes U)

@@ -10,8 +10,9 @@ use lib.ListN.{length, drop, getD}
 use Rattle.lists.specs.Lists.{every}
 use Rattle.lists.proofs.Tests.{and-T, T-left, T-right, T-true, not-not, split, every-at, every-of, eq→eqb}
 use Rattle.lists.proofs.Tables.{overwrite-same, drop-overwrite}
-use Rattle.study.specs.Refusals.{Verdict, accepted, refused, settled, value}
+use Rattle.study.specs.Refusals.{Numbered, Verdict, accepted, refused, settled, value, refusal, replied, IsFirst}
 use Rattle.study.proofs.CallLaws.{none-holds}
+use Rattle.study.proofs.ReasonLaws.{is-first, only-first}
 use Rattle.metric_closure.specs.Closure.{closure, loweredPairs}
 use Rattle.metric_closure.specs.Call.{entry, inRange, symmetricRow, symmetricTable, closeReasons, closeVerdict, closedTable, closeAnswer, closeLeaves}
 use Rattle.metric_closure.specs.Theorems.{Dissimilarity, TriangleInequality, ForTable, EveryTable, Closable, EveryCall}
@@ -129,17 +130,32 @@ module _ (n : ℕ) (l : List ℕ) (M : Closable n l) where
 
 -- ---- any call: it is accepted, or leaves the table as it was
 
-either : (n : ℕ) (l : List ℕ) → Closable n l ⊎ (closeLeaves n l ≡ l)
-unfolding closeLeaves
-either n l = by (closeVerdict n l) refl
-  where
-    by : (v : Verdict) → closeVerdict n l ≡ v → Closable n l ⊎ (settled (closeVerdict n l) (closedTable n l) l ≡ l)
-    by accepted e = inl (closable-of n l e)
-    by (refused r) e = inr (ap (λ v. settled v (closedTable n l) l) e)
+module _ (n : ℕ) (l : List ℕ) where
+  unchanged : (r : Numbered) → closeVerdict n l ≡ refused r → (closeAnswer n l ≡ refusal r) × (closeLeaves n l ≡ l)
+  unfolding closeAnswer closeLeaves
+  unchanged r e = (ap (λ v. replied v (loweredPairs n (entry n l))) e, ap (λ v. settled v (closedTable n l) l) e)
+
+  either : Closable n l ⊎ (closeLeaves n l ≡ l)
+  either = by (closeVerdict n l) refl
+    where
+      by : (v : Verdict) → closeVerdict n l ≡ v → Closable n l ⊎ (closeLeaves n l ≡ l)
+      by accepted e = inl (closable-of n l e)
+      by (refused r) e = inr (unchanged r e .1)
+
+  first : IsFirst (closeReasons n l) (closeVerdict n l)
+  unfolding closeVerdict
+  first = is-first (closeReasons n l)
+
+  only : (v : Verdict) → IsFirst (closeReasons n l) v → v ≡ closeVerdict n l
+  unfolding closeVerdict
+  only = only-first (closeReasons n l)
 
 pub for-call : EveryCall
 for-call n l =
     record {
+      first = first n l;
+      only = only n l;
+      unchanged = unchanged n l;
       exactly = (closable-of n l, of-closable n l);
       answer = answers n l;
       lowered = left-at n l;

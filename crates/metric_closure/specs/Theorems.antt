@@ -7,9 +7,9 @@ use mathlib.Core.List.{List}
 use lib.ListN.{length, drop}
 use Rattle.lists.specs.Lists.{_among_}
 use Rattle.study.specs.Limits.{maxTides, maxDistance}
-use Rattle.study.specs.Refusals.{accepted, value}
+use Rattle.study.specs.Refusals.{Numbered, Verdict, accepted, refused, value, refusal, IsFirst}
 use Rattle.metric_closure.specs.Closure.{chainSum, closure, loweredPairs}
-use Rattle.metric_closure.specs.Call.{entry, closeVerdict, closeAnswer, closeLeaves}
+use Rattle.metric_closure.specs.Call.{entry, closeReasons, closeVerdict, closeAnswer, closeLeaves}
 
 -- n tides: the distances are the same both ways, and 0 from a tide to itself
 pub record Dissimilarity (n : ℕ) (dist : ℕ → ℕ → ℕ) : Type 0 where
@@ -58,6 +58,11 @@ pub record Closable (n : ℕ) (l : List ℕ) : Type 0 where
 
 -- what the call does
 pub record ForCall (n : ℕ) (l : List ℕ) : Type 0 where
+  -- demand 1: the answer is the first of document 02's reasons that holds, and accepted where none does; there is no other such answer, and a
+  -- refused call leaves the table as it was
+  pub first : IsFirst (closeReasons n l) (closeVerdict n l)
+  pub only : (v : Verdict) → IsFirst (closeReasons n l) v → v ≡ closeVerdict n l
+  pub unchanged : (r : Numbered) → closeVerdict n l ≡ refused r → (closeAnswer n l ≡ refusal r) × (closeLeaves n l ≡ l)
   -- the reasons are exact
   pub exactly : closeVerdict n l ≡ accepted ↔ Closable n l
   -- what an accepted call answers and leaves: the closure in the first n · n places, and all else as it was

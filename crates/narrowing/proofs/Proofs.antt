@@ -27,7 +27,7 @@ use Rattle.validity.specs.Memory.{State, stateOf, setK, setMinima, short, isDat
 use Rattle.validity.specs.Validity.{IsStudy}
 use Rattle.validity.proofs.Proofs.{for-datasets}
 use Rattle.access.specs.Calls.{Update, Call, changes, held, verdict, reasons, answer, made, after}
-use Rattle.access.proofs.AccessLaws.{source-own, ladder-is, accepted-held, user-place, update-answer}
+use Rattle.access.proofs.AccessLaws.{source-accepted, ladder-is, accepted-held, user-place, update-answer}
 use Rattle.dataset.specs.Calls.{opensDataset, setsMinima, entersTide, withdrawsTide}
 use Rattle.narrowing.specs.Narrowing.{narrowed, narrowMinima, narrowDataset, narrowState, Alike, Unchanged}
 
@@ -187,10 +187,10 @@ module _ (s : State) where
   within f = ⊎-elim (λ e. e) (λ n. absurd (true≢false (sym f ∙ n .1))) cut-or-none
 
   open-same : (k : ℕ) → Alike s (opensDataset (narrowed k)) (opensDataset k)
-  unfolding opensDataset answer verdict reasons after made openReasons
+  unfolding opensDataset answer response learnt verdict reasons after made openReasons
   open-same k =
       let e : answer s (opensDataset (narrowed k)) ≡ answer s (opensDataset k) = rw (between-same 8 k (omega arith)) in
-      (e, leaves-same e (λ a. ap opening (between-uncut 8 k (omega arith) (none-holds (openReasons k) (source-own s (record { own = openReasons k; brings = opening k }) a .1) .0))))
+      (e, leaves-same e (λ a. ap opening (between-uncut 8 k (omega arith) (none-holds (openReasons k) (source-accepted s (record { own = openReasons k; brings = opening k }) a .1) .0))))
 
 pub unchanged : (s : State) → Unchanged s
 unfolding setsMinima entersTide withdrawsTide minimaReasons enterReasons withdrawReasons

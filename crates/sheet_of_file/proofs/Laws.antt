@@ -99,7 +99,7 @@ module _ (file : List ℕ) (over : State) (long : short over ≡ false) where
   H = decoded file
 
   own : answer over (readsFile file) ≡ firstOf (readReasons file)
-  unfolding readsFile answer verdict reasons freshReasons firstOf
+  unfolding readsFile answer response learnt verdict reasons freshReasons firstOf
   own = rw long
 
   module _ (ok : firstOf (readReasons file) ≡ accepted) where

@@ -1,4 +1,5 @@
--- The first reason that holds, of two lists one after the other and of many. Assumes nothing.
+-- The first reason that holds, of two lists one after the other and of many, and that it is the only answer that goes by the list. Assumes
+-- nothing.
 use Prim.Native.Nat.{ℕ, zero, suc, _+_, _≤_, _<_}
 use native.Mathlib.Nat.{le-refl}
 use native.Mathlib.Omega.{arith}
@@ -6,11 +7,13 @@ use mathlib.Core.Path.{_≡_, refl, sym, ap, _∙_, subst}
 use mathlib.Core.Logic.{⊎-elim, _↔_}
 use mathlib.Core.Bool.{Bool, true, false, cond, not}
 use mathlib.Core.List.{List, [], _∷_, _++_, flatMap}
+use mathlib.Core.List.{List·Memᴰ·head as here, List·Memᴰ·tail as there}
 use lib.Dec.{T}
 use lib.ListN.{getD, take}
-use Rattle.lists.specs.Lists.{iota}
+use Rattle.lists.specs.Lists.{_among_, iota}
 use Rattle.lists.proofs.Tests.{split, cond-yes, cond-no}
-use Rattle.study.specs.Refusals.{Numbered, number, Verdict, accepted, refused, settled, Reason, _⇒_, firstOf}
+use Rattle.lists.proofs.Members.{no-member}
+use Rattle.study.specs.Refusals.{Numbered, number, Verdict, accepted, refused, settled, Reason, _⇒_, firstOf, IsFirst}
 use Rattle.study.proofs.CallLaws.{NoneHolds}
 
 -- the first of xs, or of ys where none of xs holds
@@ -106,3 +109,44 @@ module _ (h : ℕ → List Reason) where
       ∙ first-of-runs (suc k) m t l (omega arith) (λ u c d. f u (omega arith) d) e)
       (λ l. let q : t ≡ k = omega arith in firstOf-sooner (h k) (flatMap h (iota (suc k) m)) (subst (λ z. firstOf (h z) ≡ refused r) q e))
       (split k t)
+
+-- ---- the answer that goes by a list of reasons
+
+-- of a list with one reason more in front, which does not hold
+later : (r : Reason) (rs : List Reason) → r .holds ≡ false → (v : Verdict) → IsFirst rs v → IsFirst (r ∷ rs) v
+later r rs e accepted none = by
+  where
+    by : (q : Reason) → q among (r ∷ rs) → q .holds ≡ false
+    by q (here p) = ap (λ (x : Reason). x .holds) p ∙ e
+    by q (there m) = none q m
+later r rs e (refused x) (before, q, rest, split, none, holds, because) =
+    (r ∷ before, q, rest, ap (λ l. r ∷ l) split, by, holds, because)
+  where
+    by : (p : Reason) → p among (r ∷ before) → p .holds ≡ false
+    by p (here z) = ap (λ (x : Reason). x .holds) z ∙ e
+    by p (there m) = none p m
+
+pub is-first : (rs : List Reason) → IsFirst rs (firstOf rs)
+unfolding firstOf
+is-first [] = λ r m. no-member m
+is-first (r ∷ rs) = by (r .holds) refl (is-first rs)
+  where
+    by : (b : Bool) → r .holds ≡ b → IsFirst rs (firstOf rs) → IsFirst (r ∷ rs) (cond b (refused (r .because)) (firstOf rs))
+    by true e f = ([], r, rs, refl, λ q m. no-member m, e, refl)
+    by false e f = later r rs e (firstOf rs) f
+
+-- where none before it holds, it refuses
+refuses : (before : List Reason) (r : Reason) (rest : List Reason) → ((q : Reason) → q among before → q .holds ≡ false) → r .holds ≡ true
+    → refused (r .because) ≡ firstOf (before ++ (r ∷ rest))
+unfolding firstOf
+refuses [] r rest none e = sym (rw e)
+refuses (q ∷ before) r rest none e =
+    refuses before r rest (λ p m. none p (there m)) e ∙ sym (ap (λ b. cond b (refused (q .because)) (firstOf (before ++ (r ∷ rest)))) (none q (here refl)))
+
+pub only-first : (rs : List Reason) (v : Verdict) → IsFirst rs v → v ≡ firstOf rs
+unfolding firstOf
+only-first [] accepted none = refl
+only-first (r ∷ rs) accepted none =
+    only-first rs accepted (λ q m. none q (there m)) ∙ sym (ap (λ b. cond b (refused (r .because)) (firstOf rs)) (none r (here refl)))
+only-first rs (refused x) (before, r, rest, split, none, holds, because) =
+    ap refused (sym because) ∙ refuses before r rest none holds ∙ ap firstOf (sym split)

@@ -1,8 +1,9 @@
 -- Refusals by the numbers of documents 01 and 02, and lists of reasons of which the first that holds counts. Assumes nothing.
 use Prim.Native.Nat.{ℕ}
-use mathlib.Core.Bool.{Bool, cond, not}
-use mathlib.Core.List.{List, [], _∷_}
-use Rattle.lists.specs.Lists.{between, allOf}
+use mathlib.Core.Path.{_≡_}
+use mathlib.Core.Bool.{Bool, true, false, cond, not}
+use mathlib.Core.List.{List, [], _∷_, _++_}
+use Rattle.lists.specs.Lists.{_among_, between, allOf}
 use Rattle.study.specs.Limits.{maxUsers}
 use Rattle.study.specs.declared.Refusal.{Refusal}
 use Rattle.study.specs.declared.Refusal.the-variants as RefusalCase
@@ -58,6 +59,11 @@ pub data Reply (A : Type 0) : Type 0 where
   value : A → Reply A
   refusal : Numbered → Reply A
 
+-- the numbers that the value stands for
+abbrev pub inNumbers : {A : Type 0} → (A → List ℕ) → Reply A → Reply (List ℕ)
+inNumbers f (value x) = value (f x)
+inNumbers f (refusal r) = refusal r
+
 -- the value of an accepted call
 abbrev pub replied : {A : Type 0} → Verdict → A → Reply A
 replied accepted x = value x
@@ -77,6 +83,13 @@ b ⇒ r = record { holds = b; because = r }
 unfoldable pub firstOf : List Reason → Verdict
 firstOf [] = accepted
 firstOf (r ∷ rs) = cond (r .holds) (refused (r .because)) (firstOf rs)
+
+-- an answer goes by a list of reasons: accepted, and none of them holds; or refused by one that holds, and none before it does
+abbrev pub IsFirst : List Reason → Verdict → Type 0
+IsFirst rs accepted = (r : Reason) → r among rs → r .holds ≡ false
+IsFirst rs (refused x) =
+    (before : List Reason) × (r : Reason) × (rest : List Reason)
+    × (rs ≡ before ++ (r ∷ rest)) × ((q : Reason) → q among before → q .holds ≡ false) × (r .holds ≡ true) × (r .because ≡ x)
 
 -- ---- the ladder of every call: the reasons that calls share, in the documents' order, and then the call's own
 

@@ -4,38 +4,39 @@ use mathlib.Core.Path.{_≡_, sym, ap, _∙_, subst}
 use mathlib.Core.Bool.{false}
 use mathlib.Core.List.{List}
 use lib.Dec.{T}
-use Rattle.study.specs.Refusals.{accepted, settled, firstOf, freshReasons}
+use Rattle.study.specs.Refusals.{accepted, firstOf}
 use Rattle.study.specs.Theorems.{ValidContents}
 use Rattle.file_format.specs.File.{newMark, oldMark, fileOf, markOf, decoded, readReasons}
 use Rattle.file_format.specs.Theorems.{Bytes, OldFile}
 use Rattle.file_format.proofs.Proofs.{files}
-use Rattle.validity.specs.Memory.{State, short, isDataset, contentsOf, stored}
+use Rattle.validity.specs.Memory.{State, short, isDataset, contentsOf}
 use Rattle.validity.proofs.Proofs.{for-datasets}
-use Rattle.access.specs.Calls.{verdict, reasons, answer, made, after}
-use Rattle.access.proofs.AccessLaws.{source-own}
+use Rattle.access.specs.Calls.{anew, answer, made, after}
+use Rattle.access.proofs.AccessLaws.{source-own, source-accepted}
+use Rattle.access.proofs.AccessLaws.{leaves as call-leaves}
 use Rattle.study_file.specs.Calls.{readsFile}
 use Rattle.study_file.specs.Theorems.{ForFiles}
 
 -- an accepted Read leaves the contents of its file
-leaves : (over : State) (bytes : List ℕ) → answer over (readsFile bytes) ≡ accepted → after over (readsFile bytes) ≡ stored (decoded bytes) over
-unfolding after made readsFile
-leaves over bytes e = ap (λ v. settled v (stored (decoded bytes) over) over) e
+leaves : (over : State) (bytes : List ℕ) → answer over (readsFile bytes) ≡ accepted → after over (readsFile bytes) ≡ anew (decoded bytes) over
+unfolding made readsFile
+leaves over bytes e = sym (call-leaves over (readsFile bytes) (sym e))
 
 -- what it accepts has no reason against it
 own : (over : State) (bytes : List ℕ) → answer over (readsFile bytes) ≡ accepted → firstOf (readReasons bytes) ≡ accepted
 unfolding readsFile
-own over bytes e = source-own over _ e .1
+own over bytes e = source-accepted over _ e .1
 
 module _ (s over : State) (t : T (isDataset s)) (e : short over ≡ false) where
   abbrev valid : ValidContents (contentsOf s)
   valid = for-datasets .valid s t
 
   accepts : answer over (readsFile (fileOf (contentsOf s))) ≡ accepted
-  unfolding readsFile answer verdict reasons freshReasons firstOf
-  accepts = rw e (files .accepts (contentsOf s) valid)
+  unfolding readsFile
+  accepts = sym (source-own over _ e) ∙ files .accepts (contentsOf s) valid
 
-  gives : after over (readsFile (fileOf (contentsOf s))) ≡ stored (contentsOf s) over
-  gives = leaves over (fileOf (contentsOf s)) accepts ∙ ap (λ H. stored H over) (files .gives (contentsOf s) valid)
+  gives : after over (readsFile (fileOf (contentsOf s))) ≡ anew (contentsOf s) over
+  gives = leaves over (fileOf (contentsOf s)) accepts ∙ ap (λ H. anew H over) (files .gives (contentsOf s) valid)
 
 module _ (over : State) (bytes : List ℕ) (e : answer over (readsFile bytes) ≡ accepted) where
   abbrev held : ValidContents (decoded bytes)

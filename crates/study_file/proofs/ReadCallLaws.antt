@@ -11,14 +11,15 @@ use Rattle.study.specs.declared.Dataset.{Dataset}
 use Rattle.study.specs.declared.Refusal.{Refusal}
 use Rattle.study.specs.declared.Answer.{Answer}
 use Rattle.study.specs.declared.Answer.the-variants.{Done, Refused}
-use Rattle.study.specs.Refusals.{number, Verdict, accepted, refused, settled, verdictOf, numbered, firstOf, freshReasons}
+use Rattle.study.specs.Refusals.{number, refused, verdictOf, numbered, firstOf}
 use Rattle.file_format.specs.Bits.{bitsAt}
 use Rattle.file_format.specs.File.{decoded, headReasons, readReasons}
 use Rattle.file_format.proofs.DecodedLaws.{decoded-size}
 use Rattle.file_format.specs.Head.{Head}
 use Rattle.file_format.proofs.ReadLaws.{head-T, refused-head}
 use Rattle.validity.specs.Memory.{State, stateOf, short, recordOf, stored}
-use Rattle.access.specs.Calls.{verdict, reasons, answer, made, after}
+use Rattle.access.specs.Calls.{answer, made, after}
+use Rattle.access.proofs.AccessLaws.{unmoved, stays, leaves, source-short, source-own}
 use Rattle.study_file.specs.Calls.{readsFile}
 use Rattle.bit_reader.specs.declared.Place.{Place}
 use Rattle.study_file.specs.Heading.{HeadRecord}
@@ -60,22 +61,18 @@ module _ (s : List ℕ) {a : Answer} (answered : verdictOf a ≡ firstOf (headRe
 -- ---- the ways out
 
 module _ (σ : State) (file : List ℕ) where
-  by-verdict : (v : Verdict) → answer σ (readsFile file) ≡ v → (v ≡ answer σ (readsFile file)) × (settled v (stored (decoded file) σ) σ ≡ after σ (readsFile file))
-  unfolding after made readsFile
-  by-verdict v e = (sym e, ap (λ v. settled v (stored (decoded file) σ) σ) (sym e))
-
   pub read-short : short σ ≡ true → (refused (number 1) ≡ answer σ (readsFile file)) × (σ ≡ after σ (readsFile file))
-  unfolding readsFile answer verdict reasons freshReasons firstOf
-  read-short e = by-verdict (refused (number 1)) (ap (λ b. cond b (refused (number 1)) (firstOf (readReasons file))) e)
+  unfolding readsFile
+  read-short e = let a = source-short σ _ e in (a, unmoved σ _ a)
 
   module _ (long : short σ ≡ false) where
-    own : answer σ (readsFile file) ≡ firstOf (readReasons file)
-    unfolding readsFile answer verdict reasons freshReasons firstOf
-    own = ap (λ b. cond b (refused (number 1)) (firstOf (readReasons file))) long
+    own : firstOf (readReasons file) ≡ answer σ (readsFile file)
+    unfolding readsFile
+    own = source-own σ _ long
 
     refuses : {a : Answer} {why : Refusal} → a ≡ Refused why → firstOf (readReasons file) ≡ refused (numbered why)
         → (verdictOf a ≡ answer σ (readsFile file)) × (σ ≡ after σ (readsFile file))
-    refuses {a} {why} q f = let w = by-verdict (refused (numbered why)) (own ∙ f) in (ap verdictOf q ∙ w .0, w .1)
+    refuses q f = let a = ap verdictOf q ∙ sym f ∙ own in (a, stays σ (readsFile file) q a)
 
     -- before any tide
     pub read-head : {a : Answer} {why : Refusal} → verdictOf a ≡ firstOf (headReasons file) → a ≡ Refused why
@@ -90,15 +87,15 @@ module _ (σ : State) (file : List ℕ) where
     pub read-done : {a : Answer} {r : Dataset} {x y d g : List ℕ} → Reading file (r .n) a x y → a ≡ Done → r ≡ recordOf (decoded file) (σ .dataset)
         → d ≡ overwrite 14400 (at x) (σ .distances) → g ≡ overwrite 120 (at y) (σ .settings)
         → (verdictOf a ≡ answer σ (readsFile file)) × (stateOf r d g ≡ after σ (readsFile file))
-    unfolding stored
+    unfolding stored readsFile made
     read-done {r = r} {x} {y} t q e f h =
         let count : r .n ≡ bitsAt file 8 7 = count-is file (σ .dataset) e in
         let L : Loaded file (bitsAt file 8 7) x y = subst (λ n. Loaded file n x y) count (t .goes q) in
-        let w = by-verdict accepted (own ∙ loaded-accepted file x y L) in (
-          ap verdictOf q ∙ w .0,
+        let a = sym (loaded-accepted file x y L) ∙ own in (
+          ap verdictOf q ∙ a,
           (λ i. record {
             dataset = e i;
             distances = (f ∙ copied-distances file x y L (σ .distances)) i;
             settings = (h ∙ copied-settings file x y L (σ .settings)) i;
-          }) ∙ w .1,
+          }) ∙ leaves σ (readsFile file) a,
         )

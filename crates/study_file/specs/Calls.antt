@@ -24,9 +24,9 @@ unfoldable pub writesFile : List ℕ → Call
 writesFile bytes =
     asks (record {
       caller = nobody;
-      own = λ H. writeReasons H (length bytes);
+      own = λ H. writeReasons (H .contents) (length bytes);
       lent = record { numbers = []; lists = bytes ∷ []; records = [] };
-      tells = λ H. let file = fileOf H in record { numbers = length file ∷ []; lists = over file bytes ∷ []; records = [] };
+      tells = λ H. let file = fileOf (H .contents) in record { numbers = length file ∷ []; lists = over file bytes ∷ []; records = [] };
     })
 
 -- the code's answer, by document 01's number and values

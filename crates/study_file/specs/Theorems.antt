@@ -9,15 +9,15 @@ use lib.Dec.{T}
 use Rattle.study.specs.Refusals.{accepted}
 use Rattle.file_format.specs.File.{newMark, oldMark, fileOf, markOf}
 use Rattle.file_format.specs.Theorems.{Bytes, OldFile}
-use Rattle.validity.specs.Memory.{State, short, isDataset, contentsOf, stored}
-use Rattle.access.specs.Calls.{answer, after}
+use Rattle.validity.specs.Memory.{State, short, isDataset, contentsOf}
+use Rattle.access.specs.Calls.{anew, answer, after}
 use Rattle.study_file.specs.Calls.{readsFile}
 
 -- files and datasets correspond one to one
 pub record ForFiles : Type 0 where
   -- Read accepts the file of a dataset, whatever it is read over, and gives that dataset
   pub accepts : (s over : State) → T (isDataset s) → short over ≡ false → answer over (readsFile (fileOf (contentsOf s))) ≡ accepted
-  pub gives : (s over : State) → T (isDataset s) → short over ≡ false → after over (readsFile (fileOf (contentsOf s))) ≡ stored (contentsOf s) over
+  pub gives : (s over : State) → T (isDataset s) → short over ≡ false → after over (readsFile (fileOf (contentsOf s))) ≡ anew (contentsOf s) over
   -- over its own memory, nothing changes
   pub again : (s : State) → T (isDataset s) → short s ≡ false → after s (readsFile (fileOf (contentsOf s))) ≡ s
   -- what Read accepts gives a dataset; bytes of mark 55 are then exactly its file, bytes of mark 54 an old file of the same

@@ -21,9 +21,8 @@ mod tides;
 mod writing;
 
 ghost use mathlib.Core.Path.{_≡_};
-ghost use mathlib.Core.List.{[], _∷_};
 ghost use Rattle.validity.specs.Memory.{stateOf, entryState, exitState};
-ghost use Rattle.access.specs.Calls.{answer, after, reply, output};
+ghost use Rattle.access.specs.Calls.{answer, after, reply, listAfter};
 ghost use Rattle.access.specs.Passed.{Passed};
 ghost use Rattle.study.specs.Refusals.{verdictOf};
 ghost use Rattle.study_file.specs.Calls.{readsFile, writesFile, writtenOf};
@@ -79,7 +78,7 @@ pub fn read(dataset: Dataset, distances: &mut [u32], settings: &mut [u8], file: 
 fn write_file(dataset: Dataset, distances: &[u32], settings: &[u8], file: &mut [u8]) -> Written
     requires { ⌜ Passed (stateOf dataset (now distances) (now settings)) ⌝ }
     ensures reply { λ r. ⌜ writtenOf r ≡ reply (entryState dataset distances settings) (writesFile (now (file .entry))) ⌝ }
-    ensures leaves { λ r. ⌜ now (file .exit) ∷ [] ≡ output (entryState dataset distances settings) (writesFile (now (file .entry))) .lists ⌝ }
+    ensures leaves { λ r. ⌜ now (file .exit) ≡ listAfter (entryState dataset distances settings) (writesFile (now (file .entry))) ⌝ }
 {
     let size = byte_length(dataset.k as usize, dataset.n);
     if file.len() < size {
@@ -92,7 +91,7 @@ fn write_file(dataset: Dataset, distances: &[u32], settings: &[u8], file: &mut [
 // The file over the front of the lent bytes; those past it stay.
 pub fn write(dataset: Dataset, distances: &[u32], settings: &[u8], file: &mut [u8]) -> Written
     ensures reply { λ r. ⌜ writtenOf r ≡ reply (entryState dataset distances settings) (writesFile (now (file .entry))) ⌝ }
-    ensures leaves { λ r. ⌜ now (file .exit) ∷ [] ≡ output (entryState dataset distances settings) (writesFile (now (file .entry))) .lists ⌝ }
+    ensures leaves { λ r. ⌜ now (file .exit) ≡ listAfter (entryState dataset distances settings) (writesFile (now (file .entry))) ⌝ }
 {
     let answer = access::check(dataset, distances, settings);
     match answer {

@@ -46,7 +46,7 @@ use Rattle.study_text.proofs.ReachedLaws.{Answers, call-reaches, call-b
 module _ {s t : State} {a : Answer} where
   open-answers : (k : ℕ) → short s ≡ false → (verdictOf a ≡ answer s (opensDataset k)) × (t ≡ after s (opensDataset k))
       → Answers s a t (firstOf (openReasons k)) (opening k)
-  unfolding opensDataset answer verdict reasons after made freshReasons firstOf
+  unfolding opensDataset answer response learnt verdict reasons after made freshReasons firstOf
   open-answers k e did = record { not-short = e; verdict = rw e at (did .0); leaves = rw e at (did .1); valid = opening-valid k }
 
   -- a change of a dataset in the name of users that there are

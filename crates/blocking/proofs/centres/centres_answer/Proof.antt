@@ -11,7 +11,7 @@ use Rattle.blocking.proofs.centres.centres_answer.Statement.{statement}
 use Rattle.blocking.proofs.centres.centres_answer.Tie as tie
 
 returns : tie.Need-returns
-unfolding findsCentres answer verdict reasons heldAnswer centresReasons
+unfolding findsCentres answer response learnt verdict reasons heldAnswer centresReasons
 returns c g = c .before .before .check-tides .ensures .refuses _ (c .enum-told2 .given .1) _
 
 returns-2 : tie.Need-returns-2

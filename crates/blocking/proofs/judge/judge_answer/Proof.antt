@@ -9,7 +9,7 @@ use Rattle.blocking.proofs.judge.judge_answer.Statement.{statement}
 use Rattle.blocking.proofs.judge.judge_answer.Tie as tie
 
 returns : tie.Need-returns
-unfolding judgesList answer verdict reasons heldAnswer judgeReasons
+unfolding judgesList answer response learnt verdict reasons heldAnswer judgeReasons
 returns c = c .before .before .check-tides .ensures .refuses _ (c .enum-told2 .given .1) _
 
 returns-2 : tie.Need-returns-2
