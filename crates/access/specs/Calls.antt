@@ -3,7 +3,7 @@
 -- cite it. The values stand with the calls: dataset, study_file, blocking and priced_blocks, each in specs/Calls. Assumes nothing.
 use Prim.Native.Nat.{ℕ}
 use mathlib.Core.Bool.{Bool, true, false, cond}
-use mathlib.Core.List.{List, [], _∷_, headD}
+use mathlib.Core.List.{List, [], _∷_}
 use mathlib.Core.Option.{Option, none, some}
 use Rattle.study.specs.declared.BlockRecord.{BlockRecord}
 use Rattle.study.specs.Study.{Contents}
@@ -70,6 +70,11 @@ pub record Output : Type 0 where
   pub numbers : List ℕ
   pub lists : List (List ℕ)
   pub records : List BlockRecord
+
+-- the list of a call that is lent one
+abbrev pub firstList : List (List ℕ) → List ℕ
+firstList [] = []
+firstList (l ∷ ls) = l
 
 -- of a call that answers no numbers and is lent no list
 abbrev pub noOutput : Output
@@ -170,7 +175,7 @@ listsAfter s c = output s c .lists
 
 -- of a call that is lent one list: that list
 abbrev pub listAfter : State → Call → List ℕ
-listAfter s c = headD (listsAfter s c) []
+listAfter s c = firstList (listsAfter s c)
 
 -- the records that it was lent, as they then stand
 abbrev pub recordsAfter : State → Call → List BlockRecord

@@ -29,9 +29,9 @@ use Rattle.radius_search.specs.Inputs.{inputProblem}
 use Rattle.blocking_core.specs.Core.{Blocks}
 use Rattle.validity.specs.Memory.{State, studyOf, contentsOf}
 use Rattle.validity.proofs.ValidityLaws.{study-size, valid-study}
-use Rattle.access.specs.Calls.{nobody, Output, verdict, reasons, lent, answer, reply, output}
+use Rattle.access.specs.Calls.{nobody, Output, firstList, lent, answer, reply, listAfter}
 use Rattle.access.specs.Passed.{Passed, heldAnswer}
-use Rattle.access.proofs.AccessLaws.{held-own, accepted-held, passed-by, replies-refusal, unwritten, replies, writes}
+use Rattle.access.proofs.AccessLaws.{held-own, accepted-held, inquiry-answer, passed-by, replies-refusal, unwritten, replies, writes}
 use Rattle.blocking.specs.declared.block.BlockRows.{BlockRows}
 use Rattle.blocking.specs.Calls.{makesBlocks}
 use Rattle.blocking.proofs.ProblemOfArrays.{problem-of-arrays, sized-arrays, valid-arrays, meets-same}
@@ -42,8 +42,8 @@ use Rattle.blocking.specs.Accepted.{TidesChecked, blockAnswer, BlockAcce
 -- Block's answer by lengths is the call's answer
 pub made-answer : (s : State) (list : List ℕ) {room : ℕ} (records : List BlockRecord) → length records ≡ room
     → blockAnswer s (length list) room ≡ answer s (makesBlocks list records)
-unfolding blockAnswer makesBlocks answer response learnt verdict reasons heldAnswer
-made-answer s list records k = ap (blockAnswer s (length list)) (sym k)
+unfolding blockAnswer makesBlocks
+made-answer s list records k = ap (blockAnswer s (length list)) (sym k) ∙ sym (inquiry-answer s _)
 
 module _ (s : State) (list room : ℕ) where
   abbrev n : ℕ
@@ -62,7 +62,7 @@ module _ (s : State) (list room : ℕ) where
   module _ {first : Answer} (F : TidesChecked s first) (done : first ≡ Done) where
     block-own : (v : Verdict) → firstOf (blockReasons S list room) ≡ v → v ≡ blockAnswer s list room
     unfolding blockAnswer contentsOf
-    block-own v q = sym q ∙ held-own s (λ H. blockReasons (H .study) list room) (F .passed done .not-short) (F .passed done .tested)
+    block-own v q = sym q ∙ held-own s (λ H. blockReasons (H .contents .study) list room) (F .passed done .not-short) (F .passed done .tested)
 
     whole-is : sufficient S (λ t. true) ≡ whole
     unfolding arrayProblem problem meeting
@@ -108,7 +108,7 @@ module _ (s : State) (list room : ℕ) where
   unfolding blockAnswer contentsOf blockReasons
   block-accepted e f =
       let q : accepted ≡ blockAnswer s list room = sym (ap verdictOf e) ∙ f in
-      let h = accepted-held s nobody (λ H. blockReasons (H .study) list room) (sym q) in
+      let h = accepted-held s nobody (λ H. blockReasons (H .contents .study) list room) (sym q) in
       let w = none-holds (blockReasons S list room) (h .reasons) in
       let fits = not-not (leb (size S) list && leb (size S) room) (w .1 .1 .0) in
       record {
@@ -202,9 +202,9 @@ module _ (s : State) (list : List ℕ) (room : ℕ) where
               ∙ ap (λ (o : Output). o .records) (unwritten s (makesBlocks list l) (refusing l k));
         }
 
-    pub block-list-stays : Lending room (λ records. list ∷ [] ≡ output s (makesBlocks list records) .lists)
+    pub block-list-stays : Lending room (λ records. list ≡ listAfter s (makesBlocks list records))
     unfolding makesBlocks lent
-    block-list-stays records k = ap (λ (o : Output). o .lists) (unwritten s (makesBlocks list records) (refusing records k))
+    block-list-stays records k = ap (λ (o : Output). firstList (o .lists)) (unwritten s (makesBlocks list records) (refusing records k))
 
   -- an accepted one hands back the study's blocks
   module _ (A : BlockAccepted s (length list) room) where
@@ -234,9 +234,8 @@ module _ (s : State) (list : List ℕ) (room : ℕ) where
 
     pub block-list : {new : List ℕ}
         → new ≡ blocking (inputProblem (s .distances) (s .settings) (s .dataset .n) (s .dataset .minima)) ++ drop (s .dataset .n) list
-        → Lending room (λ records. new ∷ [] ≡ output s (makesBlocks list records) .lists)
+        → Lending room (λ records. new ≡ listAfter s (makesBlocks list records))
     unfolding makesBlocks contentsOf
     block-list {new} e records k =
-        ap (λ l. l ∷ []) (e
-        ∙ ap₂ (λ (Q : Problem) (k : ℕ). blocking Q ++ drop k list) (sym (problem-of-arrays s (A .passed .study))) (sym (blocking-long s (A .passed) (A .enough))))
-        ∙ ap (λ (o : Output). o .lists) (writes s _ (A .passed) (accepting records k))
+        e ∙ ap₂ (λ (Q : Problem) (k : ℕ). blocking Q ++ drop k list) (sym (problem-of-arrays s (A .passed .study))) (sym (blocking-long s (A .passed) (A .enough)))
+        ∙ ap (λ (o : Output). firstList (o .lists)) (writes s _ (A .passed) (accepting records k))

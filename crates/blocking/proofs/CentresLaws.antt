@@ -5,7 +5,7 @@ use native.Mathlib.Numerals.{add-one}
 use mathlib.Core.Path.{_≡_, refl, sym, ap, ap₂, _∙_, subst}
 use mathlib.Core.Logic.{_⊎_, inl, inr}
 use mathlib.Core.Bool.{Bool, false}
-use mathlib.Core.List.{List, [], _∷_, _++_, map, headD}
+use mathlib.Core.List.{List, [], _∷_, _++_, map}
 use lib.Dec.{leb→le, leb}
 use lib.ListN.{length, getD, take, drop, length-map, List·getD-map}
 use lib.Seq.{take-append-seam}
@@ -30,9 +30,8 @@ use Rattle.radius_search.specs.Front.{CentresAt}
 use Rattle.radius_search.proofs.FrontLaws.{front-at}
 use Rattle.validity.specs.Memory.{State, studyOf, contentsOf}
 use Rattle.validity.proofs.ValidityLaws.{study-size, valid-study}
-use Rattle.access.specs.Calls.{nobody, Output, verdict, reasons, lent, answer, output}
-use Rattle.access.specs.Passed.{heldAnswer}
-use Rattle.access.proofs.AccessLaws.{held-own, accepted-held, passed-by, unwritten, inquiry-passed, writes}
+use Rattle.access.specs.Calls.{Output, firstList, lent, answer, listsAfter, listAfter}
+use Rattle.access.proofs.AccessLaws.{passed-by, unwritten, inquiry-own, inquiry-accepted, inquiry-passed, writes}
 use Rattle.blocking.specs.Calls.{centreLists, allThree, findsCentres, centresFront}
 use Rattle.blocking.proofs.ProblemOfArrays.{problem-of-arrays}
 use Rattle.blocking.proofs.TidesLaws.{past-24, tide-there}
@@ -55,8 +54,8 @@ module _ (s : State) (l : CentreLists) where
 
   module _ {first : Answer} (F : TidesChecked s first) (done : first ≡ Done) where
     centres-own : (v : Verdict) → firstOf (centresReasons S l) ≡ v → (g : ℕ) → v ≡ answer s (findsCentres g l)
-    unfolding findsCentres answer response learnt verdict reasons heldAnswer contentsOf
-    centres-own v q g = sym q ∙ held-own s (λ H. centresReasons (H .study) l) (F .passed done .not-short) (F .passed done .tested)
+    unfolding findsCentres contentsOf
+    centres-own v q g = sym q ∙ inquiry-own s _ (F .passed done) refl
 
     one-short : allRoomy S l ≡ false → (g : ℕ) → refused (number 1) ≡ answer s (findsCentres g l)
     unfolding centresReasons firstOf
@@ -80,10 +79,10 @@ module _ (s : State) (l : CentreLists) where
         ))
 
   pub centres-accepted : {a : Answer} → a ≡ Done → ((g : ℕ) → verdictOf a ≡ answer s (findsCentres g l)) → CentresAccepted s l
-  unfolding findsCentres answer response learnt verdict reasons heldAnswer contentsOf centresReasons
+  unfolding findsCentres contentsOf centresReasons
   centres-accepted e f =
       let q : (g : ℕ) → accepted ≡ answer s (findsCentres g l) = λ g. sym (ap verdictOf e) ∙ f g in
-      let h = accepted-held s nobody (λ H. centresReasons (H .study) l) (sym (q 0)) in
+      let h = inquiry-accepted s _ (sym (q 0)) in
       let w = none-holds (centresReasons S l) (h .reasons) in
       let fits = each-at roomy (not-not (each roomy) (w .1 .0)) in
       record {
@@ -106,7 +105,7 @@ module _ (s : State) (l : CentreLists) where
 
     -- a refused call hands back nothing and leaves the lists
     pub centres-refused : {a : Answer} {x : Refusal} → a ≡ Refused x → verdictOf a ≡ answer s (findsCentres g l)
-        → (0 ≡ length (centresFront s g l)) × (allThree l ≡ output s (findsCentres g l) .lists)
+        → (0 ≡ length (centresFront s g l)) × (allThree l ≡ listsAfter s (findsCentres g l))
     unfolding centresFront findsCentres lent
     centres-refused {a} {x} e f =
         let q : refused (numbered x) ≡ answer s (findsCentres g l) = sym (ap verdictOf e) ∙ f in
@@ -114,21 +113,21 @@ module _ (s : State) (l : CentreLists) where
 
     -- the front of the list that is left
     front-of : (v : Verdict) → answer s (findsCentres g l) ≡ v
-        → take (length (settled v numbers [])) (headD (output s (findsCentres g l) .lists) []) ≡ settled v numbers []
-    unfolding findsCentres centresWritten contentsOf headD
+        → take (length (settled v numbers [])) (listAfter s (findsCentres g l)) ≡ settled v numbers []
+    unfolding findsCentres centresWritten contentsOf
     front-of accepted e =
-        ap (λ (o : Output). take (length numbers) (headD (o .lists) [])) (sym (writes s _ (inquiry-passed s _ e) (sym e)))
+        ap (λ (o : Output). take (length numbers) (firstList (o .lists))) (sym (writes s _ (inquiry-passed s _ e) (sym e)))
         ∙ take-append-seam numbers (drop (length numbers) (l .list))
     front-of (refused x) e = refl
 
     -- it is a part of that list
-    pub centres-part : {count : ℕ} {new : CentreLists} → count ≡ length (centresFront s g l) → allThree new ≡ output s (findsCentres g l) .lists
+    pub centres-part : {count : ℕ} {new : CentreLists} → count ≡ length (centresFront s g l) → allThree new ≡ listsAfter s (findsCentres g l)
         → (count ≡ length (take count (new .list))) × (take count (new .list) ≡ centresFront s g l)
-    unfolding centresFront headD
+    unfolding centresFront
     centres-part {count} {new} e f = (e ∙ ap length (sym part), part)
       where
         part : take count (new .list) ≡ centresFront s g l
-        part = ap₂ (λ (c : ℕ) (ls : List (List ℕ)). take c (headD ls [])) e f ∙ front-of (answer s (findsCentres g l)) refl
+        part = ap₂ (λ (c : ℕ) (ls : List (List ℕ)). take c (firstList ls)) e f ∙ front-of (answer s (findsCentres g l)) refl
 
     module _ (A : CentresAccepted s l) where
       abbrev found : List ℕ
@@ -173,7 +172,7 @@ module _ (s : State) (l : CentreLists) where
         pub centres-filled : {list nearest away : List ℕ} → list ≡ overwrite count (λ i. getD cs i 0 + 1) (l .list)
             → nearest ≡ overwrite n (nearestBlock (within (s .distances) n) (take count cs)) (l .nearest)
             → away ≡ overwrite n (nearestDistance (within (s .distances) n) (take count cs)) (l .away)
-            → (count ≡ length (centresFront s g l)) × (allThree (centreLists list nearest away) ≡ output s (findsCentres g l) .lists)
+            → (count ≡ length (centresFront s g l)) × (allThree (centreLists list nearest away) ≡ listsAfter s (findsCentres g l))
         unfolding centresFront findsCentres centresWritten nearestNumbers nearestDistances overwrite contentsOf
         centres-filled a b c = (
           sym long ∙ ap (λ v. length (settled v numbers [])) (A .answer g),

@@ -1,7 +1,7 @@
 -- The ways out of Judge: of what the code has found out, what the call answers. Assumes nothing.
 use Prim.Native.Nat.{ℕ}
 use native.Mathlib.Omega.{arith}
-use mathlib.Core.Path.{_≡_, sym, ap, ap₂, _∙_}
+use mathlib.Core.Path.{_≡_, refl, sym, ap, ap₂, _∙_}
 use mathlib.Core.Bool.{Bool, true, false, cond, _&&_}
 use mathlib.Core.List.{List, []}
 use lib.Dec.{eqb, eqb→eq}
@@ -22,9 +22,9 @@ use Rattle.promise.specs.Promise.{meeting}
 use Rattle.radius_theory.specs.Arrays.{arrayProblem}
 use Rattle.validity.specs.Memory.{State, studyOf, contentsOf}
 use Rattle.validity.proofs.ValidityLaws.{study-size}
-use Rattle.access.specs.Calls.{nobody, verdict, reasons, answer, reply}
-use Rattle.access.specs.Passed.{Passed, heldAnswer}
-use Rattle.access.proofs.AccessLaws.{held-own, accepted-held, passed-by, replies-refusal, replies}
+use Rattle.access.specs.Calls.{answer, reply}
+use Rattle.access.specs.Passed.{Passed}
+use Rattle.access.proofs.AccessLaws.{passed-by, replies-refusal, inquiry-own, inquiry-accepted, replies}
 use Rattle.blocking.specs.Calls.{judgementNumbers, judgesList}
 use Rattle.blocking.proofs.ProblemOfArrays.{problem-of-arrays, sized-arrays}
 use Rattle.blocking_core.specs.Measured.{widestOf}
@@ -41,8 +41,8 @@ module _ (s : State) (list : List ℕ) where
 
   module _ {first : Answer} (F : TidesChecked s first) (done : first ≡ Done) where
     judge-own : (v : Verdict) → firstOf (judgeReasons S list) ≡ v → v ≡ answer s (judgesList list)
-    unfolding judgesList answer response learnt verdict reasons heldAnswer contentsOf
-    judge-own v q = sym q ∙ held-own s (λ H. judgeReasons (H .study) list) (F .passed done .not-short) (F .passed done .tested)
+    unfolding judgesList contentsOf
+    judge-own v q = sym q ∙ inquiry-own s _ (F .passed done) refl
 
     pub judge-12 : (length list ≡ n → ⊥) → refused (number 12) ≡ answer s (judgesList list)
     unfolding judgeReasons firstOf
@@ -59,10 +59,10 @@ module _ (s : State) (list : List ℕ) where
     pub answer : accepted ≡ answer s (judgesList list)
 
   pub judge-accepted : {a : Answer} → a ≡ Done → verdictOf a ≡ answer s (judgesList list) → JudgeAccepted
-  unfolding judgesList answer response learnt verdict reasons heldAnswer contentsOf judgeReasons
+  unfolding judgesList contentsOf judgeReasons
   judge-accepted e f =
       let q : accepted ≡ answer s (judgesList list) = sym (ap verdictOf e) ∙ f in
-      let h = accepted-held s nobody (λ H. judgeReasons (H .study) list) (sym q) in
+      let h = inquiry-accepted s _ (sym q) in
       let w = none-holds (judgeReasons S list) (h .reasons) in
       record {
         passed = passed-by s (h .not-short) (h .tested);

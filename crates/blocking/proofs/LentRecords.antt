@@ -64,7 +64,7 @@ use Rattle.lists.specs.Lists.{overwrite}
 use Rattle.study.specs.declared.BlockRecord.{BlockRecord}
 use Rattle.study.specs.declared.Dataset.{Dataset}
 use Rattle.validity.specs.Memory.{State, stateOf}
-use Rattle.access.specs.Calls.{Call, output}
+use Rattle.access.specs.Calls.{Call, listAfter, recordsAfter}
 use Rattle.blocking.specs.Rows.{rowAt, Lending, RowsOf}
 use Rattle.blocking.specs.declared.block.BlockRows.{BlockRows}
 use Rattle.study.proofs.Dataset as S
@@ -184,7 +184,7 @@ module _ (P : Handed) (asked : List ℕ → List BlockRecord → Call) (φ : Sta
           let room = a .1 .1 .1 .1 .0 in
           sep 𝓤 (fact 𝓤 (Lending room (λ records. φ s (asked l records) (P .answer r))))
           (sep 𝓤 (fact 𝓤 (RowsOf s (asked l) room (P .rows r)))
-          (fact 𝓤 (Lending room (λ records. e .1 .1 .1 .0 .now ∷ [] ≡ output s (asked l records) .lists))));
+          (fact 𝓤 (Lending room (λ records. e .1 .1 .1 .0 .now ≡ listAfter s (asked l records)))));
     }
 
     abbrev pub clauses : Clauses 𝓤 ended
@@ -196,8 +196,8 @@ module _ (P : Handed) (asked : List ℕ → List BlockRecord → Call) (φ : Sta
           let l = a .1 .1 .1 .0 .now in
           let records = a .1 .1 .1 .1 .0 .now in
           sep 𝓤 (fact 𝓤 (φ s (asked l records) r))
-          (sep 𝓤 (fact 𝓤 (e .1 .1 .1 .0 .now ∷ [] ≡ output s (asked l records) .lists))
-          (fact 𝓤 (e .1 .1 .1 .1 .0 .now ≡ output s (asked l records) .records)));
+          (sep 𝓤 (fact 𝓤 (e .1 .1 .1 .0 .now ≡ listAfter s (asked l records)))
+          (fact 𝓤 (e .1 .1 .1 .1 .0 .now ≡ recordsAfter s (asked l records))));
     }
 
   abbrev stayed : Stays (ended .signature .params) (ended .kept)
@@ -340,8 +340,8 @@ module _ (P : Handed) (asked : List ℕ → List BlockRecord → Call) (φ : Sta
         move ! (1 ∷ 0 ∷ []) $ fjoin ! $ done !
 
     exits : (r : P .Q .row .Denot) (zs : List ℕ) (ws : List BlockRecord)
-        → φ state (asked (l .now) (x .now)) r → zs ∷ [] ≡ output state (asked (l .now) (x .now)) .lists
-        → ws ≡ output state (asked (l .now) (x .now)) .records
+        → φ state (asked (l .now) (x .now)) r → zs ≡ listAfter state (asked (l .now) (x .now))
+        → ws ≡ recordsAfter state (asked (l .now) (x .now))
         → length zs ≡ length (l .now) → length ws ≡ length (x .now) → Is S.the-row d (sd ∷ []) → Is (P .Q .row) r (P .Q .val r ∷ [])
         → ent 𝓤 (⋆ 𝓤 H A (‵ (finally R (x .name) ws) ∷ (‵ (flft κ₃ q₃) ⊛ ‵ ftrue) ∷ ‵ (finally u8 (l .name) zs)
         ∷ (‵ (flft κ₀ q₀) ⊛ (‵ (flft κ₁ q₁) ⊛ (‵ (flft κ₂ q₂) ⊛ ‵ ftrue))) ∷ ‵ (OwnV κ₀ v) ∷ ‵ (OwnW κ₁ w) ∷ [])) (Post (P .Q .val r))

@@ -16,7 +16,7 @@ use Rattle.study.specs.Refusals.{accepted}
 use Rattle.study.specs.Calls.{figures, blockRecord}
 use Rattle.validity.specs.Memory.{State, studyOf, contentsOf}
 use Rattle.blocking.specs.declared.block.BlockRows.{BlockRows}
-use Rattle.access.specs.Calls.{Output, output, answer}
+use Rattle.access.specs.Calls.{Output}
 use Rattle.access.proofs.AccessLaws.{inquiry-passed, writes}
 use Rattle.blocking.specs.Calls.{makesBlocks}
 use Rattle.blocking.specs.Accepted.{blockAnswer}

@@ -38,7 +38,7 @@ module _ {s : State} where
   pub tides-refused : {a : Answer} {x : Refusal} → a ≡ Refused x → verdictOf a ≡ heldAnswer s nobody (λ _. []) → TidesChecked s a
   tides-refused e f =
       record {
-        refuses = λ _ _ own. held-refused s nobody (λ H. noTides (H .study) ∷ own H) e f;
+        refuses = λ _ _ own. held-refused s nobody (λ H. noTides (H .contents .study) ∷ own H) e f;
         passed = not-both e;
         some-tide = not-both e;
       }
@@ -49,7 +49,7 @@ module _ {s : State} where
       record {
         refuses = λ _ _ own.
             sym (rw (eq-eqb (size (studyOf s)) 0 (omega (arith, study-size s))))
-            ∙ held-own s (λ H. noTides (H .study) ∷ own H) (P .not-short) (P .tested);
+            ∙ held-own s (λ H. noTides (H .contents .study) ∷ own H) (P .not-short) (P .tested);
         passed = not-both refl;
         some-tide = not-both refl;
       }

@@ -9,11 +9,11 @@ use Rattle.study.specs.Limits.{maxTides, maxSettings}
 use Rattle.study.specs.declared.Refusal.{Refusal}
 use Rattle.study.specs.declared.Answer.{Answer}
 use Rattle.study.specs.declared.Answer.the-variants.{Done, Refused}
-use Rattle.study.specs.Study.{Study, Contents, size, sufficient}
+use Rattle.study.specs.Study.{Study, size, sufficient}
 use Rattle.study.specs.Refusals.{Reason, _⇒_, number, Verdict, accepted, verdictOf}
 use Rattle.study.specs.Calls.{CentreLists, blockReasons}
 use Rattle.validity.specs.Memory.{State, studyOf}
-use Rattle.access.specs.Calls.{nobody, answer}
+use Rattle.access.specs.Calls.{Holding, nobody, answer}
 use Rattle.access.specs.Passed.{Passed, heldAnswer}
 use Rattle.blocking.specs.Calls.{findsCentres}
 
@@ -24,13 +24,14 @@ noTides S = eqb (size S) 0 ⇒ number 24
 -- what `check_tides` answers: a refusal is that of every call whose own reasons begin with noTides; Done tells that there is a dataset
 -- with a tide in it
 pub record TidesChecked (s : State) (r : Answer) : Type 0 where
-  pub refuses : (x : Refusal) → r ≡ Refused x → (own : Contents → List Reason) → verdictOf r ≡ heldAnswer s nobody (λ H. noTides (H .study) ∷ own H)
+  pub refuses : (x : Refusal) → r ≡ Refused x → (own : Holding → List Reason)
+      → verdictOf r ≡ heldAnswer s nobody (λ H. noTides (H .contents .study) ∷ own H)
   pub passed : r ≡ Done → Passed s
   pub some-tide : r ≡ Done → 1 ≤ s .dataset .n
 
 -- the answer of Block, lent a list and records of these lengths
 unfoldable pub blockAnswer : State → ℕ → ℕ → Verdict
-blockAnswer s list room = heldAnswer s nobody (λ H. blockReasons (H .study) list room)
+blockAnswer s list room = heldAnswer s nobody (λ H. blockReasons (H .contents .study) list room)
 
 -- what an accepted Block tells, lent a list and records of these lengths
 pub record BlockAccepted (s : State) (list room : ℕ) : Type 0 where

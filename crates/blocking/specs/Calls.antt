@@ -7,14 +7,12 @@ use denote.Triple.Both.{Both}
 use Rattle.lists.specs.Lists.{overwrite, over}
 use Rattle.study.specs.declared.BlockRecord.{BlockRecord}
 use Rattle.study.specs.declared.Blocked.{Blocked}
-use Rattle.study.specs.declared.Blocked.the-variants as BlockedCase
 use Rattle.study.specs.declared.Judged.{Judged}
-use Rattle.study.specs.declared.Judged.the-variants as JudgedCase
 use Rattle.study.specs.Problem.{blocking}
 use Rattle.study.specs.Study.{Study, problem}
-use Rattle.study.specs.Refusals.{numbered, settled, Reply, value, refusal}
-use Rattle.study.specs.Calls.{CentreLists, centresReasons, centreNumbers, centresWritten, blockReasons, Figures, figures, blockRecord, judgeReasons}
-use Rattle.study.specs.Calls.{Judgement, approval, disapproval, judgement}
+use Rattle.study.specs.Refusals.{settled, Reply, inNumbers}
+use Rattle.study.specs.Calls.{CentreLists, centresReasons, centreNumbers, centresWritten, blockReasons, Figures, figures, blockRecord, blockedOf}
+use Rattle.study.specs.Calls.{judgeReasons, Judgement, approval, disapproval, judgement, judgedOf}
 use Rattle.validity.specs.Memory.{State, studyOf, LentList}
 use Rattle.access.specs.Calls.{nobody, noOutput, Inquiry, Call, asks, answer}
 
@@ -41,11 +39,11 @@ unfoldable pub findsCentres : ℕ → CentreLists → Call
 findsCentres g l =
     asks (record {
       caller = nobody;
-      own = λ H. centresReasons (H .study) l;
+      own = λ H. centresReasons (H .contents .study) l;
       lent = record { numbers = []; lists = allThree l; records = [] };
-      tells = λ H. record {
-        numbers = length (centreNumbers (H .study) g) ∷ [];
-        lists = allThree (centresWritten (H .study) g l);
+      tells = λ H. let S = H .contents .study in record {
+        numbers = length (centreNumbers S g) ∷ [];
+        lists = allThree (centresWritten S g l);
         records = [];
       };
     })
@@ -62,9 +60,9 @@ abbrev pub blockInquiry : (Study → List ℕ) → List ℕ → List BlockRecord
 blockInquiry numbers list records =
     record {
       caller = nobody;
-      own = λ H. blockReasons (H .study) (length list) (length records);
+      own = λ H. blockReasons (H .contents .study) (length list) (length records);
       lent = record { numbers = []; lists = list ∷ []; records = records };
-      tells = λ H. let S = H .study in record {
+      tells = λ H. let S = H .contents .study in record {
         numbers = numbers S;
         lists = over (blocking (problem S)) list ∷ [];
         records = overwrite (figures S .blocks) (blockRecord S) records;
@@ -79,10 +77,17 @@ figureNumbers F = F .blocks ∷ F .radius ∷ F .widest ∷ []
 unfoldable pub makesBlocks : List ℕ → List BlockRecord → Call
 makesBlocks list records = asks (blockInquiry (λ S. figureNumbers (figures S)) list records)
 
--- the code's answer, by document 01's number and values
+-- the numbers of the code's answer
 abbrev pub blockedReply : Blocked → Reply (List ℕ)
-blockedReply (BlockedCase.Done c r w) = value (c ∷ r ∷ w ∷ [])
-blockedReply (BlockedCase.Refused r) = refusal (numbered r)
+blockedReply r = inNumbers figureNumbers (blockedOf r)
+
+-- a lent slice of records as an `ensures` has it: where the function begins, and where it returns
+abbrev pub LentRecords : Type 0
+LentRecords = Both (RefT (List BlockRecord)) (RefT (List BlockRecord))
+
+-- a call that makes blocks, lent this list and these records as they are where the function begins
+abbrev pub entryCall : (List ℕ → List BlockRecord → Call) → LentList → LentRecords → Call
+entryCall call list records = call (now (list .entry)) (now (records .entry))
 
 -- ---- Judge, given a list
 
@@ -96,13 +101,11 @@ unfoldable pub judgesList : List ℕ → Call
 judgesList list =
     asks (record {
       caller = nobody;
-      own = λ H. judgeReasons (H .study) list;
+      own = λ H. judgeReasons (H .contents .study) list;
       lent = noOutput;
-      tells = λ H. record { numbers = judgementNumbers (judgement (H .study) list); lists = []; records = [] };
+      tells = λ H. record { numbers = judgementNumbers (judgement (H .contents .study) list); lists = []; records = [] };
     })
 
--- the code's answer, by document 01's number and values
+-- the numbers of the code's answer
 abbrev pub judgedReply : Judged → Reply (List ℕ)
-judgedReply (JudgedCase.Approved w) = value (judgementNumbers (approval w))
-judgedReply JudgedCase.Declined = value (judgementNumbers disapproval)
-judgedReply (JudgedCase.Refused r) = refusal (numbered r)
+judgedReply r = inNumbers judgementNumbers (judgedOf r)

@@ -8,7 +8,7 @@ use Rattle.study.specs.Limits.{maxTides}
 use Rattle.study.specs.declared.BlockRecord.{BlockRecord}
 use Rattle.validity.specs.Memory.{State}
 use Rattle.blocking.specs.declared.block.BlockRows.{BlockRows}
-use Rattle.access.specs.Calls.{Call, output}
+use Rattle.access.specs.Calls.{Call, recordsAfter}
 
 -- the record of block i, from 0
 abbrev pub rowAt : BlockRows → ℕ → BlockRecord
@@ -22,7 +22,8 @@ noRecord = record { centre = 0; tides = 0; diameter = 0 }
 unfoldable pub noRecords : List BlockRecord
 noRecords = replicate maxTides noRecord
 
--- what holds of any records of this number: the core of a call is told no more of the records that its caller lends
+-- this holds of any records of this number. The core of a call is told no more of the records that its caller lends than how many there are;
+-- so what it promises is said of all that they can be
 abbrev pub Lending : ℕ → (List BlockRecord → Type 0) → Type 0
 Lending room P = (records : List BlockRecord) → length records ≡ room → P records
 
@@ -32,4 +33,4 @@ pub record RowsOf (s : State) (call : List BlockRecord → Call) (room : ℕ) (r
   pub fits : rows .count ≤ room
   pub few : rows .count ≤ maxTides
   -- put into the records, they are what the call leaves
-  pub records : Lending room (λ l. overwrite (rows .count) (rowAt rows) l ≡ output s (call l) .records)
+  pub records : Lending room (λ l. overwrite (rows .count) (rowAt rows) l ≡ recordsAfter s (call l))

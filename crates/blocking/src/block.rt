@@ -10,10 +10,9 @@ use study::MAX_TIDES;
 use study::Refusal;
 ghost use mathlib.Core.Path.{_≡_};
 ghost use lib.ListN.{length};
-ghost use mathlib.Core.List.{[], _∷_};
 ghost use Rattle.study.specs.Refusals.{verdictOf};
 ghost use Rattle.validity.specs.Memory.{entryState};
-ghost use Rattle.access.specs.Calls.{reply, output};
+ghost use Rattle.access.specs.Calls.{reply, listAfter};
 ghost use Rattle.blocking.specs.Calls.{makesBlocks, blockedReply};
 ghost use Rattle.blocking.specs.Accepted.{blockAnswer};
 ghost use Rattle.blocking.specs.Rows.{Lending, RowsOf};
@@ -61,8 +60,9 @@ fn block_answer(
     Answer::Done
 }
 
-// Block, with its records by value. `room` is the length of the records that the rows will be put into. Answer, list and the rows of the
-// blocks there are are settled; the rows past the last block are free (`RowsOf`).
+// Block, with its records by value. Of the records that the rows will be put into it is told how many there are, `room`, and no more; so its
+// contract speaks of any records of that number (`Lending`). Answer, list and the rows of the blocks there are are settled; the rows past the
+// last block are free (`RowsOf`).
 pub fn block_core(
     dataset: Dataset,
     distances: &[u32],
@@ -73,8 +73,8 @@ pub fn block_core(
     ensures answer { λ r. ⌜ Lending room (λ records. blockedReply (r .answer)
         ≡ reply (entryState dataset distances settings) (makesBlocks (now (list .entry)) records)) ⌝ }
     ensures rows { λ r. ⌜ RowsOf (entryState dataset distances settings) (makesBlocks (now (list .entry))) room (r .rows) ⌝ }
-    ensures list { λ _. ⌜ Lending room (λ records. now (list .exit) ∷ []
-        ≡ output (entryState dataset distances settings) (makesBlocks (now (list .entry)) records) .lists) ⌝ }
+    ensures list { λ _. ⌜ Lending room (λ records. now (list .exit)
+        ≡ listAfter (entryState dataset distances settings) (makesBlocks (now (list .entry)) records)) ⌝ }
 {
     let answer = block_answer(dataset, distances, settings, list.len(), room);
     if let Answer::Refused(why) = answer {

@@ -12,7 +12,7 @@ ghost use Rattle.study.specs.Refusals.{verdictOf};
 ghost use Rattle.study.specs.Numbers.{refusalNumber};
 ghost use Rattle.validity.specs.Memory.{entryState};
 ghost use Prim.Native.Nat.{ℕ};
-ghost use Rattle.access.specs.Calls.{answer, output};
+ghost use Rattle.access.specs.Calls.{answer, listsAfter};
 ghost use Rattle.blocking.specs.Calls.{entryLists, exitLists, allThree, findsCentres, centresFront};
 
 // The answer, and how many centres stand in the front of the list.
@@ -65,7 +65,7 @@ pub fn centres_into(
         ≡ answer (entryState dataset distances settings) (findsCentres g (entryLists list nearest away)) ⌝ }
     ensures count { λ r. ⌜ r .count ≡ length (centresFront (entryState dataset distances settings) g (entryLists list nearest away)) ⌝ }
     ensures lists { λ _. ⌜ allThree (exitLists list nearest away)
-        ≡ output (entryState dataset distances settings) (findsCentres g (entryLists list nearest away)) .lists ⌝ }
+        ≡ listsAfter (entryState dataset distances settings) (findsCentres g (entryLists list nearest away)) ⌝ }
 {
     let answer = centres_answer(dataset, distances, settings, list, nearest, away);
     let Answer::Done = answer else {
@@ -90,7 +90,7 @@ pub fn centres<'a>(
     ensures front { λ r. ⌜ r .ptr ≡ list .entry .ptr ⌝ }
     ensures part { λ r. ⌜ now r ≡ centresFront (entryState dataset distances settings) g (entryLists list nearest away) ⌝ }
     ensures others { λ _. ⌜ now (nearest .exit) ∷ now (away .exit) ∷ []
-        ≡ drop 1 (output (entryState dataset distances settings) (findsCentres g (entryLists list nearest away)) .lists) ⌝ }
+        ≡ drop 1 (listsAfter (entryState dataset distances settings) (findsCentres g (entryLists list nearest away))) ⌝ }
     ensures refusal { λ _. ⌜ now (refusal .exit)
         ≡ refusalNumber (answer (entryState dataset distances settings) (findsCentres g (entryLists list nearest away))) ⌝ }
 {

@@ -8,9 +8,8 @@ use study::Dataset;
 use study::MAX_TIDES;
 ghost use mathlib.Core.Path.{_≡_};
 ghost use lib.ListN.{length};
-ghost use mathlib.Core.List.{[], _∷_};
 ghost use Rattle.validity.specs.Memory.{stateOf, entryState};
-ghost use Rattle.access.specs.Calls.{reply, output};
+ghost use Rattle.access.specs.Calls.{reply, listAfter};
 ghost use Rattle.blocking.specs.Calls.{makesBlocks, blockedReply};
 ghost use Rattle.blocking.specs.Accepted.{BlockAccepted};
 ghost use Rattle.blocking.specs.Rows.{Lending, RowsOf};
@@ -27,8 +26,8 @@ pub fn compute(
     ensures { λ r. ⌜ Lending room (λ records. blockedReply (r .answer)
         ≡ reply (entryState dataset distances settings) (makesBlocks (now (list .entry)) records)) ⌝ }
     ensures { λ r. ⌜ RowsOf (entryState dataset distances settings) (makesBlocks (now (list .entry))) room (r .rows) ⌝ }
-    ensures { λ _. ⌜ Lending room (λ records. now (list .exit) ∷ []
-        ≡ output (entryState dataset distances settings) (makesBlocks (now (list .entry)) records) .lists) ⌝ }
+    ensures { λ _. ⌜ Lending room (λ records. now (list .exit)
+        ≡ listAfter (entryState dataset distances settings) (makesBlocks (now (list .entry)) records)) ⌝ }
 {
     let n = dataset.n;
     let rows = block_rows(distances, settings, n, dataset.minima, list);

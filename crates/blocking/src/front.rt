@@ -9,7 +9,7 @@ ghost use lib.ListN.{length, getD};
 ghost use Rattle.lists.specs.Lists.{overwrite};
 ghost use Rattle.study.specs.Limits.{maxTides};
 ghost use Rattle.validity.specs.Memory.{stateOf, entryState};
-ghost use Rattle.access.specs.Calls.{output};
+ghost use Rattle.access.specs.Calls.{listsAfter};
 ghost use Rattle.blocking.specs.Calls.{centreLists, entryLists, exitLists, allThree, findsCentres, centresFront};
 ghost use Rattle.blocking.specs.Accepted.{CentresAccepted};
 
@@ -39,7 +39,7 @@ pub fn fill_lists(
     requires { ⌜ CentresAccepted (stateOf dataset (now distances) (now settings)) (centreLists (now list) (now nearest) (now away)) ⌝ }
     ensures { λ r. ⌜ r ≡ length (centresFront (entryState dataset distances settings) g (entryLists list nearest away)) ⌝ }
     ensures { λ _. ⌜ allThree (exitLists list nearest away)
-        ≡ output (entryState dataset distances settings) (findsCentres g (entryLists list nearest away)) .lists ⌝ }
+        ≡ listsAfter (entryState dataset distances settings) (findsCentres g (entryLists list nearest away)) ⌝ }
 {
     let n = dataset.n;
     let mut centres: [usize; MAX_TIDES] = [0; MAX_TIDES];

@@ -6,10 +6,9 @@ use study::Blocked;
 use study::Dataset;
 use study::MAX_TIDES;
 ghost use mathlib.Core.Path.{_≡_};
-ghost use mathlib.Core.List.{[], _∷_};
 ghost use Rattle.validity.specs.Memory.{entryState};
-ghost use Rattle.access.specs.Calls.{reply, output};
-ghost use Rattle.blocking.specs.Calls.{makesBlocks, blockedReply};
+ghost use Rattle.access.specs.Calls.{reply, listAfter, recordsAfter};
+ghost use Rattle.blocking.specs.Calls.{entryCall, makesBlocks, blockedReply};
 ghost use Rattle.blocking.specs.Rows.{noRecords};
 
 // Block: the list, a record for each block, and the answer. A refusal writes nothing.
@@ -20,12 +19,9 @@ pub fn block(
     list: &mut [u8],
     records: &mut [BlockRecord],
 ) -> Blocked
-    ensures answer { λ r. ⌜ blockedReply r
-        ≡ reply (entryState dataset distances settings) (makesBlocks (now (list .entry)) (now (records .entry))) ⌝ }
-    ensures list { λ _. ⌜ now (list .exit) ∷ []
-        ≡ output (entryState dataset distances settings) (makesBlocks (now (list .entry)) (now (records .entry))) .lists ⌝ }
-    ensures records { λ _. ⌜ now (records .exit)
-        ≡ output (entryState dataset distances settings) (makesBlocks (now (list .entry)) (now (records .entry))) .records ⌝ }
+    ensures answer { λ r. ⌜ blockedReply r ≡ reply (entryState dataset distances settings) (entryCall makesBlocks list records) ⌝ }
+    ensures list { λ _. ⌜ now (list .exit) ≡ listAfter (entryState dataset distances settings) (entryCall makesBlocks list records) ⌝ }
+    ensures records { λ _. ⌜ now (records .exit) ≡ recordsAfter (entryState dataset distances settings) (entryCall makesBlocks list records) ⌝ }
 {
     let room = records.len();
     let computed = block_core(dataset, distances, settings, list, room);
@@ -47,8 +43,8 @@ pub fn block_by_value(
     list: &mut [u8],
 ) -> Blocking
     ensures answer { λ r. ⌜ blockedReply (r .answer) ≡ reply (entryState dataset distances settings) (makesBlocks (now (list .entry)) noRecords) ⌝ }
-    ensures list { λ _. ⌜ now (list .exit) ∷ [] ≡ output (entryState dataset distances settings) (makesBlocks (now (list .entry)) noRecords) .lists ⌝ }
-    ensures records { λ r. ⌜ r .records ≡ output (entryState dataset distances settings) (makesBlocks (now (list .entry)) noRecords) .records ⌝ }
+    ensures list { λ _. ⌜ now (list .exit) ≡ listAfter (entryState dataset distances settings) (makesBlocks (now (list .entry)) noRecords) ⌝ }
+    ensures records { λ r. ⌜ r .records ≡ recordsAfter (entryState dataset distances settings) (makesBlocks (now (list .entry)) noRecords) ⌝ }
 {
     let none = BlockRecord {
         centre: 0,

@@ -3,7 +3,7 @@ use Prim.Native.Nat.{ℕ, _≤_, _<_}
 use native.Mathlib.Omega.{arith}
 use mathlib.Core.Path.{_≡_, refl, sym, ap, _∙_, subst}
 use mathlib.Core.Bool.{Bool, true, false, cond}
-use mathlib.Core.List.{List, [], _∷_, headD}
+use mathlib.Core.List.{List, [], _∷_}
 use lib.Dec.{ltb, lt→ltb}
 use lib.Arith.{le→nltb}
 use lib.ListN.{length}
@@ -17,7 +17,7 @@ use Rattle.file_format.specs.File.{fileOf, byteLength}
 use Rattle.file_format.proofs.WrittenLaws.{file-length}
 use Rattle.validity.specs.Memory.{State, studyOf, contentsOf}
 use Rattle.validity.proofs.ValidityLaws.{study-size}
-use Rattle.access.specs.Calls.{nobody, Output, lent, answer, reply, listAfter}
+use Rattle.access.specs.Calls.{nobody, Output, firstList, lent, answer, reply, listAfter}
 use Rattle.access.specs.Passed.{Passed, heldAnswer}
 use Rattle.access.proofs.AccessLaws.{held-refused, passed-valid, inquiry-answer, inquiry-own, replies-refusal, unwritten, replies, writes}
 use Rattle.study_file.specs.Calls.{writeReasons, writesFile}
@@ -28,8 +28,8 @@ use Rattle.study_file.proofs.PuttingLaws.{file-written}
 module _ (σ : State) (file : List ℕ) where
   refuses : {x : Numbered} → refused x ≡ answer σ (writesFile file)
       → (refusal x ≡ reply σ (writesFile file)) × (file ≡ listAfter σ (writesFile file))
-  unfolding writesFile lent headD
-  refuses e = (replies-refusal σ (writesFile file) e, ap (λ (o : Output). headD (o .lists) []) (unwritten σ (writesFile file) e))
+  unfolding writesFile lent
+  refuses e = (replies-refusal σ (writesFile file) e, ap (λ (o : Output). firstList (o .lists)) (unwritten σ (writesFile file) e))
 
   -- short memory, or no dataset
   pub write-refused : {a : Answer} {why : Refusal} → a ≡ Refused why → verdictOf a ≡ heldAnswer σ nobody (λ _. [])
@@ -65,10 +65,10 @@ module _ {σ : State} (P : Passed σ) where
 
       pub write-done : {new : List ℕ} → PutFields file 0 (fileFields (contentsOf σ)) new
           → (value (size ∷ []) ≡ reply σ (writesFile file)) × (new ≡ listAfter σ (writesFile file))
-      unfolding writesFile headD
+      unfolding writesFile
       write-done a =
           let fits = subst (λ n. n ≤ length file) (e ∙ sym size-is) room in
           let w = own file false (T-false _ (le→nltb _ _ fits)) in (
             ap (λ n. value (n ∷ [])) (e ∙ sym size-is) ∙ replies σ _ P w,
-            file-written H a ∙ ap (λ (o : Output). headD (o .lists) []) (writes σ _ P w),
+            file-written H a ∙ ap (λ (o : Output). firstList (o .lists)) (writes σ _ P w),
           )

@@ -43,7 +43,7 @@ use Rattle.study.specs.declared.BlockRecord.{BlockRecord}
 use Rattle.study.specs.declared.Blocked.{Blocked}
 use Rattle.study.specs.declared.Dataset.{Dataset}
 use Rattle.validity.specs.Memory.{State, stateOf}
-use Rattle.access.specs.Calls.{reply, output}
+use Rattle.access.specs.Calls.{reply, listAfter, recordsAfter}
 use Rattle.blocking.specs.Calls.{makesBlocks, blockedReply}
 use Rattle.blocking.specs.Rows.{noRecord, noRecords}
 use Rattle.blocking.specs.declared.records.Blocking.{Blocking}
@@ -169,7 +169,7 @@ module _ {M : Type 1} (𝓤 : URA M) (H : Heap 𝓤) (A : Atoms 𝓤) (W : Given
       -- [κ₂; true; κ₁; κ₀; what block owns; settings; distances; ν]
       move ! (7 ∷ 1 ∷ []) $ join ! $ move ! (1 ∷ 0 ∷ []) $ join ! $ move ! (1 ∷ 0 ∷ []) $ join ! $ move ! (1 ∷ 0 ∷ []) $ join ! $ use2 W (raw (Block 𝓤 H A mem run .pre (to-block ν b γ))) (asks-nothing 𝓤 _) $ frame ! $ move ! (1 ∷ 0 ∷ []) $ done !
 
-  exits : (r : Blocked) (zs : List ℕ) (ws : List BlockRecord) (u m : Val) → blockedReply r ≡ reply state (makesBlocks (l .now) noRecords) → zs ∷ [] ≡ output state (makesBlocks (l .now) noRecords) .lists → ws ≡ output state (makesBlocks (l .now) noRecords) .records
+  exits : (r : Blocked) (zs : List ℕ) (ws : List BlockRecord) (u m : Val) → blockedReply r ≡ reply state (makesBlocks (l .now) noRecords) → zs ≡ listAfter state (makesBlocks (l .now) noRecords) → ws ≡ recordsAfter state (makesBlocks (l .now) noRecords)
       → length zs ≡ length (l .now) → Is S.the-row d (sd ∷ []) → Is D.the-row (record { answer = r; records = ws }) (made u m ∷ [])
       → ent 𝓤 (⋆ 𝓤 H A (‵ (flft κ₂ q₂) ∷ ‵ (flft κ₁ q₁) ∷ ‵ (flft κ₀ q₀) ∷ ‵ (finally u8 (l .name) zs) ∷ ‵ (OwnV κ₀ v) ∷ ‵ (OwnW κ₁ w) ∷ [])) (Post (made u m))
   exits r zs ws u m answered listed recorded long isD is =
