@@ -5,7 +5,7 @@ use native.Mathlib.Omega.{arith}
 use mathlib.Core.Path.{_≡_, refl, sym, ap, ap₂, _∙_, subst}
 use mathlib.Core.Logic.{⊎-elim, _↔_}
 use mathlib.Core.Bool.{Bool, true, false, cond, not, _&&_}
-use mathlib.Core.List.{List, [], _++_, headD}
+use mathlib.Core.List.{List, _++_}
 use mathlib.Core.Option.{some}
 use lib.Dec.{T, leb, eqb, eqb→eq, not-T, T-not}
 use lib.ListN.{length, drop, getD, length-append, List·getD-append}
@@ -27,7 +27,7 @@ use Rattle.study.proofs.Proofs.{for-problem, for-study}
 use Rattle.pricing.specs.Tariff.{total, shares}
 use Rattle.pricing.specs.Theorems.{StudyShares}
 use Rattle.pricing.proofs.Proofs.{every-study}
-use Rattle.access.specs.Calls.{Inquiry, Output, asks, Holding, reasons, verdict, told, lent, Response, learnt}
+use Rattle.access.specs.Calls.{Inquiry, Output, firstList, Holding, reasons, verdict, told, lent, Response, learnt}
 use Rattle.blocking.specs.Calls.{blockInquiry, figureNumbers, makesBlocks}
 use Rattle.priced_blocks.specs.Calls.{priceNumbers, pricesBlocks}
 use Rattle.guarantee.specs.Theorems.{Guaranteed, CanonicalBlock, blocked, charged}
@@ -137,7 +137,7 @@ module _ (H : Holding) (ok : ValidContents (H .contents)) where
   unfolding makesBlocks learnt told lent
   block-shaped list₀ records₀ e =
       let Q = blockInquiry (λ S. figureNumbers (figures S)) list₀ records₀ in
-      let respond : Verdict → Response = λ v. record { verdict = v; output = settled v (Q .tells (H .contents)) (Q .lent) } in
+      let respond : Verdict → Response = λ v. record { verdict = v; output = settled v (Q .tells H) (Q .lent) } in
       ap respond e
 
   -- the call is accepted, and its caller learns figures F, a list and records
@@ -150,7 +150,7 @@ module _ (H : Holding) (ok : ValidContents (H .contents)) where
     unfolding makesBlocks
     accepts = query-accepts H Q e
 
-    tells : Q .tells (H .contents) ≡ blocked F list records .output
+    tells : Q .tells H ≡ blocked F list records .output
     unfolding makesBlocks
     tells = query-tells H Q e
 
@@ -163,8 +163,7 @@ module _ (H : Holding) (ok : ValidContents (H .contents)) where
     figures-are = ap (λ (o : Output). figures-by (o .numbers)) tells
 
     list-is : over (blocking (problem S)) list₀ ≡ list
-    unfolding headD
-    list-is = ap (λ (o : Output). headD (o .lists) []) tells
+    list-is = ap (λ (o : Output). firstList (o .lists)) tells
 
     records-are : overwrite (figures S .blocks) (blockRecord S) records₀ ≡ records
     records-are = ap (λ (o : Output). o .records) tells
@@ -179,7 +178,7 @@ module _ (H : Holding) (ok : ValidContents (H .contents)) where
     unfolding pricesBlocks learnt told lent verdict reasons heldReasons freshReasons firstOf
     block-charged =
         let T = blockInquiry priceNumbers list₀ records₀ in
-        let respond : Verdict → Response = λ v. record { verdict = v; output = settled v (T .tells (H .contents)) (T .lent) } in
+        let respond : Verdict → Response = λ v. record { verdict = v; output = settled v (T .tells H) (T .lent) } in
         ap respond accepts ∙ (λ i. charged (figures-are i) (total S) (shares S) (list-is i) (records-are i))
 
     pub block-shared : StudyShares S

@@ -110,13 +110,14 @@ record Reckoned (u : ℕ) (s : Stretch) (h : Option Holding) : Type 0 where
 module _ (tooShort : Bool) (u : ℕ) (user : T (isUser u)) where
   -- an accepted change
   reckon-change : (U : Update) (c : Offered)
-      → ((H : Contents) → length (H .withdrawals) ≡ 4 → allOf isUser (U .caller .users) ≡ true → Changes u (isWithdrawal u c) H (U .makes H))
+      → ((H : Holding) → length (H .contents .withdrawals) ≡ 4 → allOf isUser (U .caller .users) ≡ true
+      → Changes u (isWithdrawal u c) (H .contents) (U .makes H .contents))
       → (s : Stretch) (h : Option Holding) → verdict tooShort h (changes U) ≡ accepted → Reckoned u s h
       → Reckoned u (onward s c none) (changed h (changes U))
   unfolding verdict reasons changed
   reckon-change U c m s none e R = absurd (true≢false (sym (ladder-accepts tooShort (U .caller .users) false [] e .tested)))
   reckon-change U c m s (some H) e R =
-      let K = m (H .contents) (R .four) (ladder-accepts tooShort (U .caller .users) true (U .own (H .contents)) e .known) in
+      let K = m H (R .four) (ladder-accepts tooShort (U .caller .users) true (U .own H) e .known) in
       record { four = K .four; count = omega (arith, K .count, one-more u c (s .calls), R .count) }
 
   -- an accepted call
@@ -127,7 +128,7 @@ module _ (tooShort : Bool) (u : ℕ) (user : T (isUser u)) where
   reckon-changed (read-file file) s h e R = record { four = decoded-four file; count = omega arith }
   reckon-changed (set-minima M) s h e R = reckon-change _ (set-minima M) (λ H four k. kept-counts u refl four) s h e R
   reckon-changed (enter setting row) s h e R = reckon-change _ (enter setting row) (λ H four k. kept-counts u refl four) s h e R
-  reckon-changed (withdraw v t) s h e R = reckon-change _ (withdraw v t) (withdraw-counts u user v t) s h e R
+  reckon-changed (withdraw v t) s h e R = reckon-change _ (withdraw v t) (λ H. withdraw-counts u user v t (H .contents)) s h e R
   reckon-changed (ask Q) s h e R =
       record { four = R .four; count = omega (arith, one-more u (ask Q) (s .calls), R .count) }
 

@@ -3,51 +3,45 @@
 use Prim.Native.Nat.{ℕ, _≤_}
 use native.Mathlib.Omega.{arith}
 use mathlib.Core.Path.{_≡_, refl, sym, ap, ap₂, _∙_, subst}
-use mathlib.Core.Bool.{Bool, true, false, cond}
-use mathlib.Core.List.{List, [], _∷_, _++_, headD}
-use mathlib.Core.List.{List·Memᴰ·head as here, List·Memᴰ·tail as there}
+use mathlib.Core.Bool.{false}
+use mathlib.Core.List.{List, [], _∷_}
 use lib.Dec.{T, ltb}
 use lib.Arith.{le→nltb}
 use lib.ListN.{length, take, drop, getD}
 use lib.Seq.{take-append-seam}
-use Rattle.lists.specs.Lists.{_among_, over}
+use Rattle.lists.specs.Lists.{over}
 use Rattle.lists.proofs.Tests.{T-true, true-T, T-false}
-use Rattle.lists.proofs.Members.{no-member}
-use Rattle.study.specs.Refusals.{Numbered, Verdict, accepted, refused, settled, value, replied, Reason, firstOf}
+use Rattle.study.specs.Refusals.{Numbered, Verdict, accepted, refused, settled, replied, firstOf, IsFirst}
+use Rattle.study.proofs.ReasonLaws.{is-first, only-first}
 use Rattle.study.proofs.CallLaws.{reply-value}
 use Rattle.file_format.specs.File.{newMark, fileOf, markOf, decoded}
 use Rattle.file_format.specs.Theorems.{Bytes}
-use Rattle.validity.specs.Memory.{State, short, isDataset, contentsOf, stored}
+use Rattle.validity.specs.Memory.{State, short, isDataset, contentsOf}
 use Rattle.validity.proofs.Proofs.{for-datasets}
-use Rattle.access.specs.Calls.{nobody, Inquiry, Output, Call, asks, held, reasons, verdict, lent, told, learnt, answer, reply, output, response, made, after}
-use Rattle.access.specs.Passed.{heldAnswer}
-use Rattle.access.proofs.AccessLaws.{HeldAccepted, source-accepted, held-own, inquiry-answer, inquiry-accepted, inquiry-passed, writes, reply-tells}
+use Rattle.access.specs.Calls.{nobody, Inquiry, Output, firstList, Call, asks, held, reasons, verdict, lent, answer, output, made, after}
+use Rattle.access.proofs.AccessLaws.{HeldAccepted, passed-by, answer-is, unmoved, leaves, source-accepted, inquiry-own, inquiry-accepted, inquiry-passed}
+use Rattle.access.proofs.AccessLaws.{writes, reply-tells}
+use Rattle.access.proofs.AccessLaws.{unwritten as lent-stays}
 use Rattle.study_file.specs.Calls.{readsFile, writeReasons, writesFile}
 use Rattle.study_file.proofs.Proofs.{for-files}
-use Rattle.guarantee.specs.Theorems.{IsFirst, Wrote, FilesAndDatasets}
+use Rattle.guarantee.specs.Theorems.{Wrote, FilesAndDatasets}
 
 -- ---- what a call answers and leaves
 
 module _ (s : State) (c : Call) where
   pub first : IsFirst (reasons (short s) (held s) c) (answer s c)
-  unfolding answer verdict
-  first = is-first (reasons (short s) (held s) c)
+  unfolding verdict
+  first = subst (IsFirst (reasons (short s) (held s) c)) (sym (answer-is s c)) (is-first (reasons (short s) (held s) c))
 
   pub only : (v : Verdict) → IsFirst (reasons (short s) (held s) c) v → v ≡ answer s c
-  unfolding answer verdict
-  only v f = only-first (reasons (short s) (held s) c) v f
+  unfolding verdict
+  only v f = only-first (reasons (short s) (held s) c) v f ∙ sym (answer-is s c)
 
   pub unchanged : (r : Numbered) → answer s c ≡ refused r → after s c ≡ s
-  unfolding after
-  unchanged r e = ap (λ v. settled v (made s c) s) e
+  unchanged r e = sym (unmoved s c (sym e))
 
   pub unwritten : (r : Numbered) → answer s c ≡ refused r → output s c ≡ lent c
-  unfolding output
-  unwritten r e = ap (λ v. settled v (told (held s) c) (lent c)) e
-
-  pub learns : response s c ≡ record { verdict = answer s c; output = output s c }
-  unfolding response learnt answer output
-  learns = refl
+  unwritten r e = sym (lent-stays s c (sym e))
 
 pub only-reads : (s : State) (Q : Inquiry) → after s (asks Q) ≡ s
 unfolding after made
@@ -70,7 +64,7 @@ module _ (s : State) (bytes left : List ℕ) (n : ℕ) (e : Wrote s bytes n left
       let w = reply-value (answer s (writesFile bytes)) (length written ∷ []) (sym (e .replied) ∙ reply-tells s _) in
       (w .0, ap (λ (l : List ℕ). getD l 0 0) (w .1))
 
-  good : HeldAccepted s nobody (λ H. writeReasons H (length bytes))
+  good : HeldAccepted s nobody (λ H. writeReasons (H .contents) (length bytes))
   unfolding writesFile
   good = inquiry-accepted s _ (accepts .0)
 
@@ -78,10 +72,10 @@ module _ (s : State) (bytes left : List ℕ) (n : ℕ) (e : Wrote s bytes n left
   a-dataset = true-T (isDataset s) (good .tested)
 
   left-is : left ≡ over written bytes
-  unfolding writesFile headD
+  unfolding writesFile
   left-is =
-      ap (λ (ls : List (List ℕ)). headD ls []) (sym (e .leaves))
-      ∙ ap (λ (o : Output). headD (o .lists) []) (sym (writes s _ (inquiry-passed s _ (accepts .0)) (sym (accepts .0))))
+      sym (e .leaves)
+      ∙ ap (λ (o : Output). firstList (o .lists)) (sym (writes s _ (inquiry-passed s _ (accepts .0)) (sym (accepts .0))))
 
   file-is : take n left ≡ written
   file-is = ap₂ (λ (k : ℕ) l. take k l) (accepts .1) left-is ∙ take-append-seam written (drop (length written) bytes)
@@ -105,10 +99,10 @@ module _ (onto : State) (file bytes : List ℕ) (b : Bytes file) (e : answer ont
   read = after onto (readsFile file)
 
   not-short : short read ≡ false
-  unfolding readsFile after made
+  unfolding readsFile made
   not-short =
       let long = source-accepted onto _ e .0 in
-      ap (λ v. short (settled v (stored (decoded file) onto) onto)) e ∙ for-datasets .as-long (decoded file) onto long ∙ long
+      ap short (sym (leaves onto _ (sym e))) ∙ for-datasets .as-long (decoded file) onto long ∙ long
 
   own-file : fileOf (contentsOf read) ≡ file
   own-file = for-files .only onto file b e m
@@ -116,8 +110,7 @@ module _ (onto : State) (file bytes : List ℕ) (b : Bytes file) (e : answer ont
   write-accepted : answer read (writesFile bytes) ≡ accepted
   unfolding writesFile writeReasons firstOf
   write-accepted =
-      inquiry-answer read _
-      ∙ sym (held-own read (λ H. writeReasons H (length bytes)) not-short (T-true (isDataset read) (for-files .dataset onto file e)))
+      sym (inquiry-own read _ (passed-by read not-short (T-true (isDataset read) (for-files .dataset onto file e))) refl)
       ∙ rw (T-false (ltb (length bytes) (length (fileOf (contentsOf read)))) (le→nltb _ _ (subst (λ l. length l ≤ length bytes) (sym own-file) room)))
 
   written-again : (left : List ℕ) × Wrote read bytes (length file) left × (take (length file) left ≡ file)
@@ -126,7 +119,8 @@ module _ (onto : State) (file bytes : List ℕ) (b : Bytes file) (e : answer ont
     over file bytes,
     record {
       replied = reply-tells read _ ∙ ap₂ (λ v (l : List ℕ). replied v (length l ∷ [])) write-accepted own-file;
-      leaves = ap (λ (o : Output). o .lists) (sym (writes read _ (inquiry-passed read _ write-accepted) (sym write-accepted))) ∙ ap (λ l. over l bytes ∷ []) own-file;
+      leaves = ap (λ (o : Output). firstList (o .lists)) (sym (writes read _ (inquiry-passed read _ write-accepted) (sym write-accepted)))
+          ∙ ap (λ l. over l bytes) own-file;
     },
     take-append-seam file (drop (length file) bytes),
   )

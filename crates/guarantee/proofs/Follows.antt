@@ -12,11 +12,11 @@ use Rattle.study.specs.Refusals.{Verdict, accepted, refused, settled, Reason, f
 use Rattle.study.specs.Theorems.{ValidContents}
 use Rattle.study.proofs.Proofs.{for-calls}
 use Rattle.file_format.proofs.Proofs.{files}
-use Rattle.validity.specs.Memory.{State, short, isDataset, contentsOf, stored}
+use Rattle.validity.specs.Memory.{State, short, isDataset, contentsOf}
 use Rattle.validity.proofs.Proofs.{for-datasets}
-use Rattle.access.specs.Calls.{Source, Update, Inquiry, Call, begins, changes, asks, Holding, holding, held, verdict, changing, changed, step}
-use Rattle.access.specs.Calls.{Response, learnt, answer, response, made, after}
-use Rattle.access.proofs.AccessLaws.{held-dataset, source-accepted, update-accepted}
+use Rattle.access.specs.Calls.{Holding, fresh, holdingOf, held, kept, anew, Source, Update, Inquiry, Call, begins, changes, asks, verdict, changing}
+use Rattle.access.specs.Calls.{changed, step, learnt, response, answer, made, after}
+use Rattle.access.proofs.AccessLaws.{held-dataset, answer-is, source-accepted, update-accepted}
 use Rattle.dataset.specs.Calls.{opensDataset, setsMinima, entersTide, withdrawsTide}
 use Rattle.study_file.specs.Calls.{readsFile}
 use Rattle.guarantee.specs.Runs.{Offered, open-with, read-file, set-minima, enter, withdraw, ask, callOf, run, following, heldAfter}
@@ -33,9 +33,9 @@ pub held-some : (s : State) (H : Holding) → held s ≡ some H → Holds s H
 unfolding held
 held-some s H e = by (short s) (isDataset s) refl refl e
   where
-    by : (a b : Bool) → short s ≡ a → isDataset s ≡ b → cond a none (cond b (some (holding (contentsOf s))) none) ≡ some H → Holds s H
+    by : (a b : Bool) → short s ≡ a → isDataset s ≡ b → cond a none (cond b (some (holdingOf s)) none) ≡ some H → Holds s H
     by true b p q h = absurd (let z : _≡_ {A = ℕ} 0 1 = cc in omega arith)
-    by false true p q h = record { not-short = p; tested = q; contents = let e : holding (contentsOf s) ≡ H = cc in ap (λ (x : Holding). x .contents) e }
+    by false true p q h = record { not-short = p; tested = q; contents = let e : holdingOf s ≡ H = cc in ap (λ (x : Holding). x .contents) e }
     by false false p q h = absurd (let z : _≡_ {A = ℕ} 0 1 = cc in omega arith)
 
 pub holds-valid : {s : State} {H : Holding} → Holds s H → ValidContents (H .contents)
@@ -48,12 +48,14 @@ record Leaves (s : State) (h : Option Holding) (new : State) : Type 0 where
   holds : held new ≡ h
   as-long : short new ≡ short s
 
-leaves-stored : (s : State) (H : Contents) → short s ≡ false → ValidContents H → Leaves s (some (holding H)) (stored H s)
-leaves-stored s H e ok =
-    let long = for-datasets .as-long H s e in
+-- record and memory that are made to hold H hold it
+leaves-kept : (s : State) (H : Holding) → short s ≡ false → ValidContents (H .contents) → Leaves s (some H) (kept H s)
+leaves-kept s H e ok =
+    let C = H .contents in
+    let long = for-datasets .as-long C s e in
     record {
-      holds = held-dataset (stored H s) (long ∙ e) (T-true (isDataset (stored H s)) (for-datasets .laid-out H s ok))
-          ∙ ap (λ K. some (holding K)) (for-datasets .read-back H s ok);
+      holds = held-dataset (kept H s) (long ∙ e) (T-true (isDataset (kept H s)) (for-datasets .laid-out C s ok))
+          ∙ ap (λ K. some (record { contents = K })) (for-datasets .read-back C s ok);
       as-long = long;
     }
 
@@ -69,25 +71,25 @@ module _ (s : State) where
 
   -- a call that begins anew, with valid contents
   leaves-source : (S : Source) → (firstOf (S .own) ≡ accepted → ValidContents (S .brings)) → Kept (begins S)
-  unfolding step after answer made changed
+  unfolding step after answer response learnt made changed
   leaves-source S valid =
-      leaves-settled (answer s (begins S)) (some (holding (S .brings))) (stored (S .brings) s) (λ e.
-      let q = source-accepted s S e in leaves-stored s (S .brings) (q .0) (valid (q .1)))
+      leaves-settled (answer s (begins S)) (some (fresh (S .brings))) (anew (S .brings) s) (λ e.
+      let q = source-accepted s S e in leaves-kept s (fresh (S .brings)) (q .0) (valid (q .1)))
 
   -- a change that keeps contents valid
-  leaves-update : (U : Update) → ((H : Contents) → ValidContents H → firstOf (U .own H) ≡ accepted → ValidContents (U .makes H)) → Kept (changes U)
-  unfolding step after answer made changed
+  leaves-update : (U : Update)
+      → ((H : Holding) → ValidContents (H .contents) → firstOf (U .own H) ≡ accepted → ValidContents (U .makes H .contents)) → Kept (changes U)
+  unfolding step after answer response learnt made changed
   leaves-update U keeps =
-      let f : Holding → Holding = λ H. holding (U .makes (H .contents)) in
-      leaves-settled (answer s (changes U)) (changing (held s) f) (stored (U .makes (contentsOf s)) s) (λ e.
+      let new = U .makes (holdingOf s) in
+      leaves-settled (answer s (changes U)) (changing (held s) (U .makes)) (kept new s) (λ e.
       let A = update-accepted s U e in
-      subst (λ h. Leaves s (changing h f) (stored (U .makes (contentsOf s)) s)) (sym (held-dataset s (A .not-short) (A .tested)))
-      (leaves-stored s (U .makes (contentsOf s)) (A .not-short)
-      (keeps (contentsOf s) (for-datasets .valid s (true-T (isDataset s) (A .tested))) (A .reasons))))
+      subst (λ h. Leaves s (changing h (U .makes)) (kept new s)) (sym (held-dataset s (A .not-short) (A .tested)))
+      (leaves-kept s new (A .not-short) (keeps (holdingOf s) (for-datasets .valid s (true-T (isDataset s) (A .tested))) (A .reasons))))
 
   -- a call that only reads
   leaves-inquiry : (Q : Inquiry) → Kept (asks Q)
-  unfolding step after answer made changed
+  unfolding step after answer response learnt made changed
   leaves-inquiry Q = by (answer s (asks Q))
     where
       by : (v : Verdict) → Leaves s (settled v (held s) (held s)) (settled v s s)
@@ -98,9 +100,9 @@ module _ (s : State) where
   unfolding callOf opensDataset readsFile setsMinima entersTide withdrawsTide
   leaves-step (open-with k) = leaves-source _ (for-calls .on-open k)
   leaves-step (read-file file) = leaves-source _ (files .valid file)
-  leaves-step (set-minima M) = leaves-update _ (for-calls .on-minima M)
-  leaves-step (enter setting row) = leaves-update _ (for-calls .on-enter setting row)
-  leaves-step (withdraw u t) = leaves-update _ (for-calls .on-withdraw u t)
+  leaves-step (set-minima M) = leaves-update _ (λ H. for-calls .on-minima M (H .contents))
+  leaves-step (enter setting row) = leaves-update _ (λ H. for-calls .on-enter setting row (H .contents))
+  leaves-step (withdraw u t) = leaves-update _ (λ H. for-calls .on-withdraw u t (H .contents))
   leaves-step (ask Q) = leaves-inquiry Q
 
 -- ---- every list of calls
@@ -127,5 +129,4 @@ module _ (start : State) (calls : List Offered) where
   settles c = ap₂ (λ tooShort h. learnt tooShort h c) as-short holds
 
   pub answers : (c : Call) → answer (run start calls) c ≡ verdict (short start) (heldAfter start calls) c
-  unfolding answer
-  answers c = ap₂ (λ tooShort h. verdict tooShort h c) as-short holds
+  answers c = answer-is (run start calls) c ∙ ap₂ (λ tooShort h. verdict tooShort h c) as-short holds

@@ -24,7 +24,7 @@ use Rattle.study.proofs.CallLaws.{withdrawn-distance, withdrawn-size, skip-insi
 use Rattle.study.proofs.LadderLaws.{ladder-accepts}
 use Rattle.file_format.specs.File.{decoded}
 use Rattle.validity.specs.Memory.{State, short}
-use Rattle.access.specs.Calls.{Update, changes, Holding, holding, held, reasons, verdict, changing, changed, step, answer}
+use Rattle.access.specs.Calls.{Holding, fresh, held, Update, changes, reasons, verdict, changing, changed, step, answer}
 use Rattle.dataset.specs.Calls.{opensDataset, setsMinima, entersTide, withdrawsTide}
 use Rattle.study_file.specs.Calls.{readsFile}
 use Rattle.guarantee.specs.Runs.{Offered, open-with, read-file, set-minima, enter, withdraw, ask, callOf, bringsIn, run, following, heldAfter}
@@ -278,14 +278,14 @@ agree-settled (refused r) a h b l f K = K
 
 -- a change that makes g of the ledger
 agree-changing : (U : Update) (g : Ledger → Ledger)
-    → ((H : Contents) (L : Ledger) → firstOf (U .own H) ≡ accepted → Matches (H .study) L → Matches (U .makes H .study) (g L))
+    → ((H : Holding) (L : Ledger) → firstOf (U .own H) ≡ accepted → Matches (H .contents .study) L → Matches (U .makes H .contents .study) (g L))
     → (tooShort : Bool) (h : Option Holding) (l : Option Ledger) → verdict tooShort h (changes U) ≡ accepted → Matched h l
     → Matched (changed h (changes U)) (changing l g)
 unfolding verdict reasons changed
 agree-changing U g m tooShort none l e K = tt
 agree-changing U g m tooShort (some H) none e K = absurd K
 agree-changing U g m tooShort (some H) (some L) e K =
-    m (H .contents) L (ladder-accepts tooShort (U .caller .users) true (U .own (H .contents)) e .reasons) K
+    m H L (ladder-accepts tooShort (U .caller .users) true (U .own H) e .reasons) K
 
 same-ledger : (l : Option Ledger) → changing l (λ L. L) ≡ l
 same-ledger none = refl
@@ -298,11 +298,11 @@ agree-changed tooShort h l (open-with k) e K = empty-matches k
 agree-changed tooShort h l (read-file file) e K = file-matches (decoded file .study)
 agree-changed tooShort h l (set-minima M) e K =
     subst (λ m. Matched (changed h (setsMinima M)) m) (same-ledger l)
-    (agree-changing _ (λ L. L) (λ H L r. minima-matches (H .study) L (understood M)) tooShort h l e K)
+    (agree-changing _ (λ L. L) (λ H L r. minima-matches (H .contents .study) L (understood M)) tooShort h l e K)
 agree-changed tooShort h l (enter setting row) e K =
-    agree-changing _ (withArrival setting row) (λ H L r. arrival-matches (H .study) L setting row) tooShort h l e K
+    agree-changing _ (withArrival setting row) (λ H L r. arrival-matches (H .contents .study) L setting row) tooShort h l e K
 agree-changed tooShort h l (withdraw u t) e K =
-    agree-changing _ (withGone t) (λ H L r M. let w = withdraws H u t r in gone-matches (H .study) L t M (omega (arith, w .low, w .high))) tooShort h l e K
+    agree-changing _ (withGone t) (λ H L r M. let w = withdraws (H .contents) u t r in gone-matches (H .contents .study) L t M (omega (arith, w .low, w .high))) tooShort h l e K
 agree-changed tooShort h l (ask Q) e K = K
 
 agree-following : (tooShort : Bool) (h : Option Holding) (l : Option Ledger) (cs : List Offered) → Matched h l
@@ -345,22 +345,22 @@ module _ (tooShort : Bool) where
   note-accepted h l c cs e = ap (λ v. noteAll tooShort (settled v (changed h (callOf c)) h) (settled v (noted l c) l) cs) e
 
 -- what a call that begins anew makes of what is held, and of the ledger
-record Begins (h : Option Holding) (l : Option Ledger) (c : Offered) (H : Contents) : Type 0 where
-  makes : changed h (callOf c) ≡ some (holding H)
-  notes : noted l c ≡ some (fileLedger (H .study))
+record Begins (h : Option Holding) (l : Option Ledger) (c : Offered) (C : Contents) : Type 0 where
+  makes : changed h (callOf c) ≡ some (fresh C)
+  notes : noted l c ≡ some (fileLedger (C .study))
 
-brought : (h : Option Holding) (l : Option Ledger) (c : Offered) (H : Contents) → bringsIn (callOf c) ≡ some H → Begins h l c H
+brought : (h : Option Holding) (l : Option Ledger) (c : Offered) (C : Contents) → bringsIn (callOf c) ≡ some C → Begins h l c C
 unfolding callOf opensDataset readsFile setsMinima entersTide withdrawsTide changed noted opening opened emptyLedger fileLedger
-brought h l (open-with k) H e =
-    let q : opening k ≡ H = cc in
-    record { makes = ap (λ K. some (holding K)) q; notes = ap (λ (K : Contents). some (fileLedger (K .study))) q }
-brought h l (read-file file) H e =
-    let q : decoded file ≡ H = cc in
-    record { makes = ap (λ K. some (holding K)) q; notes = ap (λ (K : Contents). some (fileLedger (K .study))) q }
-brought h l (set-minima M) H e = absurd (let z : _≡_ {A = ℕ} 0 1 = cc in omega arith)
-brought h l (enter setting row) H e = absurd (let z : _≡_ {A = ℕ} 0 1 = cc in omega arith)
-brought h l (withdraw u t) H e = absurd (let z : _≡_ {A = ℕ} 0 1 = cc in omega arith)
-brought h l (ask Q) H e = absurd (let z : _≡_ {A = ℕ} 0 1 = cc in omega arith)
+brought h l (open-with k) C e =
+    let q : opening k ≡ C = cc in
+    record { makes = ap (λ K. some (fresh K)) q; notes = ap (λ (K : Contents). some (fileLedger (K .study))) q }
+brought h l (read-file file) C e =
+    let q : decoded file ≡ C = cc in
+    record { makes = ap (λ K. some (fresh K)) q; notes = ap (λ (K : Contents). some (fileLedger (K .study))) q }
+brought h l (set-minima M) C e = absurd (let z : _≡_ {A = ℕ} 0 1 = cc in omega arith)
+brought h l (enter setting row) C e = absurd (let z : _≡_ {A = ℕ} 0 1 = cc in omega arith)
+brought h l (withdraw u t) C e = absurd (let z : _≡_ {A = ℕ} 0 1 = cc in omega arith)
+brought h l (ask Q) C e = absurd (let z : _≡_ {A = ℕ} 0 1 = cc in omega arith)
 
 module _ (start : State) (before since : List Offered) where
   abbrev h : Option Holding
@@ -380,5 +380,5 @@ module _ (start : State) (before since : List Offered) where
   pub anew : Anew start before since
   anew =
       record {
-        begun = λ c H e a. let B = brought h l c H e in since-accepted c a ∙ ap₂ (λ x y. noteAll (short start) x y since) (B .makes) (B .notes);
+        begun = λ c C e a. let B = brought h l c C e in since-accepted c a ∙ ap₂ (λ x y. noteAll (short start) x y since) (B .makes) (B .notes);
       }

@@ -30,7 +30,7 @@ use Rattle.guarantee.proofs.CountLaws.{counted-after}
 use Rattle.guarantee.proofs.FreeLaws.{free-after}
 use Rattle.guarantee.proofs.BlockLaws.{block-25, block-shaped, block-guaranteed, block-canonical, block-charged, block-shared}
 use Rattle.guarantee.proofs.CentresLaws.{centres-told}
-use Rattle.guarantee.proofs.DemandLaws.{first, only, unchanged, unwritten, only-reads, learns, files-and-datasets}
+use Rattle.guarantee.proofs.DemandLaws.{first, only, unchanged, unwritten, only-reads, files-and-datasets}
 
 -- the study is that of the contents
 record Studied (h : Option Holding) (S : Study) : Type 0 where
@@ -123,7 +123,7 @@ module _ (start : State) (calls : List Offered) where
   module _ (list₀ list : List ℕ) (records₀ records : List BlockRecord) (F : Figures)
       (q : response (run start calls) (makesBlocks list₀ records₀) ≡ blocked F list records) where
     accepts : answer (run start calls) (makesBlocks list₀ records₀) ≡ accepted
-    unfolding response learnt answer
+    unfolding answer
     accepts = ap (λ (r : Response). r .verdict) q
 
     told : (H : Holding) → heldAfter start calls ≡ some H → learnt false (some H) (makesBlocks list₀ records₀) ≡ blocked F list records
@@ -176,7 +176,7 @@ module _ (start : State) (calls : List Offered) where
 
 pub demand1 : Demand1
 demand1 =
-    record { first = first; only = only; unchanged = unchanged; unwritten = unwritten; only-reads = only-reads; learns = learns }
+    record { first = first; only = only; unchanged = unchanged; unwritten = unwritten; only-reads = only-reads }
 
 pub demand2 : Demand2
 demand2 =

@@ -11,10 +11,10 @@ module _ (H : Holding) (Q : Inquiry) {o : Output} (e : learnt false (some H) (as
   unfolding learnt
   agreed = ap (λ (r : Response). r .verdict) e
 
-  pub query-accepts : firstOf (Q .own (H .contents)) ≡ accepted
+  pub query-accepts : firstOf (Q .own H) ≡ accepted
   unfolding verdict reasons
-  query-accepts = ladder-accepts false (Q .caller .users) true (Q .own (H .contents)) agreed .reasons
+  query-accepts = ladder-accepts false (Q .caller .users) true (Q .own H) agreed .reasons
 
-  pub query-tells : Q .tells (H .contents) ≡ o
+  pub query-tells : Q .tells H ≡ o
   unfolding learnt told lent
-  query-tells = sym (ap (λ (v : Verdict). settled v (Q .tells (H .contents)) (Q .lent)) agreed) ∙ ap (λ (r : Response). r .output) e
+  query-tells = sym (ap (λ (v : Verdict). settled v (Q .tells H) (Q .lent)) agreed) ∙ ap (λ (r : Response). r .output) e

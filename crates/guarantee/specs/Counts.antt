@@ -11,7 +11,7 @@ use Rattle.study.specs.Refusals.{settled}
 use Rattle.study.specs.Calls.{countOf}
 use Rattle.study.specs.Study.{Contents}
 use Rattle.validity.specs.Memory.{State, short}
-use Rattle.access.specs.Calls.{Holding, holding, held, verdict, step}
+use Rattle.access.specs.Calls.{Holding, fresh, held, verdict, step}
 use Rattle.guarantee.specs.Runs.{Offered, open-with, read-file, set-minima, enter, withdraw, ask, callOf, bringsIn}
 
 -- the calls of a list that are accepted, in order
@@ -29,7 +29,7 @@ pub record Stretch : Type 0 where
 -- one accepted call more: it belongs to the stretch, or brings something in and begins another
 abbrev pub onward : Stretch → Offered → Option Contents → Stretch
 onward s c none = record { from = s .from; calls = s .calls ++ (c ∷ []) }
-onward s c (some H) = record { from = some (holding H); calls = [] }
+onward s c (some C) = record { from = some (fresh C); calls = [] }
 
 -- along accepted calls
 abbrev pub stretchAfter : Stretch → List Offered → Stretch

@@ -3,7 +3,7 @@
 use Prim.Native.Nat.{ℕ, suc, _+_, _*_, _≤_, _<_}
 use mathlib.Core.Path.{_≡_}
 use mathlib.Core.Logic.{_⊎_, _↔_}
-use mathlib.Core.Bool.{true, false}
+use mathlib.Core.Bool.{false}
 use mathlib.Core.List.{List, [], _∷_, _++_}
 use mathlib.Core.Option.{none, some}
 use lib.Dec.{T}
@@ -13,29 +13,22 @@ use Rattle.study.specs.declared.BlockRecord.{BlockRecord}
 use Rattle.study.specs.Problem.{centres, centreOf, labels, radius, blocking, diameter, greatestDiameter, Feasible}
 use Rattle.study.specs.Study.{Study, Contents, size, distance, problem, Renumbered}
 use Rattle.study.specs.Theorems.{Canonical, IsNearest}
-use Rattle.study.specs.Refusals.{number, Numbered, Verdict, accepted, refused, value, Reason, isUser}
+use Rattle.study.specs.Refusals.{number, Numbered, Verdict, accepted, refused, value, IsFirst, isUser}
 use Rattle.study.specs.Calls.{holdsDuplicate, countOf, CentreLists, centresWritten, Figures, blockRecord}
-use Rattle.file_format.specs.File.{newMark, oldMark, markOf, decoded}
+use Rattle.file_format.specs.File.{newMark, oldMark, markOf}
 use Rattle.file_format.specs.Theorems.{Bytes, OldFile}
 use Rattle.validity.specs.Memory.{State, short, isDataset, contentsOf}
-use Rattle.access.specs.Calls.{Inquiry, Call, asks, Holding, holding, held, reasons, lent, Response, learnt, answer, reply, output, response, after}
+use Rattle.access.specs.Calls.{Holding, fresh, held, Inquiry, Call, asks, reasons, lent, Response, learnt, response, answer, output, reply, listAfter, after}
 use Rattle.study_file.specs.Calls.{readsFile, writesFile}
 use Rattle.blocking.specs.Calls.{allThree, figureNumbers, findsCentres, makesBlocks}
 use Rattle.pricing.specs.Tariff.{total, shares}
 use Rattle.pricing.specs.Theorems.{StudyShares}
 use Rattle.priced_blocks.specs.Calls.{pricesBlocks}
-use Rattle.guarantee.specs.Runs.{Offered, read-file, callOf, bringsIn, run, heldAfter, studyAfter}
+use Rattle.guarantee.specs.Runs.{Offered, callOf, bringsIn, run, heldAfter, studyAfter}
 use Rattle.guarantee.specs.Ledger.{Ledger, fileLedger, noteAll, ledgerAfter, Exactly}
 use Rattle.guarantee.specs.Counts.{acceptedCalls, lastStretch, withdrawalsBy, countIn}
 
 -- ---- demand 1
-
--- of a list of reasons: accepted, and none of them holds; or refused, by one that holds where none before it does
-abbrev pub IsFirst : List Reason → Verdict → Type 0
-IsFirst rs accepted = (r : Reason) → r among rs → r .holds ≡ false
-IsFirst rs (refused x) =
-    (before : List Reason) × (r : Reason) × (rest : List Reason)
-    × (rs ≡ before ++ (r ∷ rest)) × ((q : Reason) → q among before → q .holds ≡ false) × (r .holds ≡ true) × (r .because ≡ x)
 
 -- for any record and memory and any call, as its contract cites it
 pub record Demand1 : Type 0 where
@@ -47,8 +40,6 @@ pub record Demand1 : Type 0 where
   pub unwritten : (s : State) (c : Call) (r : Numbered) → answer s c ≡ refused r → output s c ≡ lent c
   -- a call that only reads leaves record and memory, accepted or not
   pub only-reads : (s : State) (Q : Inquiry) → after s (asks Q) ≡ s
-  -- answer and output, of which the contracts speak, are all that the caller learns
-  pub learns : (s : State) (c : Call) → response s c ≡ record { verdict = answer s c; output = output s c }
 
 -- ---- demand 3
 
@@ -101,13 +92,13 @@ pub record CanonicalBlock (S : Study) (F : Figures) (list₀ list : List ℕ) (r
 
 -- after an accepted call that begins anew the ledger begins with the tides that it brings in, if any, and goes on with the calls since
 pub record Anew (start : State) (before since : List Offered) : Type 0 where
-  pub begun : (c : Offered) (H : Contents) → bringsIn (callOf c) ≡ some H → answer (run start before) (callOf c) ≡ accepted
-      → ledgerAfter start (before ++ (c ∷ since)) ≡ noteAll (short start) (some (holding H)) (some (fileLedger (H .study))) since
+  pub begun : (c : Offered) (C : Contents) → bringsIn (callOf c) ≡ some C → answer (run start before) (callOf c) ≡ accepted
+      → ledgerAfter start (before ++ (c ∷ since)) ≡ noteAll (short start) (some (fresh C)) (some (fileLedger (C .study))) since
 
 -- Write, lent these bytes, is accepted, answers n and leaves bytes
 pub record Wrote (s : State) (bytes : List ℕ) (n : ℕ) (left : List ℕ) : Type 0 where
   pub replied : reply s (writesFile bytes) ≡ value (n ∷ [])
-  pub leaves : output s (writesFile bytes) .lists ≡ left ∷ []
+  pub leaves : listAfter s (writesFile bytes) ≡ left
 
 -- files and datasets correspond one to one, of what Write and Read leave; a dataset's only file is that of mark 55 (document 02, 2.7)
 pub record FilesAndDatasets : Type 0 where
@@ -196,8 +187,9 @@ pub record ForCentres : Type 0 where
 
 -- for every start and every list of calls
 pub record DuplicateFree : Type 0 where
-  -- where the start holds none, and no file that is read holds one, none is held afterwards
+  -- where the start holds none, and nothing that an accepted call brings in holds one, none is held afterwards
   pub stays : (start : State) (calls : List Offered)
       → ((H : Holding) → held start ≡ some H → holdsDuplicate (H .contents .study) ≡ false)
-      → ((file : List ℕ) → read-file file among acceptedCalls (short start) (held start) calls → holdsDuplicate (decoded file .study) ≡ false)
+      → ((c : Offered) (C : Contents) → c among acceptedCalls (short start) (held start) calls → bringsIn (callOf c) ≡ some C
+      → holdsDuplicate (C .study) ≡ false)
       → (H : Holding) → held (run start calls) ≡ some H → holdsDuplicate (H .contents .study) ≡ false

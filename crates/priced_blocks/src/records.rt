@@ -5,9 +5,9 @@ use blocking::storing::put_records;
 use study::BlockRecord;
 use study::Dataset;
 ghost use mathlib.Core.Path.{_≡_};
-ghost use mathlib.Core.List.{[], _∷_};
 ghost use Rattle.validity.specs.Memory.{entryState};
-ghost use Rattle.access.specs.Calls.{output};
+ghost use Rattle.access.specs.Calls.{listAfter, recordsAfter};
+ghost use Rattle.blocking.specs.Calls.{entryCall};
 ghost use Rattle.priced_blocks.specs.Calls.{pricesBlocks, Billed};
 
 // The tariff: list and records as Block leaves them; Block's answer, the total and the shares. A refusal writes nothing.
@@ -18,11 +18,9 @@ pub fn price_blocks(
     list: &mut [u8],
     records: &mut [BlockRecord],
 ) -> Priced
-    ensures answer { λ r. ⌜ Billed (entryState dataset distances settings) (pricesBlocks (now (list .entry)) (now (records .entry))) r ⌝ }
-    ensures list { λ _. ⌜ now (list .exit) ∷ []
-        ≡ output (entryState dataset distances settings) (pricesBlocks (now (list .entry)) (now (records .entry))) .lists ⌝ }
-    ensures records { λ _. ⌜ now (records .exit)
-        ≡ output (entryState dataset distances settings) (pricesBlocks (now (list .entry)) (now (records .entry))) .records ⌝ }
+    ensures answer { λ r. ⌜ Billed (entryState dataset distances settings) (entryCall pricesBlocks list records) r ⌝ }
+    ensures list { λ _. ⌜ now (list .exit) ≡ listAfter (entryState dataset distances settings) (entryCall pricesBlocks list records) ⌝ }
+    ensures records { λ _. ⌜ now (records .exit) ≡ recordsAfter (entryState dataset distances settings) (entryCall pricesBlocks list records) ⌝ }
 {
     let room = records.len();
     let computed = price_core(dataset, distances, settings, list, room);
