@@ -167,7 +167,7 @@ module _ (s : State) (c : Call) where
 module _ (s : State) where
   -- a call that begins anew
   module _ (S : Source) where
-    source-answer : answer s (begins S) ≡ firstOf (freshReasons (short s) (S .own))
+    pub source-answer : answer s (begins S) ≡ firstOf (freshReasons (short s) (S .own))
     unfolding answer response learnt verdict reasons
     source-answer = refl
 

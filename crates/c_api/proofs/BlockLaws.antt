@@ -4,7 +4,7 @@ use native.Mathlib.Omega.{arith}
 use mathlib.Core.Path.{_≡_, refl, sym, ap, _∙_, subst}
 use mathlib.Core.Logic.{⊎-elim}
 use mathlib.Core.Bool.{true, _||_}
-use mathlib.Core.List.{List, [], _∷_, map, headD}
+use mathlib.Core.List.{List, [], _∷_, map}
 use lib.ListN.{length, getD, replicate, length-replicate, length-map, List·getD-map}
 use lib.Seq.{ext-getD}
 use Rattle.lists.specs.Lists.{tabulate, overwrite, over}
@@ -19,9 +19,9 @@ use Rattle.study.specs.Refusals.{Numbered, numbered, Verdict, accepted, refused
 use Rattle.study.specs.Calls.{blockReasons, figures}
 use Rattle.study.proofs.CallLaws.{reply-value}
 use Rattle.validity.specs.Memory.{State, studyOf, contentsOf}
-use Rattle.access.specs.Calls.{Output, Call, answer, reply, output}
+use Rattle.access.specs.Calls.{Output, firstList, Call, answer, output, reply, listAfter}
 use Rattle.access.specs.Calls.{lent as lentTo}
-use Rattle.access.proofs.AccessLaws.{reply-tells}
+use Rattle.access.proofs.AccessLaws.{unwritten, reply-tells}
 use Rattle.blocking.specs.declared.block.BlockRows.{BlockRows}
 use Rattle.blocking.specs.Calls.{figureNumbers, makesBlocks, blockedReply}
 use Rattle.blocking.specs.Rows.{rowAt, noRecord, Lending, RowsOf}
@@ -32,7 +32,8 @@ use Rattle.c_api.specs.Api.{lacks, cVerdict, cOutput, Places, places, re
 use Rattle.c_records.specs.Records.{Narrow, ColumnRoom}
 use Rattle.c_records.proofs.RecordLaws.{withRecord, front-written}
 use Rattle.c_records.proofs.CodeLaws.{small, inquiry-narrow}
-use Rattle.c_api.proofs.OutputLaws.{reply-why, reply-numbers, refused-output, asked-too-short, Reads, code-own, output-own}
+use Rattle.c_api.proofs.CallLaws.{too-short}
+use Rattle.c_api.proofs.OutputLaws.{reply-why, reply-numbers, Reads, code-own, output-own}
 
 -- ---- a column of records
 
@@ -153,7 +154,7 @@ module _ (need : ℕ) (l : Lent) (p : Places) (ask : List BlockRecord → Call) 
 
   -- nothing was written
   untouched : filled (record { numbers = []; lists = p .list ∷ []; records = recordsIn p }) p ≡ p
-  unfolding filled headD
+  unfolding filled
   untouched =
       let none : ℕ → BlockRecord = λ i. noRecord in
       let same = overwrite-none none (recordsIn p) in
@@ -162,11 +163,13 @@ module _ (need : ℕ) (l : Lent) (p : Places) (ask : List BlockRecord → Call) 
       (ap (λ rs. inColumn (λ r. r .diameter) rs (p .diameters)) same ∙ diameters-put p none 0 (omega arith) ∙ sym (overwrite-none _ (p .diameters))) refl
 
   pub blocks-too-short : lacks recordSize (l .numbers) || lacks need (p .result) ≡ true → Settled 1 p
-  blocks-too-short h = let e = asked-too-short l c _ h in (e .0, sym untouched ∙ ap (λ o. filled o p) (sym (L (recordsIn p)) ∙ e .1))
+  blocks-too-short h =
+      let e = too-short l (lacks need (p .result)) c h in
+      (ap code (sym (e .0)), sym untouched ∙ ap (λ o. filled o p) (sym (L (recordsIn p)) ∙ sym (e .1 .1)))
 
   -- what the core answers of the record as the code holds it, with this room for records
   module _ {r : Dataset} (R : Reads l r need (p .result)) {room : ℕ} (m : room ≡ recordRoom p) {new : List ℕ}
-      (t : Lending room (λ records. new ∷ [] ≡ output (withRecord l r) (ask records) .lists)) where
+      (t : Lending room (λ records. new ≡ listAfter (withRecord l r) (ask records))) where
     abbrev s : State
     s = withRecord l r
 
@@ -176,11 +179,10 @@ module _ (need : ℕ) (l : Lent) (p : Places) (ask : List BlockRecord → Call) 
 
     pub blocks-refused : {y : Numbered} {n : ℕ} → Lending room (λ records. answer s (ask records) ≡ refused y) → n ≡ code (refused y)
         → Settled n (places new (p .centres) (p .sizes) (p .diameters) (p .result))
-    unfolding headD
     blocks-refused e f =
         let y = e (recordsIn p) as-long in
-        let o = refused-output s c y ∙ L (recordsIn p) in
-        let same : new ≡ p .list = ap (λ (ls : List (List ℕ)). headD ls []) (t (recordsIn p) as-long ∙ ap (λ (x : Output). x .lists) o) in (
+        let o = sym (unwritten s c (sym y)) ∙ L (recordsIn p) in
+        let same : new ≡ p .list = t (recordsIn p) as-long ∙ ap (λ (x : Output). firstList (x .lists)) o in (
           f ∙ code-own R c y,
           ap (λ z. places z (p .centres) (p .sizes) (p .diameters) (p .result)) same ∙ sym untouched ∙ ap (λ x. filled x p) (sym o ∙ output-own R c),
         )
@@ -189,14 +191,14 @@ module _ (need : ℕ) (l : Lent) (p : Places) (ask : List BlockRecord → Call) 
         → Lending room (λ records. (answer s (ask records) ≡ accepted) × (output s (ask records) .numbers ≡ xs)) → RowsOf s ask room rows → b ≡ rows .count
         → y ≡ overwrite b (λ i. getD (rows .centres) i 0) (p .centres) → z ≡ overwrite b (λ i. getD (rows .tides) i 0) (p .sizes)
         → d ≡ overwrite b (λ i. getD (rows .diameters) i 0) (p .diameters) → f ≡ over xs (p .result) → Settled 0 (places new y z d f)
-    unfolding headD filled
+    unfolding filled
     blocks-done {b} {rows} {xs} e W k ey ez ed ef =
         let v = e (recordsIn p) as-long in
         let o = output s c in
         let few : rows .count ≤ recordRoom p = omega (arith, W .fits, m) in
         let put : overwrite (rows .count) (rowAt rows) (recordsIn p) ≡ o .records = W .records (recordsIn p) as-long in (
           code-own R c (v .0),
-          places-are {q = filled o p} (ap (λ (ls : List (List ℕ)). headD ls []) (t (recordsIn p) as-long))
+          places-are {q = filled o p} (t (recordsIn p) as-long)
               (ey ∙ ap (λ j. overwrite j (λ i. getD (rows .centres) i 0) (p .centres)) k ∙ sym (centres-put p (rowAt rows) (rows .count) few)
               ∙ ap (λ rs. inColumn (λ r. r .centre) rs (p .centres)) put)
               (ez ∙ ap (λ j. overwrite j (λ i. getD (rows .tides) i 0) (p .sizes)) k ∙ sym (sizes-put p (rowAt rows) (rows .count) few)

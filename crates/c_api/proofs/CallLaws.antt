@@ -1,4 +1,4 @@
--- From what a Rattle call answers and leaves to what the call for C does: one law for what begins anew, one for what changes. Assumes nothing.
+-- From what a Rattle call that begins anew or changes what is held answers and leaves to what the call for C does. Assumes nothing.
 use Prim.Native.Nat.{ℕ, _≤_, _<_}
 use native.Mathlib.Omega.{arith}
 use mathlib.Core.Path.{_≡_, refl, sym, ap, ap₂, _∙_, subst}
@@ -12,7 +12,7 @@ use Rattle.lists.proofs.Tests.{true-T}
 use Rattle.study.specs.declared.Minima.{Minima}
 use Rattle.study.specs.declared.Dataset.{Dataset}
 use Rattle.study.specs.Study.{Study, Contents, size}
-use Rattle.study.specs.Refusals.{Verdict, accepted, refused, settled, firstOf}
+use Rattle.study.specs.Refusals.{number, Verdict, accepted, refused, settled, firstOf}
 use Rattle.study.specs.Calls.{openReasons, opening, minimaReasons, settingMinima, enterReasons, entering, withdrawReasons, withdrawing}
 use Rattle.study.specs.Theorems.{ValidContents}
 use Rattle.study.proofs.StudyLaws.{validMinima-T}
@@ -23,9 +23,10 @@ use Rattle.file_format.proofs.BitLaws.{bitsAt-small}
 use Rattle.file_format.proofs.DecodedLaws.{decoded-size}
 use Rattle.validity.specs.Memory.{State, stateOf, short, isDataset, contentsOf, recordOf, stored}
 use Rattle.validity.proofs.Proofs.{for-datasets}
-use Rattle.access.specs.Calls.{Source, Update, Call, begins, changes, asks, held, verdict, told, answer, output, made, after}
+use Rattle.access.specs.Calls.{Holding, holdingOf, held, Source, Update, Call, begins, changes, asks, told, Response, learnt, response, answer, output}
+use Rattle.access.specs.Calls.{made, after}
 use Rattle.access.specs.Calls.{lent as lentTo}
-use Rattle.access.proofs.AccessLaws.{source-accepted, update-accepted}
+use Rattle.access.proofs.AccessLaws.{leaves, source-accepted, update-accepted}
 use Rattle.dataset.specs.Calls.{opensDataset, setsMinima, entersTide, withdrawsTide}
 use Rattle.study_file.specs.Calls.{readsFile}
 use Rattle.narrowing.specs.Narrowing.{narrowed, narrowDataset}
@@ -61,26 +62,35 @@ list-short numbers {few} e = rw e (either (lacks recordSize numbers))
 pub none-short : (numbers : List ℕ) {few : Bool} → recordSize ≤ length numbers → few ≡ false → lacks recordSize numbers || few ≡ false
 none-short numbers h e = rw (lacks-no recordSize numbers h, e)
 
--- ---- a call on s that leaves H where it is accepted
+-- ---- a call on s that begins anew or changes what is held, and leaves the contents C where it is accepted
 
-pub record Sound (s : State) (c : Call) (H : Contents) : Type 0 where
+-- it is no question
+abbrev pub Moves : Call → Type 0
+Moves (begins S) = Unit {0}
+Moves (changes U) = Unit {0}
+Moves (asks Q) = ⊥
+
+pub record Sound (s : State) (c : Call) (C : Contents) : Type 0 where
+  pub moves : Moves c
   pub narrow : Narrow (answer s c)
-  pub makes : made s c ≡ stored H s
-  pub valid : answer s c ≡ accepted → ValidContents H
+  pub makes : made s c ≡ stored C s
+  pub valid : answer s c ≡ accepted → ValidContents C
 
 module _ (s : State) where
   source-sound : (S : Source) → AllNarrow (S .own) → (firstOf (S .own) ≡ accepted → ValidContents (S .brings)) → Sound s (begins S) (S .brings)
   unfolding made
-  source-sound S n valid = record { narrow = source-narrow s S n; makes = refl; valid = λ e. valid (source-accepted s S e .1) }
+  source-sound S n valid = record { moves = tt; narrow = source-narrow s S n; makes = refl; valid = λ e. valid (source-accepted s S e .1) }
 
-  update-sound : (U : Update) → ((H : Contents) → ValidContents H → AllNarrow (U .own H))
-      → ((H : Contents) → ValidContents H → firstOf (U .own H) ≡ accepted → ValidContents (U .makes H)) → Sound s (changes U) (U .makes (contentsOf s))
+  update-sound : (U : Update) → ((H : Holding) → ValidContents (H .contents) → AllNarrow (U .own H))
+      → ((H : Holding) → ValidContents (H .contents) → firstOf (U .own H) ≡ accepted → ValidContents (U .makes H .contents))
+      → Sound s (changes U) (U .makes (holdingOf s) .contents)
   unfolding made
   update-sound U narrow keeps =
       record {
-        narrow = update-narrow s U (λ e. narrow (contentsOf s) (valid e));
+        moves = tt;
+        narrow = update-narrow s U (λ e. narrow (holdingOf s) (valid e));
         makes = refl;
-        valid = λ e. let A = update-accepted s U e in keeps (contentsOf s) (valid (A .tested)) (A .reasons);
+        valid = λ e. let A = update-accepted s U e in keeps (holdingOf s) (valid (A .tested)) (A .reasons);
       }
     where
       valid : isDataset s ≡ true → ValidContents (contentsOf s)
@@ -92,21 +102,21 @@ module _ (s : State) where
 
   pub minima-sound : (M : Minima) → Sound s (setsMinima M) (settingMinima M (contentsOf s))
   unfolding setsMinima minimaReasons
-  minima-sound M = update-sound _ (λ H ok. (small tt, tt)) (for-calls .on-minima M)
+  minima-sound M = update-sound _ (λ H ok. (small tt, tt)) (λ H. for-calls .on-minima M (H .contents))
 
   pub enter-sound : (setting : ℕ) (row : List ℕ) → Sound s (entersTide setting row) (entering setting row (contentsOf s))
   unfolding entersTide enterReasons
-  enter-sound setting row = update-sound _ narrow (for-calls .on-enter setting row)
+  enter-sound setting row = update-sound _ (λ H. narrow (H .contents)) (λ H. for-calls .on-enter setting row (H .contents))
     where
-      narrow : (H : Contents) → ValidContents H → AllNarrow (enterReasons (H .study) setting row)
-      narrow H ok = (
+      narrow : (C : Contents) → ValidContents C → AllNarrow (enterReasons (C .study) setting row)
+      narrow C ok = (
         small tt,
         (small tt, (small tt, (small tt, (pair-narrow _ _ _ (omega (arith, ok .study .few)), (small tt, tt))))),
       )
 
   pub withdraw-sound : (u t : ℕ) → Sound s (withdrawsTide u t) (withdrawing u t (contentsOf s))
   unfolding withdrawsTide withdrawReasons
-  withdraw-sound u t = update-sound _ (λ H ok. (small tt, (small tt, tt))) (for-calls .on-withdraw u t)
+  withdraw-sound u t = update-sound _ (λ H ok. (small tt, (small tt, tt))) (λ H. for-calls .on-withdraw u t (H .contents))
 
   pub read-sound : (file : List ℕ) → Sound s (readsFile file) (decoded file)
   unfolding readsFile readReasons headReasons tideReasons
@@ -121,16 +131,20 @@ module _ (s : State) where
           (small tt, (small tt, (small tt, (small tt, (small tt, (small tt, (small tt, (small tt, tt))))))))
           (runs-narrow (tideReasons S) 0 (size S) (λ t l. (small tt, (pair-narrow _ _ _ (omega (arith, decoded-size file, bitsAt-small file 8 7)), tt))))
 
+-- what a call did, s before and t after it, with the verdict w
+abbrev pub Did : State → Verdict → State → Call → Type 0
+Did s w t c = (w ≡ answer s c) × (t ≡ after s c)
+
 -- the record that it made, by its contract, can be written
-pub storable : {numbers : List ℕ} (s : State) {c : Call} {H : Contents} {w : Verdict} {r : Dataset} {d g : List ℕ} → Sound s c H
-    → recordSize ≤ length numbers → (w ≡ answer s c) × (stateOf r d g ≡ after s c) → Storable numbers w r
-unfolding after stored recordOf
-storable {numbers} s {c} {H} {w} {r} {d} {g} S room (e, f) =
+pub storable : {numbers : List ℕ} (s : State) {c : Call} {C : Contents} {w : Verdict} {r : Dataset} {d g : List ℕ} → Sound s c C
+    → recordSize ≤ length numbers → Did s w (stateOf r d g) c → Storable numbers w r
+unfolding stored recordOf
+storable {numbers} s {c} {C} {w} {r} {d} {g} S room (e, f) =
     record { room = room; narrow = subst Narrow (sym e) (S .narrow); few = λ q. few (sym e ∙ q) }
   where
     few : answer s c ≡ accepted → r .n < 65536
     few q =
-        let k : r .n ≡ size (H .study) = ap (λ (x : State). x .dataset .n) (f ∙ ap (λ u. settled u (made s c) s) q ∙ S .makes) in
+        let k : r .n ≡ size (C .study) = ap (λ (x : State). x .dataset .n) (f ∙ sym (leaves s c (sym q)) ∙ S .makes) in
         omega (arith, S .valid q .study .few)
 
 -- ---- on the record itself, and on the record as the code holds it
@@ -140,37 +154,61 @@ module _ (l : Lent) {r : Dataset} (e : r ≡ narrowDataset (datasetOf (l .number
   unfolding stateIn
   same-held = ap (λ x. held (withRecord l x)) e ∙ unchanged (stateIn l) .on-record
 
+  same-response : (c : Call) → response (withRecord l r) c ≡ response (stateIn l) c
+  unfolding response short stateIn
+  same-response c = ap (λ h. learnt (short (stateIn l)) h c) same-held
+
   pub same-answer : (c : Call) → answer (withRecord l r) c ≡ answer (stateIn l) c
-  unfolding answer short stateIn
-  same-answer c = ap (λ h. verdict (short (stateIn l)) h c) same-held
+  unfolding answer
+  same-answer c = ap (λ (r : Response). r .verdict) (same-response c)
 
   pub same-output : (c : Call) → output (withRecord l r) c ≡ output (stateIn l) c
   unfolding output
-  same-output c = ap₂ (λ v h. settled v (told h c) (lentTo c)) (same-answer c) same-held
+  same-output c = ap (λ (r : Response). r .output) (same-response c)
 
   -- where there is a dataset, they are the same
   same-record : isDataset (stateIn l) ≡ true → withRecord l r ≡ stateIn l
   unfolding stateIn
   same-record f = ap (withRecord l) e ∙ unchanged (stateIn l) .within f
 
+  -- so an accepted call makes the same of either
+  pub same-made : (c : Call) → Moves c → answer (stateIn l) c ≡ accepted → made (withRecord l r) c ≡ made (stateIn l) c
+  unfolding made stored recordOf stateIn
+  same-made (begins S) m a = refl
+  same-made (changes U) m a = ap (λ y. made y (changes U)) (same-record (update-accepted (stateIn l) U a .tested))
+  same-made (asks Q) m a = absurd m
+
 -- ---- what stands afterwards
 
 module _ (l : Lent) where
+  left-is : (few : Bool) (c : Call) → Moves c → cLeft l few c ≡ left l (cVerdict l few c) (after (stateIn l) c)
+  unfolding cLeft
+  left-is few (begins S) m = refl
+  left-is few (changes U) m = refl
+  left-is few (asks Q) m = absurd m
+
   -- a list of fixed size is too short
-  left-too-short : {tooShort : Bool} (v : Verdict) (s : State) → tooShort ≡ true
-      → (1 ≡ code (roomFirst tooShort v)) × (l ≡ left l (roomFirst tooShort v) s)
-  unfolding roomFirst left
-  left-too-short v s e = (rw e, rw e)
+  short-verdict : (few : Bool) (c : Call) → lacks recordSize (l .numbers) || few ≡ true → cVerdict l few c ≡ refused (number 1)
+  unfolding cVerdict roomFirst
+  short-verdict few c e = rw e
 
-  pub source-too-short : (S : Source) (few : Bool) → lacks recordSize (l .numbers) || few ≡ true
-      → (1 ≡ code (cVerdict l few (begins S))) × (l ≡ cLeft l few (begins S))
-  unfolding cVerdict cLeft
-  source-too-short S few e = left-too-short _ _ e
+  short-stays : (few : Bool) (c : Call) → lacks recordSize (l .numbers) || few ≡ true → cLeft l few c ≡ l
+  unfolding cLeft left
+  short-stays few (begins S) e = ap (λ v. left l v (after (stateIn l) (begins S))) (short-verdict few (begins S) e)
+  short-stays few (changes U) e = ap (λ v. left l v (after (stateIn l) (changes U))) (short-verdict few (changes U) e)
+  short-stays few (asks Q) e = refl
 
-  pub update-too-short : (U : Update) (few : Bool) → lacks recordSize (l .numbers) || few ≡ true
-      → (1 ≡ code (cVerdict l few (changes U))) × (l ≡ cLeft l few (changes U))
-  unfolding cVerdict cLeft
-  update-too-short U few e = left-too-short _ _ e
+  pub short-output : (few : Bool) (c : Call) → lacks recordSize (l .numbers) || few ≡ true → cOutput l few c ≡ lentTo c
+  unfolding cOutput
+  short-output few c e = ap (λ v. settled v (told (held (stateIn l)) c) (lentTo c)) (short-verdict few c e)
+
+  -- refused 1, and nothing changes
+  pub too-short : (few : Bool) (c : Call) → lacks recordSize (l .numbers) || few ≡ true
+      → (cVerdict l few c ≡ refused (number 1)) × ((cLeft l few c ≡ l) × (cOutput l few c ≡ lentTo c))
+  too-short few c e = (short-verdict few c e, (short-stays few c e, short-output few c e))
+
+  pub left-too-short : (few : Bool) (c : Call) → lacks recordSize (l .numbers) || few ≡ true → (1 ≡ code (cVerdict l few c)) × (l ≡ cLeft l few c)
+  left-too-short few c e = (ap code (sym (short-verdict few c e)), sym (short-stays few c e))
 
 -- a call got the record in l as o and made r of it; its verdict w gave the code c and the numbers m
 pub record Stored (l : Lent) (o r : Dataset) (w : Verdict) (c : ℕ) (m : List ℕ) : Type 0 where
@@ -206,32 +244,19 @@ module _ {l : Lent} {o r : Dataset} {w : Verdict} {c : ℕ} {m : List ℕ} (D : 
     settles-either accepted new q = inl refl
     settles-either (refused x) new q = inr q
 
-    module _ {few : Bool} (whole : few ≡ false) where
-      pub source-left : (S : Source) → (w ≡ answer s (begins S)) × (stateOf r d g ≡ after s (begins S))
-          → (c ≡ code (cVerdict l few (begins S))) × (lent m d g ≡ cLeft l few (begins S))
-      unfolding cVerdict cLeft after made stored recordOf stateIn
-      source-left S (p, q) =
-          let v = same-answer l (D .held) (begins S) in
-          let t = q ∙ ap (λ x. settled x (stored (S .brings) s) s) v in
-          left-own (answer (stateIn l) (begins S)) (stored (S .brings) (stateIn l)) (none-short (l .numbers) (D .room) whole) (p ∙ v)
-          (λ a. t ∙ ap (λ x. settled x (stored (S .brings) s) s) a) (settles-either (answer (stateIn l) (begins S)) (stored (S .brings) s) t)
-
-      pub update-left : (U : Update) → (w ≡ answer s (changes U)) × (stateOf r d g ≡ after s (changes U))
-          → (c ≡ code (cVerdict l few (changes U))) × (lent m d g ≡ cLeft l few (changes U))
-      unfolding cVerdict cLeft after
-      update-left U (p, q) =
-          let v = same-answer l (D .held) (changes U) in
-          let t = q ∙ ap (λ x. settled x (made s (changes U)) s) v in
-          left-own (answer (stateIn l) (changes U)) (made (stateIn l) (changes U)) (none-short (l .numbers) (D .room) whole) (p ∙ v)
-          (λ a. t ∙ ap (λ x. settled x (made s (changes U)) s) a
-          ∙ ap (λ y. made y (changes U)) (same-record l (D .held) (update-accepted (stateIn l) U a .tested)))
-          (settles-either (answer (stateIn l) (changes U)) (made s (changes U)) t)
+    -- so the call for C answers and leaves what is said of the record itself
+    pub call-left : {few : Bool} → few ≡ false → {k : Call} {C : Contents} → Sound (stateIn l) k C → Did s w (stateOf r d g) k
+        → (c ≡ code (cVerdict l few k)) × (lent m d g ≡ cLeft l few k)
+    unfolding cVerdict after
+    call-left {few} whole {k} S (p, q) =
+        let v = same-answer l (D .held) k in
+        let t = q ∙ ap (λ x. settled x (made s k) s) v in
+        let done = left-own (answer (stateIn l) k) (made (stateIn l) k) (none-short (l .numbers) (D .room) whole) (p ∙ v)
+        (λ a. t ∙ ap (λ x. settled x (made s k) s) a ∙ same-made l (D .held) k (S .moves) a)
+        (settles-either (answer (stateIn l) k) (made s k) t) in
+        (done .0, done .1 ∙ sym (left-is l few k (S .moves)))
 
 -- ---- numbers given as bytes
-
--- what a call did, s before and t after it, with the verdict w
-abbrev pub Did : State → Verdict → State → Call → Type 0
-Did s w t c = (w ≡ answer s c) × (t ≡ after s c)
 
 pub enter-given : (s : State) (setting : ℕ) (row : List ℕ) {w : Verdict} {t : State} {y : ℕ} → y ≡ narrowed setting
     → Did s w t (entersTide y row) → Did s w t (entersTide setting row)
@@ -254,24 +279,15 @@ module _ (l : Lent) (room : recordSize ≤ length (l .numbers)) where
       let new = stored H (stateIn l) in
       ap (λ r. stateOf r (new .distances) (new .settings)) (read-back (recordOf H (stateIn l .dataset)) eight (ok .counts .four) (l .numbers))
 
-  left-state : {c : Call} {H : Contents} → Sound (stateIn l) c H
-      → stateIn (left l (cVerdict l false c) (after (stateIn l) c)) ≡ after (stateIn l) c
+  pub carried : {c : Call} {C : Contents} → Sound (stateIn l) c C → stateIn (cLeft l false c) ≡ after (stateIn l) c
   unfolding cVerdict roomFirst left stateIn after
-  left-state {c} {H} S = rw (none-short (l .numbers) {few = false} room refl) (by (answer (stateIn l) c) (S .valid))
+  carried {c} {C} S = ap stateIn (left-is l false c (S .moves)) ∙ rw (none-short (l .numbers) {few = false} room refl) (by (answer (stateIn l) c) (S .valid))
     where
-      by : (w : Verdict) → (w ≡ accepted → ValidContents H)
+      by : (w : Verdict) → (w ≡ accepted → ValidContents C)
           → stateIn (left l w (settled w (made (stateIn l) c) (stateIn l))) ≡ settled w (made (stateIn l) c) (stateIn l)
       by accepted valid =
           let ok = valid refl in
-          let fit = validMinima-T (H .study .k) (H .study .minima) .0 (ok .study .minima) in
+          let fit = validMinima-T (C .study .k) (C .study .minima) .0 (ok .study .minima) in
           subst (λ (new : State). stateOf (datasetOf (over (numbersOf (new .dataset)) (l .numbers))) (new .distances) (new .settings) ≡ new) (sym (S .makes))
-          (laid H ok (fit .eight))
+          (laid C ok (fit .eight))
       by (refused y) valid = refl
-
-  pub source-carried : (S : Source) {H : Contents} → Sound (stateIn l) (begins S) H → stateIn (cLeft l false (begins S)) ≡ after (stateIn l) (begins S)
-  unfolding cLeft
-  source-carried S K = left-state K
-
-  pub update-carried : (U : Update) {H : Contents} → Sound (stateIn l) (changes U) H → stateIn (cLeft l false (changes U)) ≡ after (stateIn l) (changes U)
-  unfolding cLeft
-  update-carried U K = left-state K

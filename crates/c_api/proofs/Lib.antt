@@ -3,7 +3,6 @@ pub mod CallLaws
 pub mod OutputLaws
 pub mod BlockLaws
 pub mod TariffLaws
-pub mod JudgeLaws
 pub mod MendLaws
 pub mod RunLaws
 pub mod Proofs

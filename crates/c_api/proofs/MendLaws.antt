@@ -20,7 +20,7 @@ use Rattle.c_api.specs.Api.{roomFirst, lacks, mendVerdict, mendTable, me
 use Rattle.c_records.specs.Records.{Narrow}
 use Rattle.c_records.proofs.CodeLaws.{small, first-narrow}
 use Rattle.c_api.proofs.CallLaws.{lacks-yes, lacks-no}
-use Rattle.c_api.proofs.OutputLaws.{output-refused, output-done, first-set, code-too-short, output-too-short}
+use Rattle.c_api.proofs.OutputLaws.{first-set}
 
 -- ---- the answer of the closure
 
@@ -49,10 +49,13 @@ module _ (n : ℕ) (table result : List ℕ) where
   pub mend-too-short : length result < 1
       → (1 ≡ code (mendVerdict n table result)) × ((table ≡ mendTable n table result) × (result ≡ mendResult n table result))
   unfolding mendVerdict mendTable mendResult roomFirst
-  mend-too-short h =
-      let e = lacks-yes 1 result h in (code-too-short _ e, (rw e, output-too-short _ e _ result))
+  mend-too-short h = let e = lacks-yes 1 result h in (rw e, (rw e, rw e))
 
   module _ (enough : 1 ≤ length result) (a : Closed) {new : List ℕ} (p : closedOf a ≡ closeAnswer n table) (t : new ≡ closeLeaves n table) where
+    -- the pairs lowered, written
+    abbrev pairs : List ℕ
+    pairs = over (loweredPairs n (entry n table) ∷ []) result
+
     verdict-is : closeVerdict n table ≡ mendVerdict n table result
     unfolding mendVerdict roomFirst
     verdict-is = rw (lacks-no 1 result enough)
@@ -66,7 +69,7 @@ module _ (n : ℕ) (table result : List ℕ) where
     unfolding mendResult
     mend-refused e f =
         let y = sym verdict-is ∙ mend-why n table a p e in
-        (f ∙ ap code (sym y), (tabled, output-refused _ result y))
+        (f ∙ ap code (sym y), (tabled, ap (λ v. settled v pairs result) (sym y)))
 
     pub mend-done : {lowered : ℕ} → a ≡ ClosedCase.Done lowered
         → (0 ≡ code (mendVerdict n table result)) × ((new ≡ mendTable n table result) × (set result 0 lowered ≡ mendResult n table result))
@@ -75,4 +78,4 @@ module _ (n : ℕ) (table result : List ℕ) where
         let v = mend-value n table a p e in
         let y = sym verdict-is ∙ v .0 in
         let one = first-set lowered result enough ∙ ap (λ z. over (z ∷ []) result) (v .1) in
-        (ap code (sym y), (tabled, output-done _ result y one))
+        (ap code (sym y), (tabled, one ∙ ap (λ v. settled v pairs result) (sym y)))

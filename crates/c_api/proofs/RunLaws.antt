@@ -3,15 +3,14 @@ use Prim.Native.Nat.{ℕ, _≤_}
 use native.Mathlib.Omega.{arith}
 use mathlib.Core.Path.{_≡_, refl, sym, ap, ap₂, _∙_, subst}
 use mathlib.Core.Bool.{Bool, true, false, cond, _||_}
-use mathlib.Core.List.{List, [], _∷_, _++_, flatMap, headD}
+use mathlib.Core.List.{List, [], _∷_, _++_, flatMap}
 use lib.ListN.{length, length-append, length-drop}
 use Rattle.lists.specs.Lists.{over}
 use Rattle.study.specs.Refusals.{Verdict, accepted, refused, settled}
 use Rattle.validity.specs.Memory.{State}
-use Rattle.access.specs.Calls.{Inquiry, Output, Call, begins, changes, asks, Response, held, told, answer, output, response, after}
+use Rattle.access.specs.Calls.{held, Inquiry, Output, firstList, Call, begins, changes, asks, told, Response, answer, output, after}
 use Rattle.access.specs.Calls.{lent as lentTo}
-use Rattle.dataset.specs.Calls.{opensDataset, setsMinima, entersTide, withdrawsTide}
-use Rattle.study_file.specs.Calls.{readsFile}
+use Rattle.access.proofs.AccessLaws.{output-is}
 use Rattle.blocking.specs.Calls.{figureNumbers, makesBlocks}
 use Rattle.guarantee.specs.Runs.{Offered, open-with, read-file, set-minima, enter, withdraw, ask, callOf, run}
 use Rattle.guarantee.specs.Theorems.{Guaranteed}
@@ -19,8 +18,8 @@ use Rattle.guarantee.proofs.Proofs.{demand1, demand3}
 use Rattle.c_records.specs.Record.{Lent, recordSize, stateIn}
 use Rattle.c_api.specs.Api.{roomFirst, lacks, cVerdict, left, cLeft, cOutput, recordsIn, filled}
 use Rattle.c_api.specs.Runs.{CCall, cRun, callsOf}
-use Rattle.c_api.specs.Theorems.{AsRun, AsAnswers, CDemand3}
-use Rattle.c_api.proofs.CallLaws.{none-short, list-short, source-too-short, update-too-short, source-carried, update-carried}
+use Rattle.c_api.specs.Theorems.{AsRun, AsCall, TooShort, CDemand3}
+use Rattle.c_api.proofs.CallLaws.{none-short, list-short, too-short, carried}
 use Rattle.c_api.proofs.CallLaws.{open-sound, minima-sound, enter-sound, withdraw-sound, read-sound}
 
 -- ---- no call makes the record shorter
@@ -39,31 +38,24 @@ after-long l few (asks Q) = omega arith
 -- ---- a call for C is the call
 
 module _ (l : Lent) where
-  -- a list of fixed size is too short
-  stays : (c : Call) → l ≡ cLeft l true c
-  unfolding cLeft
-  stays (begins S) = source-too-short l S true (list-short (l .numbers) refl) .1
-  stays (changes U) = update-too-short l U true (list-short (l .numbers) refl) .1
-  stays (asks Q) = refl
-
   asked : (Q : Inquiry) → stateIn (cLeft l false (asks Q)) ≡ after (stateIn l) (asks Q)
   unfolding cLeft
   asked Q = sym (demand1 .only-reads (stateIn l) Q)
 
-  carried : recordSize ≤ length (l .numbers) → (c : Offered) → stateIn (cLeft l false (callOf c)) ≡ after (stateIn l) (callOf c)
-  unfolding callOf opensDataset readsFile setsMinima entersTide withdrawsTide
-  carried room (open-with k) = source-carried l room _ (open-sound (stateIn l) k)
-  carried room (read-file file) = source-carried l room _ (read-sound (stateIn l) file)
-  carried room (set-minima M) = update-carried l room _ (minima-sound (stateIn l) M)
-  carried room (enter setting row) = update-carried l room _ (enter-sound (stateIn l) setting row)
-  carried room (withdraw u t) = update-carried l room _ (withdraw-sound (stateIn l) u t)
-  carried room (ask Q) = asked Q
+  own-left : recordSize ≤ length (l .numbers) → (c : Offered) → stateIn (cLeft l false (callOf c)) ≡ after (stateIn l) (callOf c)
+  unfolding callOf
+  own-left room (open-with k) = carried l room (open-sound (stateIn l) k)
+  own-left room (read-file file) = carried l room (read-sound (stateIn l) file)
+  own-left room (set-minima M) = carried l room (minima-sound (stateIn l) M)
+  own-left room (enter setting row) = carried l room (enter-sound (stateIn l) setting row)
+  own-left room (withdraw u t) = carried l room (withdraw-sound (stateIn l) u t)
+  own-left room (ask Q) = asked Q
 
   step : recordSize ≤ length (l .numbers) → (few : Bool) (c : Offered)
       → stateIn (cLeft l few (callOf c)) ≡ run (stateIn l) (cond few [] (c ∷ []))
   unfolding run
-  step room true c = ap stateIn (sym (stays (callOf c)))
-  step room false c = carried room c
+  step room true c = ap stateIn (too-short l true (callOf c) (list-short (l .numbers) refl) .1 .0)
+  step room false c = own-left room c
 
 run-append : (s : State) (xs ys : List Offered) → run s (xs ++ ys) ≡ run (run s xs) ys
 unfolding run
@@ -84,7 +76,7 @@ run-long l [] = omega arith
 run-long l (c ∷ cs) =
     omega (arith, after-long l (c .few) (callOf (c .call)), run-long (cLeft l (c .few) (callOf (c .call))) cs)
 
--- ---- what a call answers and writes, where its lists of fixed size are long enough
+-- ---- any call after it, where its lists of fixed size are long enough
 
 module _ (l : Lent) (room : recordSize ≤ length (l .numbers)) (c : Call) where
   own-verdict : cVerdict l false c ≡ answer (stateIn l) c
@@ -92,14 +84,28 @@ module _ (l : Lent) (room : recordSize ≤ length (l .numbers)) (c : Call) where
   own-verdict = rw (none-short (l .numbers) {few = false} room refl)
 
   own-output : cOutput l false c ≡ output (stateIn l) c
-  unfolding cOutput output
-  own-output = ap (λ v. settled v (told (held (stateIn l)) c) (lentTo c)) own-verdict
+  unfolding cOutput
+  own-output = ap (λ v. settled v (told (held (stateIn l)) c) (lentTo c)) own-verdict ∙ sym (output-is (stateIn l) c)
 
-pub as-answers : AsAnswers
-as-answers l cs c room =
-    let e = as-run l cs room in
-    let long : recordSize ≤ length (cRun l cs .numbers) = omega (arith, run-long l cs) in
-    (own-verdict (cRun l cs) long c ∙ ap (λ s. answer s c) e, own-output (cRun l cs) long c ∙ ap (λ s. output s c) e)
+module _ (l : Lent) (cs : List CCall) (room : recordSize ≤ length (l .numbers)) where
+  long : recordSize ≤ length (cRun l cs .numbers)
+  long = omega (arith, run-long l cs)
+
+  answers-as : (c : Call) → cVerdict (cRun l cs) false c ≡ answer (run (stateIn l) (flatMap callsOf cs)) c
+  answers-as c = own-verdict (cRun l cs) long c ∙ ap (λ s. answer s c) (as-run l cs room)
+
+  writes-as : (c : Call) → cOutput (cRun l cs) false c ≡ output (run (stateIn l) (flatMap callsOf cs)) c
+  writes-as c = own-output (cRun l cs) long c ∙ ap (λ s. output s c) (as-run l cs room)
+
+pub as-call : AsCall
+as-call l cs c room = (
+  answers-as l cs room (callOf c),
+  own-left (cRun l cs) (long l cs room) c ∙ ap (λ s. after s (callOf c)) (as-run l cs room),
+  writes-as l cs room (callOf c),
+)
+
+pub short-refused : TooShort
+short-refused l few c e = let t = too-short l few c e in (t .0, t .1 .0, t .1 .1)
 
 -- ---- the Block after it
 
@@ -114,21 +120,20 @@ had-room true l c e = absurd (by (lacks recordSize (l .numbers)) e)
     by false z = let y : _≡_ {A = ℕ} 0 1 = cc in omega arith
 
 pub c-demand3 : CDemand3
-unfolding filled headD
+unfolding filled output
 c-demand3 l cs p room ok =
     let block = makesBlocks (p .list) (recordsIn p) in
     let few = had-room (lacks 3 (p .result)) (cRun l cs) block ok in
-    let A = as-answers l cs block room in
     let s = run (stateIn l) (flatMap callsOf cs) in
-    let a : answer s block ≡ accepted = sym (A .0) ∙ ap (λ b. cVerdict (cRun l cs) b block) (sym few) ∙ ok in
+    let a : answer s block ≡ accepted = sym (answers-as l cs room block) ∙ ap (λ b. cVerdict (cRun l cs) b block) (sym few) ∙ ok in
     let shape = demand3 .shaped (stateIn l) (flatMap callsOf cs) (p .list) (recordsIn p) a in
     let F = shape .0 in
     let D = demand3 .guaranteed (stateIn l) (flatMap callsOf cs) (p .list) (shape .1) (recordsIn p) (shape .2) F (shape .3) in
     let o : cOutput (cRun l cs) (lacks 3 (p .result)) block ≡ record { numbers = figureNumbers F; lists = shape .1 ∷ []; records = shape .2 } =
-    ap (λ b. cOutput (cRun l cs) b block) few ∙ A .1 ∙ ap (λ (r : Response). r .output) (sym (demand1 .learns s block) ∙ shape .3) in (
+    ap (λ b. cOutput (cRun l cs) b block) few ∙ writes-as l cs room block ∙ ap (λ (r : Response). r .output) (shape .3) in (
       D .0,
       F,
       D .1,
       ap (λ (x : Output). over (x .numbers) (p .result)) o,
-      subst (Guaranteed (D .0) F) (sym (ap (λ (x : Output). headD (x .lists) []) o)) (D .2),
+      subst (Guaranteed (D .0) F) (sym (ap (λ (x : Output). firstList (x .lists)) o)) (D .2),
     )

@@ -1,7 +1,7 @@
 -- What the calls for C answer and leave. Assumes nothing.
 use Prim.Native.Nat.{ℕ, min}
 use mathlib.Core.Bool.{Bool, cond, _||_}
-use mathlib.Core.List.{List, [], _∷_, map, headD}
+use mathlib.Core.List.{List, [], _∷_, map}
 use lib.Dec.{ltb}
 use lib.ListN.{length, getD}
 use denote.Ref.{now}
@@ -9,7 +9,7 @@ use Rattle.lists.specs.Lists.{tabulate, over}
 use Rattle.study.specs.declared.BlockRecord.{BlockRecord}
 use Rattle.study.specs.Refusals.{number, Verdict, refused, settled}
 use Rattle.validity.specs.Memory.{State, LentList}
-use Rattle.access.specs.Calls.{Output, Call, begins, changes, asks, held, told, answer, after}
+use Rattle.access.specs.Calls.{held, Output, firstList, Call, begins, changes, asks, told, answer, after}
 use Rattle.access.specs.Calls.{lent as lentTo}
 use Rattle.metric_closure.specs.Closure.{loweredPairs}
 use Rattle.metric_closure.specs.Call.{entry, closeVerdict, closedTable}
@@ -41,9 +41,13 @@ cLeft l few (begins S) = left l (cVerdict l few (begins S)) (after (stateIn l) (
 cLeft l few (changes U) = left l (cVerdict l few (changes U)) (after (stateIn l) (changes U))
 cLeft l few (asks Q) = l
 
--- the numbers that it answers, which go to the front of the result, and what it is lent besides, as it then stands
+-- the numbers that it answers, and what it is lent besides, as it then stands
 unfoldable pub cOutput : Lent → Bool → Call → Output
 cOutput l few c = settled (cVerdict l few c) (told (held (stateIn l)) c) (lentTo c)
+
+-- a result of n places after it: the numbers over its front; with fewer places it is too short
+unfoldable pub cResult : ℕ → Lent → Call → List ℕ → List ℕ
+cResult n l c result = over (cOutput l (lacks n result) c .numbers) result
 
 -- ---- a call that divides the tides into blocks, lent a list, three columns with a place for each block, and a result
 
@@ -87,18 +91,12 @@ inColumn f rs old = over (map f rs) old
 unfoldable pub filled : Output → Places → Places
 filled o p =
     record {
-      list = headD (o .lists) [];
+      list = firstList (o .lists);
       centres = inColumn (λ r. r .centre) (o .records) (p .centres);
       sizes = inColumn (λ r. r .tides) (o .records) (p .sizes);
       diameters = inColumn (λ r. r .diameter) (o .records) (p .diameters);
       result = over (o .numbers) (p .result);
     }
-
--- ---- what a call writes of its own
-
--- these numbers where it is accepted
-unfoldable pub written : Verdict → List ℕ → List ℕ → List ℕ
-written v xs l = settled v (over xs l) l
 
 -- ---- the closure of a table of n rows of n (document 02: mending), lent 1 number for the pairs lowered. It looks at no dataset
 
@@ -112,4 +110,4 @@ mendTable n table result = settled (mendVerdict n table result) (closedTable n t
 
 -- the place for the pairs lowered after it
 unfoldable pub mendResult : ℕ → List ℕ → List ℕ → List ℕ
-mendResult n table result = written (mendVerdict n table result) (loweredPairs n (entry n table) ∷ []) result
+mendResult n table result = settled (mendVerdict n table result) (over (loweredPairs n (entry n table) ∷ []) result) result

@@ -25,13 +25,12 @@ pub mod tariff;
 
 ghost use mathlib.Core.Path.{_≡_};
 ghost use mathlib.Core.Bool.{false};
-ghost use mathlib.Core.List.{[], _∷_};
-ghost use Rattle.lists.specs.Lists.{over};
+ghost use Rattle.access.specs.Calls.{firstList};
 ghost use Rattle.dataset.specs.Calls.{opensDataset, setsMinima, entersTide, withdrawsTide};
 ghost use Rattle.study_file.specs.Calls.{readsFile, writesFile};
 ghost use Rattle.blocking.specs.Calls.{entryLists, exitLists, allThree, findsCentres, makesBlocks, judgesList};
-ghost use Rattle.c_records.specs.Record.{lent, entryLent, exitLent, minimaAt, code};
-ghost use Rattle.c_api.specs.Api.{lacks, cVerdict, cLeft, cOutput};
+ghost use Rattle.c_records.specs.Record.{entryLent, exitLent, minimaAt, code};
+ghost use Rattle.c_api.specs.Api.{lacks, cVerdict, cLeft, cOutput, cResult};
 ghost use Rattle.c_api.specs.Api.{entryPlaces, exitPlaces, recordsIn, filled};
 
 // Open: an empty dataset with k settings.
@@ -43,8 +42,7 @@ pub extern "C" fn tides_open(
     k: u32,
 ) -> u32
     ensures code { λ r. ⌜ r ≡ code (cVerdict (entryLent numbers distances settings) false (opensDataset k)) ⌝ }
-    ensures leaves { λ _. ⌜ exitLent numbers distances settings
-        ≡ cLeft (entryLent numbers distances settings) false (opensDataset k) ⌝ }
+    ensures leaves { λ _. ⌜ exitLent numbers distances settings ≡ cLeft (entryLent numbers distances settings) false (opensDataset k) ⌝ }
 {
     if numbers.len() < RECORD_SIZE {
         return 1;
@@ -63,7 +61,7 @@ pub extern "C" fn tides_minima(
 ) -> u32
     ensures code { λ r. ⌜ r
         ≡ code (cVerdict (entryLent numbers distances settings) (lacks 9 (now (minima .entry))) (setsMinima (minimaAt 0 (now (minima .entry))))) ⌝ }
-    ensures leaves { λ _. ⌜ lent (now (numbers .exit)) (now (distances .entry)) (now (settings .entry))
+    ensures leaves { λ _. ⌜ exitLent numbers distances settings
         ≡ cLeft (entryLent numbers distances settings) (lacks 9 (now (minima .entry))) (setsMinima (minimaAt 0 (now (minima .entry)))) ⌝ }
 {
     if numbers.len() < RECORD_SIZE {
@@ -167,8 +165,7 @@ pub extern "C" fn tides_centres(
     ensures lists { λ _. ⌜ allThree (exitLists list nearest away)
         ≡ cOutput (entryLent numbers distances settings) (lacks 1 (now (count .entry))) (findsCentres g (entryLists list nearest away)) .lists ⌝ }
     ensures count { λ _. ⌜ now (count .exit)
-        ≡ over (cOutput (entryLent numbers distances settings) (lacks 1 (now (count .entry))) (findsCentres g (entryLists list nearest away)) .numbers)
-        (now (count .entry)) ⌝ }
+        ≡ cResult 1 (entryLent numbers distances settings) (findsCentres g (entryLists list nearest away)) (now (count .entry)) ⌝ }
 {
     if numbers.len() < RECORD_SIZE {
         return 1;
@@ -247,7 +244,7 @@ pub extern "C" fn tides_judge(
     ensures code { λ r. ⌜ r
         ≡ code (cVerdict (entryLent numbers distances settings) (lacks 2 (now (result .entry))) (judgesList (now (list .entry)))) ⌝ }
     ensures result { λ _. ⌜ now (result .exit)
-        ≡ over (cOutput (entryLent numbers distances settings) (lacks 2 (now (result .entry))) (judgesList (now (list .entry))) .numbers) (now (result .entry)) ⌝ }
+        ≡ cResult 2 (entryLent numbers distances settings) (judgesList (now (list .entry))) (now (result .entry)) ⌝ }
 {
     if numbers.len() < RECORD_SIZE {
         return 1;
@@ -282,10 +279,10 @@ pub extern "C" fn tides_write(
 ) -> u32
     ensures code { λ r. ⌜ r
         ≡ code (cVerdict (entryLent numbers distances settings) (lacks 1 (now (result .entry))) (writesFile (now (file .entry)))) ⌝ }
-    ensures file { λ _. ⌜ now (file .exit) ∷ []
-        ≡ cOutput (entryLent numbers distances settings) (lacks 1 (now (result .entry))) (writesFile (now (file .entry))) .lists ⌝ }
+    ensures file { λ _. ⌜ now (file .exit)
+        ≡ firstList (cOutput (entryLent numbers distances settings) (lacks 1 (now (result .entry))) (writesFile (now (file .entry))) .lists) ⌝ }
     ensures length { λ _. ⌜ now (result .exit)
-        ≡ over (cOutput (entryLent numbers distances settings) (lacks 1 (now (result .entry))) (writesFile (now (file .entry))) .numbers) (now (result .entry)) ⌝ }
+        ≡ cResult 1 (entryLent numbers distances settings) (writesFile (now (file .entry))) (now (result .entry)) ⌝ }
 {
     if numbers.len() < RECORD_SIZE {
         return 1;

@@ -15,9 +15,9 @@ use Rattle.study.specs.Numbers.{saidBy}
 use Rattle.study.specs.Calls.{triangle, Pair, violations, firstViolation}
 use Rattle.study.proofs.LadderLaws.{ladder-either}
 use Rattle.validity.specs.Memory.{State, short, isDataset, contentsOf}
-use Rattle.access.specs.Calls.{Caller, Source, Update, Inquiry, begins, changes, asks, verdict, reasons, answer}
+use Rattle.access.specs.Calls.{Holding, holdingOf, Caller, Source, Update, Inquiry, begins, changes, asks, answer}
 use Rattle.access.specs.Passed.{heldAnswer}
-use Rattle.access.proofs.AccessLaws.{ladder-is, update-answer, inquiry-answer}
+use Rattle.access.proofs.AccessLaws.{ladder-is, source-answer, update-answer, inquiry-answer}
 use Rattle.c_records.specs.Record.{code}
 use Rattle.c_records.specs.Records.{Narrow}
 
@@ -89,19 +89,19 @@ module _ (dist : ℕ → ℕ → ℕ) (n : ℕ) (new : ℕ → ℕ) (few : n ≤
 
 module _ (s : State) where
   pub source-narrow : (S : Source) → AllNarrow (S .own) → Narrow (answer s (begins S))
-  unfolding answer response learnt verdict reasons freshReasons
-  source-narrow S h = first-narrow (freshReasons (short s) (S .own)) (small tt, h)
+  unfolding freshReasons
+  source-narrow S h = subst Narrow (sym (source-answer s S)) (first-narrow (freshReasons (short s) (S .own)) (small tt, h))
 
-  held-narrow : (by : Caller) (own : Contents → List Reason) → (isDataset s ≡ true → AllNarrow (own (contentsOf s))) → Narrow (heldAnswer s by own)
+  held-narrow : (by : Caller) (own : Holding → List Reason) → (isDataset s ≡ true → AllNarrow (own (holdingOf s))) → Narrow (heldAnswer s by own)
   unfolding heldReasons freshReasons
   held-narrow by own f =
       subst Narrow (ladder-is s by own)
-      (ladder-either (short s) (by .users) (isDataset s) Narrow (own (contentsOf s))
+      (ladder-either (short s) (by .users) (isDataset s) Narrow (own (holdingOf s))
       (first-narrow (heldReasons (short s) (by .users) (isDataset s) []) (small tt, (small tt, (small tt, tt))))
-      (λ A. first-narrow (own (contentsOf s)) (f (A .tested))))
+      (λ A. first-narrow (own (holdingOf s)) (f (A .tested))))
 
-  pub update-narrow : (U : Update) → (isDataset s ≡ true → AllNarrow (U .own (contentsOf s))) → Narrow (answer s (changes U))
+  pub update-narrow : (U : Update) → (isDataset s ≡ true → AllNarrow (U .own (holdingOf s))) → Narrow (answer s (changes U))
   update-narrow U f = subst Narrow (sym (update-answer s U)) (held-narrow (U .caller) (U .own) f)
 
-  pub inquiry-narrow : (Q : Inquiry) → AllNarrow (Q .own (contentsOf s)) → Narrow (answer s (asks Q))
+  pub inquiry-narrow : (Q : Inquiry) → AllNarrow (Q .own (holdingOf s)) → Narrow (answer s (asks Q))
   inquiry-narrow Q h = subst Narrow (sym (inquiry-answer s Q)) (held-narrow (Q .caller) (Q .own) (λ _. h))

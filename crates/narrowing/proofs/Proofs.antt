@@ -16,18 +16,19 @@ use Rattle.lists.proofs.Counts.{sum-suc}
 use Rattle.lists.proofs.Counting.{sum-front}
 use Rattle.study.specs.declared.Minima.{Minima}
 use Rattle.study.specs.Minima.{Acceptable}
-use Rattle.study.specs.Study.{Study, Contents, size, validMinima}
-use Rattle.study.specs.Refusals.{Verdict, accepted, refused, settled, Reason, firstOf, freshReasons, isUser, heldReasons}
+use Rattle.study.specs.Study.{Study, size, validMinima}
+use Rattle.study.specs.Refusals.{number, Verdict, accepted, refused, settled, _⇒_, firstOf, freshReasons, isUser}
 use Rattle.study.specs.Calls.{openReasons, opening, understood, minimaReasons, settingMinima, enterReasons, entering, withdrawReasons, withdrawing}
 use Rattle.study.specs.Theorems.{ValidContents}
 use Rattle.study.proofs.CallLaws.{none-holds}
+use Rattle.study.proofs.ReasonLaws.{firstOf-after}
 use Rattle.study.proofs.LadderLaws.{ladder-same}
 use Rattle.study.proofs.MinimaLaws.{fit-acceptable, acceptable-T}
-use Rattle.validity.specs.Memory.{State, stateOf, setK, setMinima, short, isDataset, contentsOf, stored}
+use Rattle.validity.specs.Memory.{State, stateOf, setK, setMinima, short, isDataset, contentsOf}
 use Rattle.validity.specs.Validity.{IsStudy}
 use Rattle.validity.proofs.Proofs.{for-datasets}
-use Rattle.access.specs.Calls.{Update, Call, changes, held, verdict, reasons, answer, made, after}
-use Rattle.access.proofs.AccessLaws.{source-accepted, ladder-is, accepted-held, user-place, update-answer}
+use Rattle.access.specs.Calls.{Holding, fresh, onContents, holdingOf, held, kept, Source, Update, Call, begins, changes, answer, made, after}
+use Rattle.access.proofs.AccessLaws.{ladder-is, accepted-held, user-place, source-answer, source-accepted, update-answer}
 use Rattle.dataset.specs.Calls.{opensDataset, setsMinima, entersTide, withdrawsTide}
 use Rattle.narrowing.specs.Narrowing.{narrowed, narrowMinima, narrowDataset, narrowState, Alike, Unchanged}
 
@@ -123,11 +124,11 @@ enter-same S x row few =
 -- ---- a call given other arguments: the same first reason, and the same contents where none holds
 
 module _ (s : State) where
-  leaves-same : {v w : Verdict} {new new′ : Contents} → w ≡ v → (v ≡ accepted → new′ ≡ new) → settled w (stored new′ s) s ≡ settled v (stored new s) s
-  leaves-same {v} {w} {new} {new′} e f = ap (λ u. settled u (stored new′ s) s) e ∙ by v f
+  leaves-same : {v w : Verdict} {new new′ : Holding} → w ≡ v → (v ≡ accepted → new′ ≡ new) → settled w (kept new′ s) s ≡ settled v (kept new s) s
+  leaves-same {v} {w} {new} {new′} e f = ap (λ u. settled u (kept new′ s) s) e ∙ by v f
     where
-      by : (u : Verdict) → (u ≡ accepted → new′ ≡ new) → settled u (stored new′ s) s ≡ settled u (stored new s) s
-      by accepted g = ap (λ H. stored H s) (g refl)
+      by : (u : Verdict) → (u ≡ accepted → new′ ≡ new) → settled u (kept new′ s) s ≡ settled u (kept new s) s
+      by accepted g = ap (λ H. kept H s) (g refl)
       by (refused r) g = refl
 
   valid : isDataset s ≡ true → ValidContents (contentsOf s)
@@ -135,12 +136,12 @@ module _ (s : State) where
 
   -- two updates; of a user who is none nothing else matters
   module _ (U W : Update) (users-same : allOf isUser (W .caller .users) ≡ allOf isUser (U .caller .users))
-      (same : (H : Contents) → ValidContents H → allOf isUser (U .caller .users) ≡ true → firstOf (W .own H) ≡ firstOf (U .own H))
-      (makes-same : (H : Contents) → ValidContents H → allOf isUser (U .caller .users) ≡ true → firstOf (U .own H) ≡ accepted
+      (same : (H : Holding) → ValidContents (H .contents) → allOf isUser (U .caller .users) ≡ true → firstOf (W .own H) ≡ firstOf (U .own H))
+      (makes-same : (H : Holding) → ValidContents (H .contents) → allOf isUser (U .caller .users) ≡ true → firstOf (U .own H) ≡ accepted
       → W .makes H ≡ U .makes H) where
     answer-same : answer s (changes W) ≡ answer s (changes U)
     answer-same =
-        let H = contentsOf s in
+        let H = holdingOf s in
         update-answer s W ∙ sym (ladder-is s (W .caller) (W .own))
         ∙ ladder-same (short s) (U .caller .users) (W .caller .users) (isDataset s) (U .own H) (W .own H) users-same
         (λ A. same H (valid (A .tested)) (A .known))
@@ -152,7 +153,7 @@ module _ (s : State) where
       answer-same,
       leaves-same answer-same (λ e.
           let A = accepted-held s (U .caller) (U .own) (sym (update-answer s U) ∙ e) in
-          makes-same (contentsOf s) (valid (A .tested)) (A .known) (A .reasons)),
+          makes-same (holdingOf s) (valid (A .tested)) (A .known) (A .reasons)),
     )
 
   -- ---- the record itself
@@ -186,11 +187,19 @@ module _ (s : State) where
   within : isDataset s ≡ true → narrowState s ≡ s
   within f = ⊎-elim (λ e. e) (λ n. absurd (true≢false (sym f ∙ n .1))) cut-or-none
 
+  -- two calls that begin anew
+  source-same : (S W : Source) → firstOf (W .own) ≡ firstOf (S .own) → (firstOf (S .own) ≡ accepted → W .brings ≡ S .brings)
+      → Alike s (begins W) (begins S)
+  unfolding after made freshReasons
+  source-same S W same brings-same =
+      let e = source-answer s W ∙ firstOf-after ((short s ⇒ number 1) ∷ []) (W .own) (S .own) (λ _. same) ∙ sym (source-answer s S) in
+      (e, leaves-same e (λ a. ap fresh (brings-same (source-accepted s S a .1))))
+
   open-same : (k : ℕ) → Alike s (opensDataset (narrowed k)) (opensDataset k)
-  unfolding opensDataset answer response learnt verdict reasons after made openReasons
+  unfolding opensDataset openReasons
   open-same k =
-      let e : answer s (opensDataset (narrowed k)) ≡ answer s (opensDataset k) = rw (between-same 8 k (omega arith)) in
-      (e, leaves-same e (λ a. ap opening (between-uncut 8 k (omega arith) (none-holds (openReasons k) (source-accepted s (record { own = openReasons k; brings = opening k }) a .1) .0))))
+      source-same _ _ (rw (between-same 8 k (omega arith)))
+      (λ a. ap opening (between-uncut 8 k (omega arith) (none-holds (openReasons k) a .0)))
 
 pub unchanged : (s : State) → Unchanged s
 unfolding setsMinima entersTide withdrawsTide minimaReasons enterReasons withdrawReasons
@@ -198,17 +207,18 @@ unchanged s =
     record {
       on-open = open-same s;
       on-minima = λ M.
-          update-same s _ _ refl (λ H ok k. rw (valid-same (H .study .k) M))
-          (λ H ok k a. ap (λ N. settingMinima N H) (valid-uncut (H .study .k) M (none-holds (minimaReasons (H .study) M) a .0)));
+          update-same s _ _ refl (λ H ok k. rw (valid-same (H .contents .study .k) M))
+          (λ H ok k a. ap (λ N. onContents (settingMinima N) H)
+          (valid-uncut (H .contents .study .k) M (none-holds (minimaReasons (H .contents .study) M) a .0)));
       on-enter = λ x row.
-          update-same s _ _ refl (λ H ok k. enter-same (H .study) x row (omega (arith, ok .study .k-high)))
-          (λ H ok k a. ap (λ y. entering y row H)
-          (between-uncut (H .study .k) x (omega (arith, ok .study .k-high)) (none-holds (enterReasons (H .study) x row) a .1 .1 .0)));
+          update-same s _ _ refl (λ H ok k. enter-same (H .contents .study) x row (omega (arith, ok .study .k-high)))
+          (λ H ok k a. ap (λ y. onContents (entering y row) H)
+          (between-uncut (H .contents .study .k) x (omega (arith, ok .study .k-high)) (none-holds (enterReasons (H .contents .study) x row) a .1 .1 .0)));
       on-withdraw = λ u t.
           update-same s _ _ (users-same u)
-          (λ H ok k. rw (user-uncut u k, between-same (size (H .study)) t (omega (arith, ok .study .few))))
-          (λ H ok k a. ap₂ (λ v x. withdrawing v x H) (user-uncut u k)
-          (between-uncut (size (H .study)) t (omega (arith, ok .study .few)) (none-holds (withdrawReasons H u t) a .0)));
+          (λ H ok k. rw (user-uncut u k, between-same (size (H .contents .study)) t (omega (arith, ok .study .few))))
+          (λ H ok k a. ap₂ (λ v x. onContents (withdrawing v x) H) (user-uncut u k)
+          (between-uncut (size (H .contents .study)) t (omega (arith, ok .study .few)) (none-holds (withdrawReasons (H .contents) u t) a .0)));
       on-record = held-same s;
       within = within s;
     }

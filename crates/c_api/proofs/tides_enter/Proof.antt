@@ -1,14 +1,12 @@
 -- A record that is too short is refused 1; otherwise the call's own contract, on the record as the code holds it. No loop. Assumes nothing.
 use borrow.Author.Needs.{needs}
 use mathlib.Core.Path.{refl}
-use Rattle.dataset.specs.Calls.{entersTide}
-use Rattle.c_api.proofs.CallLaws.{record-short, enter-sound, storable, update-too-short, update-left, enter-given}
+use Rattle.c_api.proofs.CallLaws.{record-short, enter-sound, storable, left-too-short, call-left, enter-given}
 use Rattle.c_api.proofs.tides_enter.Statement.{statement}
 use Rattle.c_api.proofs.tides_enter.Tie as tie
 
 returns : tie.Need-returns
-unfolding entersTide
-returns c = update-too-short _ _ _ (record-short _ _ (c .if1 .taken))
+returns c = left-too-short _ _ _ (record-short _ _ (c .if1 .taken))
 
 store-outcome-requires : tie.Need-store-outcome-requires
 store-outcome-requires c κs =
@@ -16,13 +14,12 @@ store-outcome-requires c κs =
     storable _ (enter-sound _ _ _) (called .before .before .before .before .before .before .if1 .left) (called .enter .ensures)
 
 returns-2 : tie.Need-returns-2
-unfolding entersTide
 returns-2 c =
     let settled = c .before .before in
     let called = settled .before .before .before .before .before .before in
     let got = called .before .before .before .before in
-    update-left (record { room = got .before .before .if1 .left; held = got .dataset-of .ensures; settles = settled .store-outcome .ensures }) refl _
-    (enter-given _ _ _ (called .before .narrow .ensures) (called .enter .ensures))
+    call-left (record { room = got .before .before .if1 .left; held = got .dataset-of .ensures; settles = settled .store-outcome .ensures }) refl
+    (enter-sound _ _ _) (enter-given _ _ _ (called .before .narrow .ensures) (called .enter .ensures))
 
 pub tides-enter-spec : {M : Type 1} → statement M
 tides-enter-spec =

@@ -3,17 +3,15 @@ use borrow.Author.Needs.{needs}
 use mathlib.Core.Path.{refl}
 use Rattle.dataset.specs.Calls.{setsMinima}
 use Rattle.narrowing.proofs.Proofs.{as-given}
-use Rattle.c_api.proofs.CallLaws.{lacks-yes, lacks-no, record-short, list-short, minima-sound, storable, update-too-short, update-left}
+use Rattle.c_api.proofs.CallLaws.{lacks-yes, lacks-no, record-short, list-short, minima-sound, storable, left-too-short, call-left}
 use Rattle.c_api.proofs.tides_minima.Statement.{statement}
 use Rattle.c_api.proofs.tides_minima.Tie as tie
 
 returns : tie.Need-returns
-unfolding setsMinima
-returns c = update-too-short _ _ _ (record-short _ _ (c .if1 .taken))
+returns c = left-too-short _ _ _ (record-short _ _ (c .if1 .taken))
 
 returns-2 : tie.Need-returns-2
-unfolding setsMinima
-returns-2 c = update-too-short _ _ _ (list-short _ (lacks-yes 9 _ (c .if2 .taken)))
+returns-2 c = left-too-short _ _ _ (list-short _ (lacks-yes 9 _ (c .if2 .taken)))
 
 store-outcome-requires : tie.Need-store-outcome-requires
 store-outcome-requires c κs =
@@ -21,13 +19,12 @@ store-outcome-requires c κs =
     storable _ (minima-sound _ _) (called .before .before .before .before .before .if1 .left) (called .set-minima .ensures)
 
 returns-3 : tie.Need-returns-3
-unfolding setsMinima
 returns-3 c =
     let settled = c .before .before in
     let called = settled .before .before in
     let got = called .before .before in
-    update-left (record { room = got .before .before .before .if1 .left; held = got .dataset-of .ensures; settles = settled .store-outcome .ensures })
-    (lacks-no 9 _ (got .before .before .if2 .left)) _
+    call-left (record { room = got .before .before .before .if1 .left; held = got .dataset-of .ensures; settles = settled .store-outcome .ensures })
+    (lacks-no 9 _ (got .before .before .if2 .left)) (minima-sound _ _)
     (as-given _ setsMinima _ (called .before .minima-of .ensures) (refl, refl) (called .set-minima .ensures))
 
 pub tides-minima-spec : {M : Type 1} → statement M

@@ -3,13 +3,12 @@ use borrow.Author.Needs.{needs}
 use mathlib.Core.Path.{refl}
 use Rattle.dataset.specs.Calls.{opensDataset}
 use Rattle.narrowing.proofs.Proofs.{unchanged, as-given}
-use Rattle.c_api.proofs.CallLaws.{record-short, open-sound, storable, source-too-short, source-left}
+use Rattle.c_api.proofs.CallLaws.{record-short, open-sound, storable, left-too-short, call-left}
 use Rattle.c_api.proofs.tides_open.Statement.{statement}
 use Rattle.c_api.proofs.tides_open.Tie as tie
 
 returns : tie.Need-returns
-unfolding opensDataset
-returns c = source-too-short _ _ _ (record-short _ _ (c .if1 .taken))
+returns c = left-too-short _ _ _ (record-short _ _ (c .if1 .taken))
 
 store-outcome-requires : tie.Need-store-outcome-requires
 store-outcome-requires c κs =
@@ -17,13 +16,12 @@ store-outcome-requires c κs =
     storable _ (open-sound _ _) (called .before .before .before .before .before .before .if1 .left) (called .«open» .ensures)
 
 returns-2 : tie.Need-returns-2
-unfolding opensDataset
 returns-2 c =
     let settled = c .before .before in
     let called = settled .before .before .before .before .before .before in
     let got = called .before .before .before .before in
-    source-left (record { room = got .before .before .if1 .left; held = got .dataset-of .ensures; settles = settled .store-outcome .ensures }) refl _
-    (as-given _ opensDataset _ (called .before .narrow .ensures) (unchanged _ .on-open _) (called .«open» .ensures))
+    call-left (record { room = got .before .before .if1 .left; held = got .dataset-of .ensures; settles = settled .store-outcome .ensures }) refl
+    (open-sound _ _) (as-given _ opensDataset _ (called .before .narrow .ensures) (unchanged _ .on-open _) (called .«open» .ensures))
 
 pub tides-open-spec : {M : Type 1} → statement M
 tides-open-spec =

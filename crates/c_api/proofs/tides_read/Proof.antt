@@ -1,14 +1,12 @@
 -- A record that is too short is refused 1; otherwise the call's own contract, on the record as the code holds it. No loop. Assumes nothing.
 use borrow.Author.Needs.{needs}
 use mathlib.Core.Path.{refl}
-use Rattle.study_file.specs.Calls.{readsFile}
-use Rattle.c_api.proofs.CallLaws.{record-short, read-sound, storable, source-too-short, source-left}
+use Rattle.c_api.proofs.CallLaws.{record-short, read-sound, storable, left-too-short, call-left}
 use Rattle.c_api.proofs.tides_read.Statement.{statement}
 use Rattle.c_api.proofs.tides_read.Tie as tie
 
 returns : tie.Need-returns
-unfolding readsFile
-returns c = source-too-short _ _ _ (record-short _ _ (c .if1 .taken))
+returns c = left-too-short _ _ _ (record-short _ _ (c .if1 .taken))
 
 store-outcome-requires : tie.Need-store-outcome-requires
 store-outcome-requires c κs =
@@ -16,13 +14,12 @@ store-outcome-requires c κs =
     storable _ (read-sound _ _) (called .before .before .before .before .before .if1 .left) (called .read .ensures)
 
 returns-2 : tie.Need-returns-2
-unfolding readsFile
 returns-2 c =
     let settled = c .before .before in
     let called = settled .before .before .before .before .before .before in
     let got = called .before .before .before in
-    source-left (record { room = got .before .before .if1 .left; held = got .dataset-of .ensures; settles = settled .store-outcome .ensures }) refl _
-    (called .read .ensures)
+    call-left (record { room = got .before .before .if1 .left; held = got .dataset-of .ensures; settles = settled .store-outcome .ensures }) refl
+    (read-sound _ _) (called .read .ensures)
 
 pub tides-read-spec : {M : Type 1} → statement M
 tides-read-spec =

@@ -1,14 +1,12 @@
 -- A record that is too short is refused 1; otherwise the call's own contract, on the record as the code holds it. No loop. Assumes nothing.
 use borrow.Author.Needs.{needs}
 use mathlib.Core.Path.{refl}
-use Rattle.dataset.specs.Calls.{withdrawsTide}
-use Rattle.c_api.proofs.CallLaws.{record-short, withdraw-sound, storable, update-too-short, update-left, withdraw-given}
+use Rattle.c_api.proofs.CallLaws.{record-short, withdraw-sound, storable, left-too-short, call-left, withdraw-given}
 use Rattle.c_api.proofs.tides_withdraw.Statement.{statement}
 use Rattle.c_api.proofs.tides_withdraw.Tie as tie
 
 returns : tie.Need-returns
-unfolding withdrawsTide
-returns c = update-too-short _ _ _ (record-short _ _ (c .if1 .taken))
+returns c = left-too-short _ _ _ (record-short _ _ (c .if1 .taken))
 
 store-outcome-requires : tie.Need-store-outcome-requires
 store-outcome-requires c κs =
@@ -16,15 +14,14 @@ store-outcome-requires c κs =
     storable _ (withdraw-sound _ _ _) (called .before .before .before .before .before .before .before .if1 .left) (called .withdraw .ensures)
 
 returns-2 : tie.Need-returns-2
-unfolding withdrawsTide
 returns-2 c =
     let settled = c .before .before in
     let called = settled .before .before .before .before .before .before in
     let of-tide = called .before in
     let of-user = of-tide .before in
     let got = of-user .before .before .before in
-    update-left (record { room = got .before .before .if1 .left; held = got .dataset-of .ensures; settles = settled .store-outcome .ensures }) refl _
-    (withdraw-given _ _ _ (of-user .narrow .ensures) (of-tide .narrow2 .ensures) (called .withdraw .ensures))
+    call-left (record { room = got .before .before .if1 .left; held = got .dataset-of .ensures; settles = settled .store-outcome .ensures }) refl
+    (withdraw-sound _ _ _) (withdraw-given _ _ _ (of-user .narrow .ensures) (of-tide .narrow2 .ensures) (called .withdraw .ensures))
 
 pub tides-withdraw-spec : {M : Type 1} → statement M
 tides-withdraw-spec =

@@ -2,15 +2,16 @@
 use borrow.Author.Needs.{needs}
 use native.Mathlib.Omega.{arith}
 use Rattle.c_api.proofs.CallLaws.{lacks-yes, record-short, list-short}
-use Rattle.c_api.proofs.OutputLaws.{why-narrow, size-fits, write-too-short, write-refused, write-done}
+use Rattle.c_api.proofs.OutputLaws.{answered-short, answered-refused, answered-one, write-lent, write-why, why-narrow}
+use Rattle.c_api.proofs.OutputLaws.{write-numbers, size-fits}
 use Rattle.c_api.proofs.tides_write.Statement.{statement}
 use Rattle.c_api.proofs.tides_write.Tie as tie
 
 returns : tie.Need-returns
-returns c = write-too-short _ _ _ (record-short _ _ (c .if1 .taken))
+returns c = answered-short (write-lent _) 1 _ _ (record-short _ _ (c .if1 .taken))
 
 returns-2 : tie.Need-returns-2
-returns-2 c = write-too-short _ _ _ (list-short _ (lacks-yes 1 _ (c .if2 .taken)))
+returns-2 c = answered-short (write-lent _) 1 _ _ (list-short _ (lacks-yes 1 _ (c .if2 .taken)))
 
 refusal-code-requires : tie.Need-refusal-code-requires
 refusal-code-requires c κs = why-narrow _ _ _ (c .before .before .before .before .before .write .ensures .0) (c .before .written .given .1)
@@ -22,15 +23,17 @@ returns-3 : tie.Need-returns-3
 returns-3 c =
     let called = c .before .before .before .before .before .before in
     let got = called .before .before in
-    write-refused _ _ _ (record { room = got .before .before .if1 .left; enough = got .before .if2 .left; held = got .dataset-of .ensures }) _
-    (called .write .ensures .0) (called .write .ensures .1) (c .before .before .written .given .1) (c .refusal-code .ensures)
+    answered-refused (write-lent _) 1 _ _
+    (record { room = got .before .before .if1 .left; enough = got .before .if2 .left; held = got .dataset-of .ensures })
+    (called .write .ensures .1) (write-why _ _ _ (called .write .ensures .0) (c .before .before .written .given .1)) (c .refusal-code .ensures)
 
 returns-4 : tie.Need-returns-4
 returns-4 c =
     let called = c .before .before .before .before .before in
     let got = called .before .before in
-    write-done _ _ _ (record { room = got .before .before .if1 .left; enough = got .before .if2 .left; held = got .dataset-of .ensures }) _
-    (called .write .ensures .0) (called .write .ensures .1) (c .before .written2 .given .1)
+    answered-one (write-lent _) _ _
+    (record { room = got .before .before .if1 .left; enough = got .before .if2 .left; held = got .dataset-of .ensures })
+    (called .write .ensures .1) (write-numbers _ _ _ (called .write .ensures .0) (c .before .written2 .given .1))
 
 pub tides-write-spec : {M : Type 1} → statement M
 tides-write-spec =
