@@ -87,7 +87,7 @@ fn understood(minima: Minima) -> Minima
 // Replaces the minima by those understood. The memory is only read.
 pub fn set_minima(dataset: Dataset, distances: &[u32], settings: &[u8], minima: Minima) -> Outcome
     ensures answer { λ r. ⌜ verdictOf (r .answer) ≡ answer (entryState dataset distances settings) (setsMinima minima) ⌝ }
-    ensures leaves { λ r. ⌜ entryState (r .dataset) distances settings ≡ after (entryState dataset distances settings) (setsMinima minima) ⌝ }
+    ensures leaves { λ r. ⌜ exitState (r .dataset) distances settings ≡ after (entryState dataset distances settings) (setsMinima minima) ⌝ }
 {
     let answer = access::check(dataset, distances, settings);
     let Answer::Done = answer else {

@@ -14,7 +14,7 @@ use Rattle.study.specs.declared.Refusal.{Refusal}
 use Rattle.study.specs.declared.Answer.{Answer}
 use Rattle.study.specs.declared.Answer.the-variants.{Done, Refused}
 use Rattle.study.specs.Study.{Contents}
-use Rattle.study.specs.Refusals.{Numbered, numbered, Verdict, accepted, refused, verdictOf, settled, value, refusal, replied, firstOf, freshReasons}
+use Rattle.study.specs.Refusals.{Numbered, numbered, Verdict, accepted, refused, verdictOf, settled, value, refusal, replied, firstOf}
 use Rattle.study.specs.Theorems.{ValidContents}
 use Rattle.study.specs.Calls.{blockReasons, Figures, figures, blockRecord, blockedOf}
 use Rattle.study.specs.declared.Blocked.{Blocked}
@@ -25,9 +25,9 @@ use Rattle.file_format.proofs.Proofs.{files}
 use Rattle.validity.specs.Memory.{State, stateOf, short, isDataset, contentsOf, stored}
 use Rattle.validity.proofs.Proofs.{for-datasets}
 use Rattle.validity.proofs.LayoutLaws.{short-no}
-use Rattle.access.specs.Calls.{nobody, Output, Inquiry, Call, verdict, reasons, answer, reply, output, made, after}
-use Rattle.access.specs.Passed.{heldAnswer}
-use Rattle.access.proofs.AccessLaws.{held-own, inquiry-answer, reply-tells, output-tells}
+use Rattle.access.specs.Calls.{holdingOf, Output, Inquiry, Call, answer, reply, recordsAfter, made, after}
+use Rattle.access.specs.Passed.{Passed}
+use Rattle.access.proofs.AccessLaws.{passed-by, leaves, source-own, inquiry-own, reply-tells, output-tells}
 use Rattle.study_file.specs.Calls.{readsFile}
 use Rattle.blocking.specs.Calls.{blockInquiry, figureNumbers, makesBlocks, blockedReply}
 use Rattle.blocking.specs.Rows.{noRecord, noRecords}
@@ -57,7 +57,7 @@ figures-by (BlockedCase.Refused r) (refused x) F e = let z : numbered r ≡ x = 
 
 -- as the code prints what Block answers and leaves
 pub blocked-text : (s : State) {list : List ℕ} (a : Blocked) {rs : List BlockRecord} → list ≡ replicate 120 0
-    → blockedReply a ≡ reply s (makesBlocks list noRecords) → rs ≡ output s (makesBlocks list noRecords) .records
+    → blockedReply a ≡ reply s (makesBlocks list noRecords) → rs ≡ recordsAfter s (makesBlocks list noRecords)
     → sheetText (blockedOf a) rs (s .dataset .withdrawn) ≡ blockedText s
 unfolding blockedText makesBlocks contentsOf
 blocked-text s {list} a {rs} l e f =
@@ -71,7 +71,7 @@ blocked-text s {list} a {rs} l e f =
     Q = blockInquiry (λ S. figureNumbers (figures S)) list noRecords
 
     part : (v : Verdict) → let S = contentsOf s .study in
-        settled v (Q .tells (contentsOf s)) (Q .lent) .records ≡ settled v (overwrite (figures S .blocks) (blockRecord S) noRecords) noRecords
+        settled v (Q .tells (holdingOf s)) (Q .lent) .records ≡ settled v (overwrite (figures S .blocks) (blockRecord S) noRecords) noRecords
     part accepted = refl
     part (refused x) = refl
 
@@ -88,19 +88,20 @@ long-enough r =
 abbrev pub blank-block : Call
 blank-block = makesBlocks (replicate 120 0) noRecords
 
-blank-answer : (s : State) → answer s blank-block ≡ heldAnswer s nobody (λ C. blockReasons (C .study) 120 120)
+-- its own reasons answer
+blank-answer : (s : State) → Passed s → answer s blank-block ≡ firstOf (blockReasons (contentsOf s .study) 120 120)
 unfolding makesBlocks noRecords
-blank-answer s =
-    inquiry-answer s _
-    ∙ ap₂ (λ n m. heldAnswer s nobody (λ C. blockReasons (C .study) n m)) (length-replicate {A = ℕ} 120 0) (length-replicate 120 noRecord)
+blank-answer s P =
+    sym (inquiry-own s _ P refl)
+    ∙ ap₂ (λ n m. firstOf (blockReasons (contentsOf s .study) n m)) (length-replicate {A = ℕ} 120 0) (length-replicate 120 noRecord)
 
 module _ (file : List ℕ) (over : State) (long : short over ≡ false) where
   abbrev H : Contents
   H = decoded file
 
   own : answer over (readsFile file) ≡ firstOf (readReasons file)
-  unfolding readsFile answer response learnt verdict reasons freshReasons firstOf
-  own = rw long
+  unfolding readsFile
+  own = sym (source-own over _ long)
 
   module _ (ok : firstOf (readReasons file) ≡ accepted) where
     valid : ValidContents H
@@ -111,9 +112,7 @@ module _ (file : List ℕ) (over : State) (long : short over ≡ false) where
 
     verdict-is : answer (stored H over) blank-block ≡ firstOf (readReasons file ++ blockReasons (H .study) 120 120)
     verdict-is =
-        blank-answer (stored H over)
-        ∙ sym
-        (held-own (stored H over) (λ C. blockReasons (C .study) 120 120) (for-datasets .as-long H over long ∙ long)
+        blank-answer (stored H over) (passed-by (stored H over) (for-datasets .as-long H over long ∙ long)
         (T-true (isDataset (stored H over)) (for-datasets .laid-out H over valid)))
         ∙ ap (λ (C : Contents). firstOf (blockReasons (C .study) 120 120)) contents
         ∙ sym (firstOf-later (readReasons file) (blockReasons (H .study) 120 120) ok)
@@ -135,11 +134,11 @@ module _ (print : Verdict → Contents → List ℕ) where
 
   pub text-taken : (file : List ℕ) (over : State) → short over ≡ false → {a : Answer} → verdictOf a ≡ answer over (readsFile file)
       → {s : State} → a ≡ Done → s ≡ after over (readsFile file) → print (answer s blank-block) (contentsOf s) ≡ fileText print file
-  unfolding after made readsFile fileText
+  unfolding made readsFile fileText
   text-taken file over long told {s} e f =
       let q : answer over (readsFile file) ≡ accepted = sym told ∙ ap verdictOf e in
       let ok = sym (own file over long) ∙ q in
-      ap (λ t. print (answer t blank-block) (contentsOf t)) (f ∙ ap (λ v. settled v (stored (decoded file) over) over) q)
+      ap (λ t. print (answer t blank-block) (contentsOf t)) (f ∙ sym (leaves over _ (sym q)))
       ∙ ap₂ print (verdict-is file over long ok) (contents file over long ok)
 
 -- ---- the sheet

@@ -17,11 +17,11 @@ use Rattle.study.proofs.CallLaws.{opening-valid, minima-valid, entering-valid}
 use Rattle.study.specs.Calls.{openReasons, opening, minimaReasons, settingMinima, enterReasons, entering}
 use Rattle.study.specs.Refusals.{accepted, verdictOf, settled, isUser, firstOf, freshReasons}
 use Rattle.study.specs.Theorems.{ValidContents}
-use Rattle.validity.specs.Memory.{State, stateOf, short, studyOf, contentsOf, stored}
+use Rattle.validity.specs.Memory.{State, stateOf, short, studyOf, contentsOf}
 use Rattle.validity.proofs.ValidityLaws.{study-size}
-use Rattle.access.specs.Calls.{Update, changes, verdict, reasons, answer, made, after}
+use Rattle.access.specs.Calls.{holdingOf, kept, anew, Update, changes, answer, made, after}
 use Rattle.access.specs.Passed.{Passed}
-use Rattle.access.proofs.AccessLaws.{users-own, update-answer}
+use Rattle.access.proofs.AccessLaws.{source-own, update-own}
 use Rattle.dataset.specs.Calls.{opensDataset, setsMinima, entersTide}
 use Rattle.narrowing.specs.Narrowing.{narrowed, narrowMinima}
 use Rattle.narrowing.proofs.Proofs.{unchanged, as-given}
@@ -46,17 +46,19 @@ use Rattle.study_text.proofs.ReachedLaws.{Answers, call-reaches, call-b
 module _ {s t : State} {a : Answer} where
   open-answers : (k : ℕ) → short s ≡ false → (verdictOf a ≡ answer s (opensDataset k)) × (t ≡ after s (opensDataset k))
       → Answers s a t (firstOf (openReasons k)) (opening k)
-  unfolding opensDataset answer response learnt verdict reasons after made freshReasons firstOf
-  open-answers k e did = record { not-short = e; verdict = rw e at (did .0); leaves = rw e at (did .1); valid = opening-valid k }
+  unfolding opensDataset after made
+  open-answers k e (v, l) =
+      let own = sym (source-own s _ e) in
+      record { not-short = e; verdict = v ∙ own; leaves = l ∙ ap (λ w. settled w (anew (opening k) s) s) own; valid = opening-valid k }
 
   -- a change of a dataset in the name of users that there are
   update-answers : (U : Update) → allOf isUser (U .caller .users) ≡ true → Passed s → (verdictOf a ≡ answer s (changes U)) × (t ≡ after s (changes U))
-      → (firstOf (U .own (contentsOf s)) ≡ accepted → ValidContents (U .makes (contentsOf s)))
-      → Answers s a t (firstOf (U .own (contentsOf s))) (U .makes (contentsOf s))
+      → (firstOf (U .own (holdingOf s)) ≡ accepted → ValidContents (U .makes (holdingOf s) .contents))
+      → Answers s a t (firstOf (U .own (holdingOf s))) (U .makes (holdingOf s) .contents)
   unfolding after made
   update-answers U k P (v, l) ok =
-      let e = update-answer s U ∙ sym (users-own s (U .caller) (U .own) (P .not-short) k (P .tested)) in
-      record { not-short = P .not-short; verdict = v ∙ e; leaves = l ∙ ap (λ w. settled w (stored (U .makes (contentsOf s)) s) s) e; valid = ok }
+      let own = sym (update-own s U P k) in
+      record { not-short = P .not-short; verdict = v ∙ own; leaves = l ∙ ap (λ w. settled w (kept (U .makes (holdingOf s)) s) s) own; valid = ok }
 
   module _ (P : Passed s) where
     minima-answers : (M : Minima) → (verdictOf a ≡ answer s (setsMinima M)) × (t ≡ after s (setsMinima M))

@@ -3,16 +3,16 @@ use Prim.Native.Nat.{ℕ, _≤_, _<_}
 use native.Mathlib.Omega.{arith}
 use mathlib.Core.Path.{_≡_, refl, sym, ap, _∙_}
 use mathlib.Core.Bool.{Bool, true, false, cond}
-use mathlib.Core.List.{List, [], _∷_, headD}
+use mathlib.Core.List.{List, [], _∷_}
 use lib.Dec.{ltb}
 use lib.ListN.{length}
 use Rattle.lists.specs.Lists.{over}
 use borrow.Author.Tests.{lt-ltb, le-ltb}
 use Rattle.study.specs.Refusals.{number, numbered, Verdict, accepted, refused, settled, value, refusal, replied, firstOf}
 use Rattle.validity.specs.Memory.{State, stateOf, contentsOf}
-use Rattle.access.specs.Calls.{Output, answer, reply, output}
+use Rattle.access.specs.Calls.{Output, firstList, answer, reply, listAfter}
 use Rattle.access.specs.Passed.{Passed}
-use Rattle.access.proofs.AccessLaws.{held-own, inquiry-answer, reply-tells, output-tells}
+use Rattle.access.proofs.AccessLaws.{inquiry-own, reply-tells, output-tells}
 use Rattle.file_format.specs.File.{fileOf}
 use Rattle.study_file.specs.declared.Written.{Written}
 use Rattle.study_file.specs.declared.Written.the-variants as WrittenCase
@@ -53,7 +53,7 @@ module _ {s : State} (P : Passed s) (bytes : List ℕ) where
 
   write-verdict : answer s (writesFile bytes) ≡ cond short? (refused (number 1)) accepted
   unfolding writesFile writeReasons firstOf
-  write-verdict = inquiry-answer s _ ∙ sym (held-own s (λ H. writeReasons H (length bytes)) (P .not-short) (P .tested))
+  write-verdict = sym (inquiry-own s _ P refl)
 
   write-reply : reply s (writesFile bytes) ≡ cond short? (refusal (number 1)) (value (length file ∷ []))
   unfolding writesFile
@@ -63,13 +63,13 @@ module _ {s : State} (P : Passed s) (bytes : List ℕ) where
       by true = refl
       by false = refl
 
-  write-leaves : {new : List ℕ} → new ∷ [] ≡ output s (writesFile bytes) .lists → new ≡ written (ended (contentsOf s) 0) bytes
-  unfolding writesFile headD
+  write-leaves : {new : List ℕ} → new ≡ listAfter s (writesFile bytes) → new ≡ written (ended (contentsOf s) 0) bytes
+  unfolding writesFile
   write-leaves e =
-      ap (λ (ls : List (List ℕ)). headD ls []) (e ∙ ap (λ (o : Output). o .lists) (output-tells s _)) ∙ by (answer s (writesFile bytes)) short? write-verdict
+      e ∙ ap (λ (o : Output). firstList (o .lists)) (output-tells s _) ∙ by (answer s (writesFile bytes)) short? write-verdict
     where
       by : (v : Verdict) (t : Bool) → v ≡ cond t (refused (number 1)) accepted
-          → headD (settled v (told (length file ∷ []) (over file bytes)) (told [] bytes) .lists) [] ≡ cond t bytes (over file bytes)
+          → firstList (settled v (told (length file ∷ []) (over file bytes)) (told [] bytes) .lists) ≡ cond t bytes (over file bytes)
       by accepted true e = absurd (let z : _≡_ {A = ℕ} 0 1 = cc in omega arith)
       by accepted false e = refl
       by (refused r) true e = refl
@@ -85,13 +85,13 @@ module _ {end : Finished} {d s : List ℕ} {l : ℕ} (L : Live RuleCase.Entered 
       let n = length (fileOf (contentsOf (stateOf (end .dataset) d s))) in
       ap reportOf h ∙ told-written w l (ltb (length bytes) n) n (f ∙ write-reply (L l e) bytes) ∙ ap (λ t. answered t (length bytes)) finished-ended
 
-  write-left : {new : List ℕ} (bytes : List ℕ) → new ∷ [] ≡ output (stateOf (end .dataset) d s) (writesFile bytes) .lists
+  write-left : {new : List ℕ} (bytes : List ℕ) → new ≡ listAfter (stateOf (end .dataset) d s) (writesFile bytes)
       → new ≡ written (finishedOf end d s) bytes
   write-left bytes f = write-leaves (L l e) bytes f ∙ ap (λ t. written t bytes) finished-ended
 
   -- the report and the bytes of a text that came to its end
   pub write-ends : (w : Written) {v : Written} {p : Packed} {new : List ℕ} (bytes : List ℕ) → w ≡ v → p ≡ packedBy l v
-      → (writtenOf w ≡ reply (stateOf (end .dataset) d s) (writesFile bytes)) × (new ∷ [] ≡ output (stateOf (end .dataset) d s) (writesFile bytes) .lists)
+      → (writtenOf w ≡ reply (stateOf (end .dataset) d s) (writesFile bytes)) × (new ≡ listAfter (stateOf (end .dataset) d s) (writesFile bytes))
       → (reportOf p ≡ answered (finishedOf end d s) (length bytes)) × (new ≡ written (finishedOf end d s) bytes)
   write-ends w bytes e h did = (write-told w bytes (did .0) (h ∙ ap (packedBy l) (sym e)), write-left bytes (did .1))
 
