@@ -14,11 +14,11 @@ use Rattle.lists.proofs.Scans.{test-passes, test-fails}
 use Rattle.study.specs.declared.Refusal.{Refusal}
 use Rattle.study.specs.declared.Answer.{Answer}
 use Rattle.study.specs.declared.Answer.the-variants.{Done, Refused}
-use Rattle.study.specs.Refusals.{number, Numbered, numbered, Verdict, accepted, refused, verdictOf, settled, value, refusal, replied, Reason, firstOf}
+use Rattle.study.specs.Refusals.{number, Numbered, Verdict, accepted, refused, verdictOf, settled, value, refusal, replied, Reason, firstOf}
 use Rattle.study.specs.Refusals.{freshReasons, isUser, heldReasons}
 use Rattle.study.specs.Theorems.{ValidContents}
 use Rattle.study.proofs.LadderLaws.{Accepts, ladder-accepts, ladder-refuses}
-use Rattle.validity.specs.Memory.{State, short, isDataset, contentsOf, stored}
+use Rattle.validity.specs.Memory.{State, short, isDataset, contentsOf}
 use Rattle.validity.proofs.ValidityLaws.{isDataset-T, valid-contents}
 use Rattle.validity.proofs.LayoutLaws.{long}
 use Rattle.access.specs.Calls.{Caller, nobody, theUser, Source, Update, Output, Inquiry, Call, begins, changes, asks, Holding, holdingOf, held, onHeld}

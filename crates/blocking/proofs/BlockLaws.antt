@@ -8,7 +8,7 @@ use mathlib.Core.List.{List, [], _∷_, _++_}
 use lib.Dec.{T, leb, leb→le}
 use lib.ListN.{length, getD, drop}
 use borrow.Author.Tests.{le-leb, lt-leb}
-use Rattle.lists.specs.Lists.{countBelow, overwrite, over}
+use Rattle.lists.specs.Lists.{countBelow, overwrite}
 use Rattle.lists.proofs.Tests.{not-not, T-left, T-right}
 use Rattle.lists.proofs.Tables.{overwrite-none, overwrite-ext, getD-overwrite}
 use Rattle.study.specs.Limits.{cell, maxDistance}
@@ -30,7 +30,7 @@ use Rattle.blocking_core.specs.Core.{Blocks}
 use Rattle.validity.specs.Memory.{State, studyOf, contentsOf}
 use Rattle.validity.proofs.ValidityLaws.{study-size, valid-study}
 use Rattle.access.specs.Calls.{nobody, Output, firstList, lent, answer, reply, listAfter}
-use Rattle.access.specs.Passed.{Passed, heldAnswer}
+use Rattle.access.specs.Passed.{Passed}
 use Rattle.access.proofs.AccessLaws.{held-own, accepted-held, inquiry-answer, passed-by, replies-refusal, unwritten, replies, writes}
 use Rattle.blocking.specs.declared.block.BlockRows.{BlockRows}
 use Rattle.blocking.specs.Calls.{makesBlocks}
@@ -237,5 +237,6 @@ module _ (s : State) (list : List ℕ) (room : ℕ) where
         → Lending room (λ records. new ≡ listAfter s (makesBlocks list records))
     unfolding makesBlocks contentsOf
     block-list {new} e records k =
-        e ∙ ap₂ (λ (Q : Problem) (k : ℕ). blocking Q ++ drop k list) (sym (problem-of-arrays s (A .passed .study))) (sym (blocking-long s (A .passed) (A .enough)))
+        e ∙ ap₂ (λ (Q : Problem) (k : ℕ). blocking Q ++ drop k list) (sym (problem-of-arrays s (A .passed .study)))
+        (sym (blocking-long s (A .passed) (A .enough)))
         ∙ ap (λ (o : Output). firstList (o .lists)) (writes s _ (A .passed) (accepting records k))

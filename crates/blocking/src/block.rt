@@ -9,7 +9,6 @@ use study::MAX_DISTANCE;
 use study::MAX_TIDES;
 use study::Refusal;
 ghost use mathlib.Core.Path.{_≡_};
-ghost use lib.ListN.{length};
 ghost use Rattle.study.specs.Refusals.{verdictOf};
 ghost use Rattle.validity.specs.Memory.{entryState};
 ghost use Rattle.access.specs.Calls.{reply, listAfter};

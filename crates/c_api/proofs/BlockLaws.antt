@@ -15,7 +15,7 @@ use Rattle.study.specs.declared.Dataset.{Dataset}
 use Rattle.study.specs.declared.BlockRecord.{BlockRecord}
 use Rattle.study.specs.declared.Blocked.{Blocked}
 use Rattle.study.specs.declared.Blocked.the-variants as BlockedCase
-use Rattle.study.specs.Refusals.{Numbered, numbered, Verdict, accepted, refused, value}
+use Rattle.study.specs.Refusals.{Numbered, numbered, accepted, refused}
 use Rattle.study.specs.Calls.{blockReasons, figures}
 use Rattle.study.proofs.CallLaws.{reply-value}
 use Rattle.validity.specs.Memory.{State, studyOf, contentsOf}

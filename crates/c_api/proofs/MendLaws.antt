@@ -16,7 +16,7 @@ use Rattle.metric_closure.proofs.ClosureLaws.{lowered-few}
 use Rattle.metric_closure.proofs.TableLaws.{few-places}
 use Rattle.metric_closure.proofs.Proofs.{for-call}
 use Rattle.c_records.specs.Record.{code}
-use Rattle.c_api.specs.Api.{roomFirst, lacks, mendVerdict, mendTable, mendResult}
+use Rattle.c_api.specs.Api.{roomFirst, mendVerdict, mendTable, mendResult}
 use Rattle.c_records.specs.Records.{Narrow}
 use Rattle.c_records.proofs.CodeLaws.{small, first-narrow}
 use Rattle.c_api.proofs.CallLaws.{lacks-yes, lacks-no}

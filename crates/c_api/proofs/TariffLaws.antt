@@ -2,7 +2,7 @@
 use Prim.Native.Nat.{ℕ}
 use native.Mathlib.Omega.{arith}
 use mathlib.Core.Path.{_≡_, refl, sym, ap, _∙_}
-use mathlib.Core.List.{List, [], _∷_, _++_}
+use mathlib.Core.List.{List, [], _∷_}
 use lib.ListN.{length, getD, take, drop, replicate, length-replicate}
 use Rattle.lists.specs.Lists.{tabulate, overwrite, over}
 use Rattle.lists.proofs.Tables.{length-tabulate, tabulate-is}
@@ -10,7 +10,7 @@ use Rattle.study.specs.declared.BlockRecord.{BlockRecord}
 use Rattle.study.specs.declared.Refusal.{Refusal}
 use Rattle.study.specs.declared.Blocked.{Blocked}
 use Rattle.study.specs.declared.Blocked.the-variants as BlockedCase
-use Rattle.study.specs.Refusals.{numbered, accepted, refused, Reply, value, replied}
+use Rattle.study.specs.Refusals.{numbered, accepted, refused, value, replied}
 use Rattle.study.specs.Calls.{figures}
 use Rattle.study.proofs.CallLaws.{reply-value}
 use Rattle.validity.specs.Memory.{State, studyOf, contentsOf}
@@ -22,7 +22,7 @@ use Rattle.blocking.specs.Calls.{figureNumbers, makesBlocks, blockedReply}
 use Rattle.blocking.specs.Rows.{noRecord, Lending, RowsOf}
 use Rattle.pricing.specs.Tariff.{shares}
 use Rattle.priced_blocks.specs.declared.core.Priced.{Priced}
-use Rattle.priced_blocks.specs.Calls.{priceNumbers, pricesBlocks, pricedReply, Billed}
+use Rattle.priced_blocks.specs.Calls.{priceNumbers, pricesBlocks, withBill, Billed}
 use Rattle.priced_blocks.proofs.ReplyLaws.{as-block, same-records}
 use Rattle.c_records.proofs.RecordLaws.{front-written}
 use Rattle.c_api.proofs.OutputLaws.{reply-why, reply-numbers}
@@ -42,35 +42,32 @@ prices-lent list records = refl
 
 -- ---- the bill
 
--- Block's answer with what is owed
-abbrev bill : ℕ → List ℕ → Blocked → Reply (List ℕ)
-bill t parts a = pricedReply (record { answer = a; total = t; shares = parts })
-
 module _ (s : State) (list : List ℕ) where
   -- Block's reply, taken out of the bill's
-  block-reply : (records : List BlockRecord) (a : Blocked) (t : ℕ) (parts : List ℕ) → bill t parts a ≡ reply s (pricesBlocks list records)
+  block-reply : (records : List BlockRecord) (a : Blocked) (owed : List ℕ) → withBill owed a ≡ reply s (pricesBlocks list records)
       → blockedReply a ≡ reply s (makesBlocks list records)
   unfolding pricesBlocks makesBlocks contentsOf
-  block-reply records (BlockedCase.Done b r w) t parts e =
+  block-reply records (BlockedCase.Done b r w) owed e =
       let y = reply-value (answer s (pricesBlocks list records)) (priceNumbers (studyOf s)) (e ∙ reply-tells s _) in
       let three : b ∷ r ∷ w ∷ [] ≡ figureNumbers (figures (studyOf s)) = ap (λ (l : List ℕ). take 3 l) (y .1) in
       ap value three ∙ sym (reply-tells s _ ∙ ap (λ v. replied v (figureNumbers (figures (studyOf s)))) (sym (as-block s list records) ∙ y .0))
-  block-reply records (BlockedCase.Refused why) t parts e =
+  block-reply records (BlockedCase.Refused why) owed e =
       replies-refusal s (makesBlocks list records) (sym (sym (as-block s list records) ∙ reply-why s (pricesBlocks list records) e))
 
   module _ (room : ℕ) (P : Priced) (p : Lending room (λ records. Billed s (pricesBlocks list records) P)) where
     pub bill-reply : Lending room (λ records. blockedReply (P .answer) ≡ reply s (makesBlocks list records))
-    bill-reply records k = block-reply records (P .answer) (P .total) (P .shares) (p records k .replied)
+    bill-reply records k = block-reply records (P .answer) (P .total ∷ P .shares) (p records k .replied)
 
-    pub bill-why : {why : Refusal} → P .answer ≡ BlockedCase.Refused why → Lending room (λ records. answer s (pricesBlocks list records) ≡ refused (numbered why))
+    pub bill-why : {why : Refusal} → P .answer ≡ BlockedCase.Refused why
+        → Lending room (λ records. answer s (pricesBlocks list records) ≡ refused (numbered why))
     bill-why e records k =
-        reply-why s (pricesBlocks list records) (sym (ap (bill (P .total) (P .shares)) e) ∙ p records k .replied)
+        reply-why s (pricesBlocks list records) (sym (ap (withBill (P .total ∷ P .shares)) e) ∙ p records k .replied)
 
     pub bill-numbers : {b r w : ℕ} → P .answer ≡ BlockedCase.Done b r w
         → Lending room (λ records. (answer s (pricesBlocks list records) ≡ accepted)
         × (output s (pricesBlocks list records) .numbers ≡ b ∷ r ∷ w ∷ P .total ∷ P .shares))
     bill-numbers e records k =
-        reply-numbers s (pricesBlocks list records) (sym (ap (bill (P .total) (P .shares)) e) ∙ p records k .replied)
+        reply-numbers s (pricesBlocks list records) (sym (ap (withBill (P .total ∷ P .shares)) e) ∙ p records k .replied)
 
     pub bill-eight : {b r w : ℕ} → P .answer ≡ BlockedCase.Done b r w → length (P .shares) ≡ 8
     unfolding pricesBlocks contentsOf shares
@@ -79,7 +76,7 @@ module _ (s : State) (list : List ℕ) where
         let told = p records (length-replicate room noRecord) .replied in
         ap (λ (l : List ℕ). length (drop 4 l))
         (reply-value (answer s (pricesBlocks list records)) (priceNumbers (studyOf s))
-        (sym (ap (bill (P .total) (P .shares)) e) ∙ told ∙ reply-tells s _) .1)
+        (sym (ap (withBill (P .total ∷ P .shares)) e) ∙ told ∙ reply-tells s _) .1)
         ∙ length-tabulate {A = ℕ} 8 _
 
     pub bill-rows : {rows : BlockRows} → RowsOf s (pricesBlocks list) room rows → RowsOf s (makesBlocks list) room rows

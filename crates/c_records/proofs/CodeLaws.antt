@@ -7,14 +7,13 @@ use mathlib.Core.List.{List, [], _∷_, _++_, map, flatMap, List·Memᴰ·head a
 use lib.Dec.{T, leb, leb→le}
 use Rattle.lists.specs.Lists.{_among_, iota, filter}
 use Rattle.lists.proofs.Members.{filter-mem, map-mem, flatMap-mem, range-mem}
-use Rattle.study.specs.Study.{Contents}
 use Rattle.study.specs.Refusals.{Numbered, number, seven, refused, Reason, firstOf, freshReasons, heldReasons}
 use Rattle.study.specs.declared.refusals.Number.{Number}
 use Rattle.study.specs.declared.refusals.Number.the-variants.{Seven}
 use Rattle.study.specs.Numbers.{saidBy}
 use Rattle.study.specs.Calls.{triangle, Pair, violations, firstViolation}
 use Rattle.study.proofs.LadderLaws.{ladder-either}
-use Rattle.validity.specs.Memory.{State, short, isDataset, contentsOf}
+use Rattle.validity.specs.Memory.{State, short, isDataset}
 use Rattle.access.specs.Calls.{Holding, holdingOf, Caller, Source, Update, Inquiry, begins, changes, asks, answer}
 use Rattle.access.specs.Passed.{heldAnswer}
 use Rattle.access.proofs.AccessLaws.{ladder-is, source-answer, update-answer, inquiry-answer}

@@ -5,31 +5,29 @@ use native.Mathlib.Numerals.{add-one}
 use mathlib.Core.Path.{_≡_, refl, sym, ap, ap₂, _∙_}
 use mathlib.Core.Logic.{_⊎_, inl, inr, ⊎-elim}
 use mathlib.Core.Bool.{Bool, true, false, cond, not, true≢false}
-use mathlib.Core.List.{List, [], _∷_}
+use mathlib.Core.List.{List}
 use lib.Dec.{T, leb, eqb}
 use lib.ListN.{length, getD, set, replicate}
 use borrow.Author.Tests.{le-leb, lt-leb, eq-eqb, ne-eqb}
-use Rattle.lists.specs.Lists.{between, every, overwrite, allOf}
-use Rattle.lists.proofs.Tests.{T-true, T-left, true-T, split, between-T}
-use Rattle.lists.proofs.Scans.{every-fails, every-done, test-passes, test-fails}
+use Rattle.lists.specs.Lists.{between, every, overwrite}
+use Rattle.lists.proofs.Tests.{split}
+use Rattle.lists.proofs.Scans.{every-fails, every-done}
 use Rattle.study.specs.Limits.{cell}
 use Rattle.study.specs.declared.Minima.{Minima}
 use Rattle.study.specs.declared.Dataset.{Dataset}
-use Rattle.study.specs.declared.Refusal.{Refusal}
 use Rattle.study.specs.declared.Answer.{Answer}
-use Rattle.study.specs.declared.Answer.the-variants.{Done, Refused}
-use Rattle.study.specs.Study.{Study, Contents, size, tide, distance, validMinima}
-use Rattle.study.specs.Refusals.{Numbered, number, seven, Verdict, accepted, refused, verdictOf, settled, Reason, firstOf}
-use Rattle.study.specs.Refusals.{freshReasons, isUser, heldReasons}
+use Rattle.study.specs.declared.Answer.the-variants.{Done}
+use Rattle.study.specs.Study.{Study, size, tide, distance, validMinima}
+use Rattle.study.specs.Refusals.{Numbered, number, seven, Verdict, accepted, refused, verdictOf, firstOf}
+use Rattle.study.specs.Refusals.{isUser}
 use Rattle.study.specs.Calls.{openReasons, opened, opening, sumOfParts, understood, minimaReasons, withMinima, settingMinima, Pair, violations}
 use Rattle.study.specs.Calls.{duplicated, enterReasons, entered, entering, countOf, withdrawReasons, withdrawn, counted, withdrawing}
-use Rattle.study.specs.Theorems.{ValidContents}
 use Rattle.study.proofs.CallLaws.{enters, entered-size, withdraws, withdrawn-size}
 use Rattle.study.proofs.DuplicateLaws.{duplicated-same}
 use Rattle.study.proofs.MinimaLaws.{understood-raised, too-much}
-use Rattle.validity.specs.Memory.{State, stateOf, short, isDataset, studyOf, contentsOf, setK, setSize, setMinima, setCounts, recordOf, distancesOf}
+use Rattle.validity.specs.Memory.{State, stateOf, short, studyOf, contentsOf, setK, setSize, setMinima, setCounts, recordOf, distancesOf}
 use Rattle.validity.specs.Memory.{settingsOf, stored}
-use Rattle.validity.proofs.ValidityLaws.{isDataset-T, valid-contents, study-size, study-setting, study-distance}
+use Rattle.validity.proofs.ValidityLaws.{study-size, study-setting, study-distance}
 use Rattle.validity.proofs.LayoutLaws.{long, own-layout}
 use Rattle.triangle.specs.Pairs.{violationOf}
 use Rattle.triangle.proofs.PairLaws.{found-nothing, found-pair, violations-same}

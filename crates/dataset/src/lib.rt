@@ -171,7 +171,8 @@ pub fn enter(
     row: &[u32],
 ) -> Outcome
     ensures answer { λ r. ⌜ verdictOf (r .answer) ≡ answer (entryState dataset distances settings) (entersTide setting (now (row .entry))) ⌝ }
-    ensures leaves { λ r. ⌜ exitState (r .dataset) distances settings ≡ after (entryState dataset distances settings) (entersTide setting (now (row .entry))) ⌝ }
+    ensures leaves { λ r. ⌜ exitState (r .dataset) distances settings
+        ≡ after (entryState dataset distances settings) (entersTide setting (now (row .entry))) ⌝ }
 {
     let first = access::check(dataset, distances, settings);
     let Answer::Done = first else {

@@ -31,7 +31,7 @@ use Rattle.access.specs.Calls.{Inquiry, Output, firstList, Holding, reasons, ve
 use Rattle.blocking.specs.Calls.{blockInquiry, figureNumbers, makesBlocks}
 use Rattle.priced_blocks.specs.Calls.{priceNumbers, pricesBlocks}
 use Rattle.guarantee.specs.Theorems.{Guaranteed, CanonicalBlock, blocked, charged}
-use Rattle.guarantee.proofs.QueryLaws.{query-accepts, query-tells}
+use Rattle.guarantee.proofs.InquiryLaws.{inquiry-accepts, inquiry-tells}
 
 -- ---- a valid study whose tides together are sufficient
 
@@ -148,11 +148,11 @@ module _ (H : Holding) (ok : ValidContents (H .contents)) where
 
     accepts : firstOf (blockReasons S (length list₀) (length records₀)) ≡ accepted
     unfolding makesBlocks
-    accepts = query-accepts H Q e
+    accepts = inquiry-accepts H Q e
 
     tells : Q .tells H ≡ blocked F list records .output
     unfolding makesBlocks
-    tells = query-tells H Q e
+    tells = inquiry-tells H Q e
 
     ample : T (sufficient S (λ t. true))
     unfolding blockReasons

@@ -40,8 +40,9 @@ unfolding following callOf step verdict reasons heldReasons freshReasons changed
 once-more = refl
 
 pub one-stretch : OneStretch
-unfolding acceptedCalls callOf step verdict reasons heldReasons freshReasons changed opensDataset entersTide withdrawsTide openReasons opening opened enterReasons entering entered
-    withdrawReasons withdrawing withdrawn shortened counted firstOf violations duplicated triangle distance tide noTide every flatMap
+unfolding acceptedCalls callOf step verdict reasons heldReasons freshReasons changed opensDataset entersTide withdrawsTide
+    openReasons opening opened enterReasons entering entered withdrawReasons withdrawing withdrawn shortened counted firstOf
+    violations duplicated triangle distance tide noTide every flatMap
 one-stretch = refl
 
 pub minima-left : MinimaLeft

@@ -16,7 +16,7 @@ use Rattle.study.proofs.Proofs.{for-nearest, for-study}
 use Rattle.access.specs.Calls.{Output, Holding, learnt}
 use Rattle.blocking.specs.Calls.{allThree, findsCentres}
 use Rattle.guarantee.specs.Theorems.{centred, NearestTold, CentresTold}
-use Rattle.guarantee.proofs.QueryLaws.{query-tells}
+use Rattle.guarantee.proofs.InquiryLaws.{inquiry-tells}
 
 -- a place of a table that stands in the front of a list
 front-at : (n : ℕ) (f : ℕ → ℕ) (old : List ℕ) (t : ℕ) → t < n → at (over (tabulate n f) old) t ≡ f t
@@ -35,7 +35,7 @@ module _ (H : Holding) (ok : ValidContents (H .contents)) (g count : ℕ) (l₀ 
 
   tells : record { numbers = length (centreNumbers S g) ∷ []; lists = allThree (centresWritten S g l₀); records = [] } ≡ centred count l .output
   unfolding findsCentres
-  tells = query-tells H _ e
+  tells = inquiry-tells H _ e
 
   abbrev cs : List ℕ
   cs = centres (problem S) g

@@ -12,7 +12,7 @@ use lib.Seq.{getD-set-same, getD-set-other}
 use Rattle.lists.specs.Lists.{bit, allOf, filter}
 use Rattle.lists.proofs.Tests.{T-true, T-false, T-left, true-T, test, eq→eqb, between-T}
 use Rattle.study.specs.Study.{Contents}
-use Rattle.study.specs.Refusals.{Verdict, accepted, refused, settled, firstOf, isUser}
+use Rattle.study.specs.Refusals.{Verdict, accepted, refused, settled, isUser}
 use Rattle.study.specs.Calls.{opening, settingMinima, entering, countOf, counted, withdrawing}
 use Rattle.study.proofs.LadderLaws.{ladder-accepts}
 use Rattle.file_format.specs.File.{decoded}

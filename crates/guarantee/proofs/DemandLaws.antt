@@ -1,7 +1,6 @@
 -- Demand 1, and the last sentence of demand 2: the first reason that holds, what a refused call leaves, and that files and datasets
 -- correspond. Assumes nothing.
 use Prim.Native.Nat.{ℕ, _≤_}
-use native.Mathlib.Omega.{arith}
 use mathlib.Core.Path.{_≡_, refl, sym, ap, ap₂, _∙_, subst}
 use mathlib.Core.Bool.{false}
 use mathlib.Core.List.{List, [], _∷_}

@@ -7,8 +7,7 @@ use mathlib.Core.Bool.{Bool, true, false, cond}
 use mathlib.Core.List.{List, [], _∷_}
 use mathlib.Core.Option.{Option, none, some}
 use Rattle.lists.proofs.Tests.{T-true, true-T}
-use Rattle.study.specs.Study.{Contents}
-use Rattle.study.specs.Refusals.{Verdict, accepted, refused, settled, Reason, firstOf}
+use Rattle.study.specs.Refusals.{Verdict, accepted, refused, settled, firstOf}
 use Rattle.study.specs.Theorems.{ValidContents}
 use Rattle.study.proofs.Proofs.{for-calls}
 use Rattle.file_format.proofs.Proofs.{files}

@@ -272,7 +272,8 @@ Matched none l = Unit {0}
 Matched (some H) none = ⊥
 Matched (some H) (some L) = Matches (H .contents .study) L
 
-agree-settled : (v : Verdict) (a h : Option Holding) (b l : Option Ledger) → (v ≡ accepted → Matched a b) → Matched h l → Matched (settled v a h) (settled v b l)
+agree-settled : (v : Verdict) (a h : Option Holding) (b l : Option Ledger) → (v ≡ accepted → Matched a b) → Matched h l
+    → Matched (settled v a h) (settled v b l)
 agree-settled accepted a h b l f K = f refl
 agree-settled (refused r) a h b l f K = K
 
@@ -302,7 +303,8 @@ agree-changed tooShort h l (set-minima M) e K =
 agree-changed tooShort h l (enter setting row) e K =
     agree-changing _ (withArrival setting row) (λ H L r. arrival-matches (H .contents .study) L setting row) tooShort h l e K
 agree-changed tooShort h l (withdraw u t) e K =
-    agree-changing _ (withGone t) (λ H L r M. let w = withdraws (H .contents) u t r in gone-matches (H .contents .study) L t M (omega (arith, w .low, w .high))) tooShort h l e K
+    agree-changing _ (withGone t)
+    (λ H L r M. let w = withdraws (H .contents) u t r in gone-matches (H .contents .study) L t M (omega (arith, w .low, w .high))) tooShort h l e K
 agree-changed tooShort h l (ask Q) e K = K
 
 agree-following : (tooShort : Bool) (h : Option Holding) (l : Option Ledger) (cs : List Offered) → Matched h l

@@ -4,7 +4,7 @@ pub mod Names
 pub mod LedgerLaws
 pub mod CountLaws
 pub mod FreeLaws
-pub mod QueryLaws
+pub mod InquiryLaws
 pub mod BlockLaws
 pub mod CentresLaws
 pub mod DemandLaws

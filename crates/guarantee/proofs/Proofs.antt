@@ -17,7 +17,7 @@ use Rattle.study.specs.Theorems.{ValidContents}
 use Rattle.validity.specs.Memory.{State, short}
 use Rattle.pricing.specs.Tariff.{total, shares}
 use Rattle.pricing.specs.Theorems.{StudyShares}
-use Rattle.access.specs.Calls.{Inquiry, Call, asks, Holding, held, reasons, verdict, Response, learnt, answer, output, response}
+use Rattle.access.specs.Calls.{Inquiry, Call, asks, Holding, reasons, verdict, Response, learnt, answer, response}
 use Rattle.blocking.specs.Calls.{findsCentres, makesBlocks}
 use Rattle.priced_blocks.specs.Calls.{pricesBlocks}
 use Rattle.priced_blocks.proofs.ReplyLaws.{as-block}

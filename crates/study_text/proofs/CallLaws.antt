@@ -12,10 +12,10 @@ use Rattle.study.specs.declared.Minima.{Minima}
 use Rattle.study.specs.declared.Dataset.{Dataset}
 use Rattle.study.specs.declared.Answer.{Answer}
 use Rattle.study.specs.declared.Outcome.{Outcome}
-use Rattle.study.specs.Study.{Contents, size}
+use Rattle.study.specs.Study.{size}
 use Rattle.study.proofs.CallLaws.{opening-valid, minima-valid, entering-valid}
 use Rattle.study.specs.Calls.{openReasons, opening, minimaReasons, settingMinima, enterReasons, entering}
-use Rattle.study.specs.Refusals.{accepted, verdictOf, settled, isUser, firstOf, freshReasons}
+use Rattle.study.specs.Refusals.{accepted, verdictOf, settled, isUser, firstOf}
 use Rattle.study.specs.Theorems.{ValidContents}
 use Rattle.validity.specs.Memory.{State, stateOf, short, studyOf, contentsOf}
 use Rattle.validity.proofs.ValidityLaws.{study-size}

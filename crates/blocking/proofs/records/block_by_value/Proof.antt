@@ -1,6 +1,6 @@
 -- `blocking::records::block_by_value` meets its contract: a walk of its MIR, by hand. 120 records are made in a local, and lent as a slice for
 -- the call of `block`. When the call's lifetime is over they come back, at the list that `block`'s contract says, and are copied into the result. Assumes nothing.
-use mathlib.Core.Path.{_≡_, refl, _∙_, ap}
+use mathlib.Core.Path.{_≡_, refl, _∙_}
 use Prim.Native.Nat.{ℕ}
 use mathlib.Core.List.{[], _∷_, List, map}
 use lib.Dec.{T as Holds, lit<}
@@ -169,7 +169,8 @@ module _ {M : Type 1} (𝓤 : URA M) (H : Heap 𝓤) (A : Atoms 𝓤) (W : Given
       -- [κ₂; true; κ₁; κ₀; what block owns; settings; distances; ν]
       move ! (7 ∷ 1 ∷ []) $ join ! $ move ! (1 ∷ 0 ∷ []) $ join ! $ move ! (1 ∷ 0 ∷ []) $ join ! $ move ! (1 ∷ 0 ∷ []) $ join ! $ use2 W (raw (Block 𝓤 H A mem run .pre (to-block ν b γ))) (asks-nothing 𝓤 _) $ frame ! $ move ! (1 ∷ 0 ∷ []) $ done !
 
-  exits : (r : Blocked) (zs : List ℕ) (ws : List BlockRecord) (u m : Val) → blockedReply r ≡ reply state (makesBlocks (l .now) noRecords) → zs ≡ listAfter state (makesBlocks (l .now) noRecords) → ws ≡ recordsAfter state (makesBlocks (l .now) noRecords)
+  exits : (r : Blocked) (zs : List ℕ) (ws : List BlockRecord) (u m : Val) → blockedReply r ≡ reply state (makesBlocks (l .now) noRecords)
+      → zs ≡ listAfter state (makesBlocks (l .now) noRecords) → ws ≡ recordsAfter state (makesBlocks (l .now) noRecords)
       → length zs ≡ length (l .now) → Is S.the-row d (sd ∷ []) → Is D.the-row (record { answer = r; records = ws }) (made u m ∷ [])
       → ent 𝓤 (⋆ 𝓤 H A (‵ (flft κ₂ q₂) ∷ ‵ (flft κ₁ q₁) ∷ ‵ (flft κ₀ q₀) ∷ ‵ (finally u8 (l .name) zs) ∷ ‵ (OwnV κ₀ v) ∷ ‵ (OwnW κ₁ w) ∷ [])) (Post (made u m))
   exits r zs ws u m answered listed recorded long isD is =

@@ -26,7 +26,8 @@ put-columns-requires c κs =
     let called = told .before .before .before .before .before .before in
     let core = called .price-core in
     let e = core .ensures in
-    columns-fit _ _ _ _ (bill-reply _ _ _ (core .result .priced) (e .0)) (told .answer2 .given .1) (bill-rows _ _ _ (core .result .priced) (e .0) (e .1 .0)) _ _ _
+    let P = core .result .priced in
+    columns-fit _ _ _ _ (bill-reply _ _ _ P (e .0)) (told .answer2 .given .1) (bill-rows _ _ _ P (e .0) (e .1 .0)) _ _ _
     (called .before .before .before .least .ensures)
 
 cast-count : tie.Need-cast-count
@@ -35,7 +36,8 @@ cast-count c =
     let told = put .before .before .before .before .before in
     let core = told .before .before .before .before .before .before .price-core in
     let e = core .ensures in
-    omega (arith, blocks-small _ _ _ _ (bill-reply _ _ _ (core .result .priced) (e .0)) (told .answer2 .given .1) (bill-rows _ _ _ (core .result .priced) (e .0) (e .1 .0)))
+    let P = core .result .priced in
+    omega (arith, blocks-small _ _ _ _ (bill-reply _ _ _ P (e .0)) (told .answer2 .given .1) (bill-rows _ _ _ P (e .0) (e .1 .0)))
 
 returns-3 : tie.Need-returns-3
 returns-3 c =

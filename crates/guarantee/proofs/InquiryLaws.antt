@@ -1,4 +1,4 @@
--- What the caller of an accepted query learns of the contents held. Assumes nothing.
+-- What the caller of an accepted inquiry learns of what is held. Assumes nothing.
 use mathlib.Core.Path.{_≡_, sym, ap, _∙_}
 use mathlib.Core.Bool.{true, false}
 use mathlib.Core.Option.{some}
@@ -11,10 +11,10 @@ module _ (H : Holding) (Q : Inquiry) {o : Output} (e : learnt false (some H) (as
   unfolding learnt
   agreed = ap (λ (r : Response). r .verdict) e
 
-  pub query-accepts : firstOf (Q .own H) ≡ accepted
+  pub inquiry-accepts : firstOf (Q .own H) ≡ accepted
   unfolding verdict reasons
-  query-accepts = ladder-accepts false (Q .caller .users) true (Q .own H) agreed .reasons
+  inquiry-accepts = ladder-accepts false (Q .caller .users) true (Q .own H) agreed .reasons
 
-  pub query-tells : Q .tells H ≡ o
+  pub inquiry-tells : Q .tells H ≡ o
   unfolding learnt told lent
-  query-tells = sym (ap (λ (v : Verdict). settled v (Q .tells H) (Q .lent)) agreed) ∙ ap (λ (r : Response). r .output) e
+  inquiry-tells = sym (ap (λ (v : Verdict). settled v (Q .tells H) (Q .lent)) agreed) ∙ ap (λ (r : Response). r .output) e
