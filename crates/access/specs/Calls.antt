@@ -36,7 +36,7 @@ held s = cond (short s) none (cond (isDataset s) (some (holdingOf s)) none)
 abbrev pub kept : Holding → State → State
 kept H s = stored (H .contents) s
 
--- with contents that a call brings in
+-- record and memory that hold what a call brings in
 abbrev pub anew : Contents → State → State
 anew C s = kept (fresh C) s
 

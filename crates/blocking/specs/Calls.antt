@@ -34,7 +34,7 @@ exitLists l m d = centreLists (now (l .exit)) (now (m .exit)) (now (d .exit))
 abbrev pub allThree : CentreLists → List (List ℕ)
 allThree l = l .list ∷ l .nearest ∷ l .away ∷ []
 
--- the number of centres, and the three lists
+-- Centres at g, lent these lists: it answers the number of centres, and fills the three
 unfoldable pub findsCentres : ℕ → CentreLists → Call
 findsCentres g l =
     asks (record {
@@ -73,11 +73,11 @@ blockInquiry numbers list records =
 abbrev pub figureNumbers : Figures → List ℕ
 figureNumbers F = F .blocks ∷ F .radius ∷ F .widest ∷ []
 
--- these are its numbers
+-- Block, lent this list and these records: it answers the three figures
 unfoldable pub makesBlocks : List ℕ → List BlockRecord → Call
 makesBlocks list records = asks (blockInquiry (λ S. figureNumbers (figures S)) list records)
 
--- the numbers of the code's answer
+-- the numbers of the code's answer, by document 01's number and values (study/Calls)
 abbrev pub blockedReply : Blocked → Reply (List ℕ)
 blockedReply r = inNumbers figureNumbers (blockedOf r)
 
@@ -96,7 +96,7 @@ abbrev pub judgementNumbers : Judgement → List ℕ
 judgementNumbers (approval w) = 1 ∷ w ∷ []
 judgementNumbers disapproval = 0 ∷ 0 ∷ []
 
--- these are its numbers
+-- Judge, of this list
 unfoldable pub judgesList : List ℕ → Call
 judgesList list =
     asks (record {
@@ -106,6 +106,6 @@ judgesList list =
       tells = λ H. record { numbers = judgementNumbers (judgement (H .contents .study) list); lists = []; records = [] };
     })
 
--- the numbers of the code's answer
+-- the numbers of the code's answer, by document 01's number and values (study/Calls)
 abbrev pub judgedReply : Judged → Reply (List ℕ)
 judgedReply r = inNumbers judgementNumbers (judgedOf r)

@@ -165,7 +165,7 @@ module _ (need : ℕ) (l : Lent) (p : Places) (ask : List BlockRecord → Call) 
   pub blocks-too-short : lacks recordSize (l .numbers) || lacks need (p .result) ≡ true → Settled 1 p
   blocks-too-short h =
       let e = too-short l (lacks need (p .result)) c h in
-      (ap code (sym (e .0)), sym untouched ∙ ap (λ o. filled o p) (sym (L (recordsIn p)) ∙ sym (e .1 .1)))
+      (ap code (sym (e .0)), sym untouched ∙ ap (λ o. filled o p) (sym (L (recordsIn p)) ∙ sym (e .2)))
 
   -- what the core answers of the record as the code holds it, with this room for records
   module _ {r : Dataset} (R : Reads l r need (p .result)) {room : ℕ} (m : room ≡ recordRoom p) {new : List ℕ}

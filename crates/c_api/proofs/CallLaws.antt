@@ -198,14 +198,14 @@ module _ (l : Lent) where
   short-stays few (changes U) e = ap (λ v. left l v (after (stateIn l) (changes U))) (short-verdict few (changes U) e)
   short-stays few (asks Q) e = refl
 
-  pub short-output : (few : Bool) (c : Call) → lacks recordSize (l .numbers) || few ≡ true → cOutput l few c ≡ lentTo c
+  short-output : (few : Bool) (c : Call) → lacks recordSize (l .numbers) || few ≡ true → cOutput l few c ≡ lentTo c
   unfolding cOutput
   short-output few c e = ap (λ v. settled v (told (held (stateIn l)) c) (lentTo c)) (short-verdict few c e)
 
   -- refused 1, and nothing changes
   pub too-short : (few : Bool) (c : Call) → lacks recordSize (l .numbers) || few ≡ true
-      → (cVerdict l few c ≡ refused (number 1)) × ((cLeft l few c ≡ l) × (cOutput l few c ≡ lentTo c))
-  too-short few c e = (short-verdict few c e, (short-stays few c e, short-output few c e))
+      → (cVerdict l few c ≡ refused (number 1)) × (cLeft l few c ≡ l) × (cOutput l few c ≡ lentTo c)
+  too-short few c e = (short-verdict few c e, short-stays few c e, short-output few c e)
 
   pub left-too-short : (few : Bool) (c : Call) → lacks recordSize (l .numbers) || few ≡ true → (1 ≡ code (cVerdict l few c)) × (l ≡ cLeft l few c)
   left-too-short few c e = (ap code (sym (short-verdict few c e)), sym (short-stays few c e))

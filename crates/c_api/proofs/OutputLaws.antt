@@ -95,7 +95,7 @@ module _ {A : Type 0} {f : List (List ℕ) → A} {c : Call} {x₀ : A} (L : Len
   unfolding cResult
   answered-short h =
       let e = too-short l (lacks m result) c h in
-      let o = sym (e .1 .1) in (
+      let o = sym (e .2) in (
         ap code (sym (e .0)),
         (L .lists ∙ ap (λ (o : Output). f (o .lists)) o, ap (λ xs. over xs result) (sym (L .none) ∙ ap (λ (o : Output). o .numbers) o)),
       )

@@ -18,7 +18,7 @@ use Rattle.guarantee.proofs.Proofs.{demand1, demand3}
 use Rattle.c_records.specs.Record.{Lent, recordSize, stateIn}
 use Rattle.c_api.specs.Api.{roomFirst, lacks, cVerdict, left, cLeft, cOutput, recordsIn, filled}
 use Rattle.c_api.specs.Runs.{CCall, cRun, callsOf}
-use Rattle.c_api.specs.Theorems.{AsRun, AsCall, TooShort, CDemand3}
+use Rattle.c_api.specs.Theorems.{AsRun, AsCall, CDemand3}
 use Rattle.c_api.proofs.CallLaws.{none-short, list-short, too-short, carried}
 use Rattle.c_api.proofs.CallLaws.{open-sound, minima-sound, enter-sound, withdraw-sound, read-sound}
 
@@ -54,7 +54,7 @@ module _ (l : Lent) where
   step : recordSize ≤ length (l .numbers) → (few : Bool) (c : Offered)
       → stateIn (cLeft l few (callOf c)) ≡ run (stateIn l) (cond few [] (c ∷ []))
   unfolding run
-  step room true c = ap stateIn (too-short l true (callOf c) (list-short (l .numbers) refl) .1 .0)
+  step room true c = ap stateIn (too-short l true (callOf c) (list-short (l .numbers) refl) .1)
   step room false c = own-left room c
 
 run-append : (s : State) (xs ys : List Offered) → run s (xs ++ ys) ≡ run (run s xs) ys
@@ -103,9 +103,6 @@ as-call l cs c room = (
   own-left (cRun l cs) (long l cs room) c ∙ ap (λ s. after s (callOf c)) (as-run l cs room),
   writes-as l cs room (callOf c),
 )
-
-pub short-refused : TooShort
-short-refused l few c e = let t = too-short l few c e in (t .0, t .1 .0, t .1 .1)
 
 -- ---- the Block after it
 
