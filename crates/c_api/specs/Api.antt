@@ -98,6 +98,18 @@ filled o p =
       result = over (o .numbers) (p .result);
     }
 
+-- such a call, lent what stands in these places
+abbrev pub placed : (List ℕ → List BlockRecord → Call) → Places → Call
+placed call p = call (p .list) (recordsIn p)
+
+-- what it answers, with a result of n places
+abbrev pub blocksVerdict : ℕ → Lent → (List ℕ → List BlockRecord → Call) → Places → Verdict
+blocksVerdict n l call p = cVerdict l (lacks n (p .result)) (placed call p)
+
+-- the places after it
+abbrev pub blocksLeft : ℕ → Lent → (List ℕ → List BlockRecord → Call) → Places → Places
+blocksLeft n l call p = filled (cOutput l (lacks n (p .result)) (placed call p)) p
+
 -- ---- the closure of a table of n rows of n (document 02: mending), lent 1 number for the pairs lowered. It looks at no dataset
 
 -- what it answers

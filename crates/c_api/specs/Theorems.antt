@@ -15,7 +15,7 @@ use Rattle.blocking.specs.Calls.{figureNumbers, makesBlocks}
 use Rattle.guarantee.specs.Runs.{Offered, callOf, run, studyAfter}
 use Rattle.guarantee.specs.Theorems.{Guaranteed}
 use Rattle.c_records.specs.Record.{Lent, recordSize, stateIn}
-use Rattle.c_api.specs.Api.{lacks, cVerdict, cLeft, cOutput, Places, recordsIn, filled}
+use Rattle.c_api.specs.Api.{lacks, cVerdict, cLeft, cOutput, Places, blocksVerdict, blocksLeft}
 use Rattle.c_api.specs.Runs.{CCall, cRun, callsOf}
 
 -- a run of the calls for C, from any record of 15 numbers or more and any memory, is a run of the calls
@@ -41,11 +41,8 @@ TooShort =
 -- holds of it, of the figures that stand in the result and of the list
 abbrev pub CDemand3 : Type 0
 CDemand3 =
-    (l : Lent) (cs : List CCall) (p : Places) → recordSize ≤ length (l .numbers)
-    → let few = lacks 3 (p .result) in
-    let block = makesBlocks (p .list) (recordsIn p) in
-    cVerdict (cRun l cs) few block ≡ accepted
-    → let after = filled (cOutput (cRun l cs) few block) p in
+    (l : Lent) (cs : List CCall) (p : Places) → recordSize ≤ length (l .numbers) → blocksVerdict 3 (cRun l cs) makesBlocks p ≡ accepted
+    → let after = blocksLeft 3 (cRun l cs) makesBlocks p in
     (S : Study) × (F : Figures) × (studyAfter (stateIn l) (flatMap callsOf cs) ≡ some S) × (after .result ≡ over (figureNumbers F) (p .result))
     × Guaranteed S F (after .list)
 

@@ -31,7 +31,7 @@ ghost use Rattle.study_file.specs.Calls.{readsFile, writesFile};
 ghost use Rattle.blocking.specs.Calls.{entryLists, exitLists, allThree, findsCentres, makesBlocks, judgesList};
 ghost use Rattle.c_records.specs.Record.{entryLent, exitLent, minimaAt, code};
 ghost use Rattle.c_api.specs.Api.{lacks, cVerdict, cLeft, cOutput, cResult};
-ghost use Rattle.c_api.specs.Api.{entryPlaces, exitPlaces, recordsIn, filled};
+ghost use Rattle.c_api.specs.Api.{entryPlaces, exitPlaces, blocksVerdict, blocksLeft};
 
 // Open: an empty dataset with k settings.
 #[no_mangle]
@@ -203,12 +203,9 @@ pub extern "C" fn tides_block(
     result: &mut [u32],
 ) -> u32
     ensures code { λ r. ⌜ r
-        ≡ code (cVerdict (entryLent numbers distances settings) (lacks 3 (now (result .entry)))
-        (makesBlocks (now (list .entry)) (recordsIn (entryPlaces list centres sizes diameters result)))) ⌝ }
+        ≡ code (blocksVerdict 3 (entryLent numbers distances settings) makesBlocks (entryPlaces list centres sizes diameters result)) ⌝ }
     ensures leaves { λ _. ⌜ exitPlaces list centres sizes diameters result
-        ≡ filled (cOutput (entryLent numbers distances settings) (lacks 3 (now (result .entry)))
-        (makesBlocks (now (list .entry)) (recordsIn (entryPlaces list centres sizes diameters result))))
-        (entryPlaces list centres sizes diameters result) ⌝ }
+        ≡ blocksLeft 3 (entryLent numbers distances settings) makesBlocks (entryPlaces list centres sizes diameters result) ⌝ }
 {
     if numbers.len() < RECORD_SIZE {
         return 1;

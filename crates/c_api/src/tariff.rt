@@ -12,7 +12,7 @@ ghost use mathlib.Core.Path.{_≡_};
 ghost use mathlib.Core.List.{_∷_};
 ghost use Rattle.priced_blocks.specs.Calls.{pricesBlocks};
 ghost use Rattle.c_records.specs.Record.{entryLent, code};
-ghost use Rattle.c_api.specs.Api.{lacks, cVerdict, cOutput, entryPlaces, exitPlaces, recordsIn, filled};
+ghost use Rattle.c_api.specs.Api.{entryPlaces, exitPlaces, blocksVerdict, blocksLeft};
 
 // The numbers of an accepted tariff in one row.
 fn bill_row(blocks: u32, radius: u32, widest: u32, priced: Priced) -> [u32; 12]
@@ -48,12 +48,9 @@ pub extern "C" fn tides_tariff(
     result: &mut [u32],
 ) -> u32
     ensures code { λ r. ⌜ r
-        ≡ code (cVerdict (entryLent numbers distances settings) (lacks 12 (now (result .entry)))
-        (pricesBlocks (now (list .entry)) (recordsIn (entryPlaces list centres sizes diameters result)))) ⌝ }
+        ≡ code (blocksVerdict 12 (entryLent numbers distances settings) pricesBlocks (entryPlaces list centres sizes diameters result)) ⌝ }
     ensures leaves { λ _. ⌜ exitPlaces list centres sizes diameters result
-        ≡ filled (cOutput (entryLent numbers distances settings) (lacks 12 (now (result .entry)))
-        (pricesBlocks (now (list .entry)) (recordsIn (entryPlaces list centres sizes diameters result))))
-        (entryPlaces list centres sizes diameters result) ⌝ }
+        ≡ blocksLeft 12 (entryLent numbers distances settings) pricesBlocks (entryPlaces list centres sizes diameters result) ⌝ }
 {
     if numbers.len() < RECORD_SIZE {
         return 1;
