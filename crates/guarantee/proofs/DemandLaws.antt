@@ -132,4 +132,5 @@ files-and-datasets =
       marked = for-files .marked;
       written-again = written-again;
       old-file = for-files .old-only;
+      old-read = λ onto count S long few ok. (for-files .old-accepts onto count S long few ok, for-files .old-gives onto count S long few ok);
     }

@@ -1,4 +1,4 @@
--- The six records of specs/Theorems.antt. Assumes nothing.
+-- The seven records of specs/Theorems.antt. Assumes nothing.
 use Prim.Native.Nat.{ℕ, _<_}
 use native.Mathlib.Omega.{arith}
 use mathlib.Core.Path.{_≡_, refl, sym, ap, ap₂, _∙_, subst}
@@ -12,18 +12,20 @@ use Rattle.study.specs.declared.BlockRecord.{BlockRecord}
 use Rattle.study.specs.Problem.{Feasible}
 use Rattle.study.specs.Study.{Study, size, problem}
 use Rattle.study.specs.Refusals.{Numbered, number, accepted, refused, firstOf, freshReasons, isUser, heldReasons}
-use Rattle.study.specs.Calls.{CentreLists, blockReasons, Figures}
-use Rattle.study.specs.Theorems.{ValidContents}
+use Rattle.study.specs.Calls.{CentreLists, enterReasons, blockReasons, Figures}
+use Rattle.study.specs.Theorems.{ValidContents, DuplicateOf}
+use Rattle.study.proofs.Proofs.{for-duplicates}
 use Rattle.validity.specs.Memory.{State, short}
 use Rattle.pricing.specs.Tariff.{total, shares}
 use Rattle.pricing.specs.Theorems.{StudyShares}
 use Rattle.access.specs.Calls.{Inquiry, Call, asks, Holding, reasons, verdict, Response, learnt, answer, response}
+use Rattle.dataset.specs.Calls.{entersTide}
 use Rattle.blocking.specs.Calls.{findsCentres, makesBlocks}
 use Rattle.priced_blocks.specs.Calls.{pricesBlocks}
 use Rattle.priced_blocks.proofs.ReplyLaws.{as-block}
 use Rattle.guarantee.specs.Runs.{Offered, run, heldAfter, studyIn, studyAfter}
 use Rattle.guarantee.specs.Theorems.{Guaranteed, CanonicalBlock, blocked, Demand1, Demand2, Demand3, charged, ForTariff, centred, CentresTold}
-use Rattle.guarantee.specs.Theorems.{ForCentres, DuplicateFree}
+use Rattle.guarantee.specs.Theorems.{ForCentres, ForEnter, DuplicateFree}
 use Rattle.guarantee.proofs.Follows.{held-some, holds-valid, holds, as-short, settles, answers}
 use Rattle.guarantee.proofs.LedgerLaws.{exactly, anew}
 use Rattle.guarantee.proofs.CountLaws.{counted-after}
@@ -174,6 +176,14 @@ module _ (start : State) (calls : List Offered) where
       subst (λ R. CentresTold R g count l₀ l) (K .study)
       (centres-told H (valid-after H (K .is)) g count l₀ l (sym (learns-some (findsCentres g l₀) H (K .is)) ∙ q))
 
+  -- Enter's own reasons answer
+  enter-own : (S : Study) (setting : ℕ) (row : List ℕ) → studyAfter start calls ≡ some S
+      → firstOf (enterReasons S setting row) ≡ answer (run start calls) (entersTide setting row)
+  unfolding studyAfter entersTide verdict reasons heldReasons freshReasons firstOf
+  enter-own S setting row e =
+      let K = studied (heldAfter start calls) S e in
+      ap (λ R. firstOf (enterReasons R setting row)) (sym (K .study)) ∙ sym (answers-some (entersTide setting row) (K .holding) (K .is))
+
 pub demand1 : Demand1
 demand1 =
     record { first = first; only = only; unchanged = unchanged; unwritten = unwritten; only-reads = only-reads }
@@ -203,6 +213,13 @@ for-tariff =
 
 pub for-centres : ForCentres
 for-centres = record { tells = centres-tell }
+
+pub for-enter : ForEnter
+for-enter =
+    record {
+      refused-one = λ start calls S setting row e r. for-duplicates S setting row .exactly .0 (enter-own start calls S setting row e ∙ r) .1;
+      accepted-none = λ start calls S setting row e a. for-duplicates S setting row .accepted-none (enter-own start calls S setting row e ∙ a);
+    }
 
 pub duplicate-free : DuplicateFree
 duplicate-free = record { stays = free-after }

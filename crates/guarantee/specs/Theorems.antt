@@ -1,5 +1,5 @@
--- What is proved of every list of calls; there are no proofs here. `demand1`, `demand2`, `demand3`, `for-tariff`, `for-centres` and
--- `duplicate-free` of proofs/Proofs.antt prove the six records of these names. Assumes nothing.
+-- What is proved of every list of calls; there are no proofs here. `demand1`, `demand2`, `demand3`, `for-tariff`, `for-centres`, `for-enter` and
+-- `duplicate-free` of proofs/Proofs.antt prove the seven records of these names. Assumes nothing.
 use Prim.Native.Nat.{ℕ, suc, _+_, _*_, _≤_, _<_}
 use mathlib.Core.Path.{_≡_}
 use mathlib.Core.Logic.{_⊎_, _↔_}
@@ -10,15 +10,17 @@ use lib.Dec.{T}
 use lib.ListN.{length, take}
 use Rattle.lists.specs.Lists.{_among_, at, greatest, overwrite, over}
 use Rattle.study.specs.declared.BlockRecord.{BlockRecord}
+use Rattle.study.specs.Limits.{maxWithdrawals}
 use Rattle.study.specs.Problem.{centres, centreOf, labels, radius, blocking, diameter, greatestDiameter, Feasible}
-use Rattle.study.specs.Study.{Study, Contents, size, distance, problem, Renumbered}
-use Rattle.study.specs.Theorems.{Canonical, IsNearest}
+use Rattle.study.specs.Study.{Study, Contents, size, distance, problem, Valid, Renumbered}
+use Rattle.study.specs.Theorems.{Canonical, IsNearest, DuplicateOf}
 use Rattle.study.specs.Refusals.{number, Numbered, Verdict, accepted, refused, value, IsFirst, isUser}
 use Rattle.study.specs.Calls.{holdsDuplicate, countOf, CentreLists, centresWritten, Figures, blockRecord}
-use Rattle.file_format.specs.File.{newMark, oldMark, markOf}
+use Rattle.file_format.specs.File.{newMark, oldMark, oldFile, markOf}
 use Rattle.file_format.specs.Theorems.{Bytes, OldFile}
 use Rattle.validity.specs.Memory.{State, short, isDataset, contentsOf}
 use Rattle.access.specs.Calls.{Holding, fresh, held, Inquiry, Call, asks, reasons, lent, Response, learnt, response, answer, output, reply, listAfter, after}
+use Rattle.dataset.specs.Calls.{entersTide}
 use Rattle.study_file.specs.Calls.{readsFile, writesFile}
 use Rattle.blocking.specs.Calls.{allThree, figureNumbers, findsCentres, makesBlocks}
 use Rattle.pricing.specs.Tariff.{total, shares}
@@ -114,6 +116,10 @@ pub record FilesAndDatasets : Type 0 where
   -- one of mark 54 is read to the dataset whose own file says the same of k, minima, tides and counts
   pub old-file : (onto : State) (file : List ℕ) → Bytes file → answer onto (readsFile file) ≡ accepted → markOf file ≡ oldMark
       → OldFile file (contentsOf (after onto (readsFile file)))
+  -- and every file of mark 54 of a valid study is still accepted, and gives that study, with its count as user 1's
+  pub old-read : (onto : State) (count : ℕ) (S : Study) → short onto ≡ false → count ≤ maxWithdrawals → Valid S
+      → (answer onto (readsFile (oldFile count S)) ≡ accepted)
+      × (contentsOf (after onto (readsFile (oldFile count S))) ≡ record { study = S; withdrawals = count ∷ 0 ∷ 0 ∷ 0 ∷ [] })
 
 -- for every start and every list of calls
 pub record Demand2 : Type 0 where
@@ -184,6 +190,14 @@ pub record ForCentres : Type 0 where
       → response (run start calls) (findsCentres g l₀) ≡ centred count l → CentresTold S g count l₀ l
 
 -- ---- duplicates (document 02, 2.8: twins)
+
+-- what 15 means, for every start, every list of calls and the Enter after it, whatever is held already: a tide that is refused by it is a
+-- duplicate of one held, and a tide that is accepted is not
+pub record ForEnter : Type 0 where
+  pub refused-one : (start : State) (calls : List Offered) (S : Study) (setting : ℕ) (row : List ℕ) → studyAfter start calls ≡ some S
+      → answer (run start calls) (entersTide setting row) ≡ refused (number 15) → DuplicateOf S setting row
+  pub accepted-none : (start : State) (calls : List Offered) (S : Study) (setting : ℕ) (row : List ℕ) → studyAfter start calls ≡ some S
+      → answer (run start calls) (entersTide setting row) ≡ accepted → DuplicateOf S setting row → ⊥
 
 -- for every start and every list of calls
 pub record DuplicateFree : Type 0 where

@@ -2,20 +2,22 @@
 use Prim.Native.Nat.{ℕ, _<_}
 use native.Mathlib.Omega.{arith}
 use mathlib.Core.Path.{_≡_, refl, sym, ap, ap₂, _∙_, subst}
+use mathlib.Core.Logic.{_↔_}
 use mathlib.Core.Bool.{Bool, true, false, not}
 use mathlib.Core.List.{List, [], _∷_}
-use lib.Dec.{T, eqb, T-not}
+use lib.Dec.{T, eqb, eqb→eq, T-not}
 use lib.ListN.{getD, take}
 use Rattle.lists.specs.Lists.{every, any, isEmpty}
-use Rattle.lists.proofs.Tests.{T-true, T-false, true-T, not-not, eq→eqb, every-same, any-of, none-at, none-of, any-first}
+use Rattle.lists.proofs.Tests.{T-true, T-false, true-T, not-not, eq→eqb, and-T, T-left, T-right, every-same, any-at, any-of, none-at, none-of, any-first}
 use Rattle.study.specs.declared.Minima.{Minima}
 use Rattle.study.specs.Study.{Tide, Study, size, tide, distance, Valid}
 use Rattle.study.specs.Refusals.{number, accepted, refused, _⇒_, firstOf}
 use Rattle.study.specs.Calls.{opened, withMinima, Pair, violations, firstViolation, alike, duplicated, holdsDuplicate, enterReasons, entered}
 use Rattle.study.specs.Calls.{withdrawn, skip}
-use Rattle.study.proofs.CallLaws.{NoneHolds, entered-size, entered-old, entered-new, entered-held, entered-column, each-number}
+use Rattle.study.specs.Theorems.{DuplicateOf}
+use Rattle.study.proofs.CallLaws.{NoneHolds, none-holds, entered-size, entered-old, entered-new, entered-held, entered-column, each-number}
 use Rattle.study.proofs.CallLaws.{measures-by, obeying-valid, enters, skip-order, withdrawn-setting, withdrawn-distance, skip-inside}
-use Rattle.study.proofs.ReasonLaws.{refused-last}
+use Rattle.study.proofs.ReasonLaws.{holds-none, refused-at, refused-last}
 
 -- by settings and distances alone
 pub duplicated-same : (n x : ℕ) (f g d e : ℕ → ℕ) → ((i : ℕ) → i < n → f i ≡ g i) → ((i : ℕ) → i < n → d i ≡ e i)
@@ -59,6 +61,28 @@ module _ (s : ℕ) (row : List ℕ) (S : Study) where
   abbrev again : Bool
   again = duplicated (λ i. tide S i .setting) (size S) s (λ i. getD row i 0)
 
+  -- whether it is one of tide i
+  abbrev again-of : ℕ → Bool
+  again-of i = alike (tide S i .setting) s (getD row i 0)
+
+  again-of-T : (i : ℕ) → T (again-of i) ↔ ((tide S i .setting ≡ s) × (getD row i 0 ≡ 0))
+  again-of-T i =
+      let zero = eqb (getD row i 0) 0 in
+      let same = eqb (tide S i .setting) s in (
+        λ t. (eqb→eq (tide S i .setting) s (T-right zero same t), eqb→eq (getD row i 0) 0 (T-left zero same t)),
+        λ h. and-T zero same (eq→eqb (getD row i 0) 0 (h .1)) (eq→eqb (tide S i .setting) s (h .0)),
+      )
+
+  again-T : T again ↔ DuplicateOf S s row
+  unfolding duplicated
+  again-T = (
+    λ t.
+        let r = any-at (size S) again-of t in
+        let h = again-of-T (r .0) .0 (r .2) in
+        record { held = r .0; inside = r .1; same-setting = h .0; at-zero = h .1 },
+    λ D. any-of (size S) again-of (D .held) (D .inside) (again-of-T (D .held) .1 (D .same-setting, D .at-zero)),
+  )
+
   -- the tides held are duplicates of each other as before
   entered-before : (u : ℕ) → u < size S → duplicate-at E u ≡ duplicate-at S u
   entered-before u l =
@@ -88,6 +112,9 @@ module _ (s : ℕ) (row : List ℕ) (S : Study) where
         refused-last (take 5 (enterReasons S s row)) (again ⇒ number 15)
         (not-15 22 tt, (not-15 4 tt, (not-15 5 tt, (not-15 6 tt, (seven-not-15 (violations (distance S) (size S) (λ i. getD row i 0)), tt))))) e
 
+    pub refused-duplicate : (firstOf (take 5 (enterReasons S s row)) ≡ accepted) × DuplicateOf S s row
+    refused-duplicate = (holds-none (take 5 (enterReasons S s row)) (refused-so .0), again-T .0 (refused-so .1))
+
     pub one-entered : holdsDuplicate E ≡ true
     unfolding holdsDuplicate
     one-entered =
@@ -100,6 +127,15 @@ module _ (s : ℕ) (row : List ℕ) (S : Study) where
         let h = refused-so .0 in
         obeying-valid s row S ok (measures-by S s row (h .0) (h .1 .0) (h .1 .1 .0) (h .1 .1 .1 .0))
         (not-not (isEmpty (violations (distance S) (size S) (λ i. getD row i 0))) (h .1 .1 .1 .1 .0))
+
+  -- where no reason before 15 holds, a duplicate of a tide held is refused by it
+  pub duplicate-refused : firstOf (take 5 (enterReasons S s row)) ≡ accepted → DuplicateOf S s row
+      → firstOf (enterReasons S s row) ≡ refused (number 15)
+  unfolding enterReasons
+  duplicate-refused e D = refused-at (enterReasons S s row) 5 (none-holds (take 5 (enterReasons S s row)) e) (again-T .1 D)
+
+  pub accepted-none : firstOf (enterReasons S s row) ≡ accepted → DuplicateOf S s row → ⊥
+  accepted-none e D = T-not again (enters S s row e .new) (again-T .1 D)
 
 -- ---- the other calls
 

@@ -16,7 +16,7 @@ use Rattle.study.proofs.Dictionary.{blocking-precedes, blocking-found}
 use Rattle.study.proofs.NearestLaws.{centre-le, nearest-block, nearest-only, some-centre}
 use Rattle.study.proofs.StudyLaws.{study-symmetric, study-lawful, study-reordered, ample-T}
 use Rattle.study.proofs.CallLaws.{opening-valid, minima-valid, entering-valid, withdrawing-valid}
-use Rattle.study.proofs.DuplicateLaws.{none-entered, one-entered, still-valid}
+use Rattle.study.proofs.DuplicateLaws.{refused-duplicate, duplicate-refused, accepted-none, none-entered, one-entered, still-valid}
 use Rattle.study.proofs.MinimaLaws.{acceptable-T, valid-understood, newly-below, below-invalid, minima-accepted}
 
 pub canonical : (P : Problem) → Lawful P → T (P .enough (λ t. true)) → Canonical P
@@ -86,4 +86,10 @@ for-minima S M =
 
 pub for-duplicates : (S : Study) (setting : ℕ) (row : List ℕ) → ForDuplicates S setting row
 for-duplicates S s row =
-    record { none-after = none-entered s row S; one-after = one-entered s row S; still-valid = λ ok e. still-valid s row S e ok }
+    record {
+      exactly = (refused-duplicate s row S, λ h. duplicate-refused s row S (h .0) (h .1));
+      accepted-none = accepted-none s row S;
+      none-after = none-entered s row S;
+      one-after = one-entered s row S;
+      still-valid = λ ok e. still-valid s row S e ok;
+    }

@@ -147,8 +147,19 @@ pub record ForMinima (S : Study) (M : Minima) : Type 0 where
   -- newly accepted are those with b0 below the sum, and no others
   pub newly : ((firstOf (minimaReasons S M) ≡ accepted) × T (not (validMinima (S .k) M))) ↔ (Acceptable (S .k) M × (M .b0 < sumOfParts M))
 
--- what Enter does about duplicates (document 02, 2.8: twins), for every study and tide
+-- a tide of this setting, at the row's distances, is a duplicate (document 02, 2.8: a twin) of a tide held: at 0 from it, and of its setting
+pub record DuplicateOf (S : Study) (setting : ℕ) (row : List ℕ) : Type 0 where
+  pub held : ℕ
+  pub inside : held < size S
+  pub same-setting : tide S held .setting ≡ setting
+  pub at-zero : getD row held 0 ≡ 0
+
+-- what Enter does about duplicates, for every study and tide
 pub record ForDuplicates (S : Study) (setting : ℕ) (row : List ℕ) : Type 0 where
+  -- 15 is exact, whatever is held already: none of the reasons before it holds (22, 4, 5, 6, 7), and the tide is a duplicate of one held
+  pub exactly : (firstOf (enterReasons S setting row) ≡ refused (number 15))
+      ↔ ((firstOf (take 5 (enterReasons S setting row)) ≡ accepted) × DuplicateOf S setting row)
+  pub accepted-none : firstOf (enterReasons S setting row) ≡ accepted → DuplicateOf S setting row → ⊥
   -- where none is held and Enter is accepted, none is held after
   pub none-after : holdsDuplicate S ≡ false → firstOf (enterReasons S setting row) ≡ accepted → holdsDuplicate (entered setting row S) ≡ false
   -- with a tide that is refused 15 one would be held, and a valid study would still be one
