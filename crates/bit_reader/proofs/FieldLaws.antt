@@ -1,19 +1,20 @@
 -- The code's cut out of four bytes is the field, and what a caller knows of a field that was read. Assumes nothing.
 use Prim.Native.Nat.{ℕ, _+_, _-_, _*_, _/_, _%_, _^_, _≤_, _<_}
+use native.Mathlib.Nat.{div-one}
 use native.Mathlib.Omega.{arith}
 use mathlib.Core.Path.{_≡_, sym, ap, ap₂, _∙_, subst}
 use mathlib.Core.Bool.{Bool, true, false, not}
 use mathlib.Core.List.{List}
-use lib.Dec.{leb}
+use lib.Dec.{leb, eqb}
 use lib.ListN.{length, getD}
-use lib.Pow.{field, shl-shr, shr-shr}
+use lib.Pow.{field, low, shl-shr, shr-shr}
 use borrow.Author.Tests.{leb-true, leb-false, not-true, not-false}
-use Rattle.file_format.specs.Bits.{bitsAt}
+use Rattle.file_format.specs.Bits.{binary, bitAt, bitsAt}
 use Rattle.file_format.specs.Theorems.{Bytes}
-use Rattle.file_format.proofs.BitLaws.{bitsAt-small, window}
+use Rattle.file_format.proofs.BitLaws.{bitsAt-small, binary-split, byte-at, window}
 use Rattle.bit_reader.specs.declared.Place.{Place}
 use Rattle.bit_reader.specs.declared.FieldValue.the-variants as FieldValueCase
-use Rattle.bit_reader.specs.Fields.{BitsRead, FieldGot, FieldRead}
+use Rattle.bit_reader.specs.Fields.{BitsRead, Askable, FieldGot, FieldRead, AskableTwo}
 
 -- ---- reading
 
@@ -48,6 +49,37 @@ module _ (s : List ℕ) {n : ℕ} (p : Place) (h : BitsRead p n) where
       bit-is : p .bit ≡ n % 8
       bit-is = omega (arith, h .below, h .count)
 
+-- ---- the last bits
+
+-- no bits form 0
+pub no-bits : (s : List ℕ) (at w : ℕ) → w ≡ 0 → true ≡ eqb (bitsAt s at w) 0
+unfolding binary
+no-bits s at w e = sym (ap (λ x. eqb (binary (bitAt s) at x) 0) e)
+
+-- the last w bits are those of the last byte, x
+pub last-bits : (s : List ℕ) → Bytes s → (w : ℕ) → 1 ≤ length s → w ≤ 8 → (x : ℕ) → x ≡ getD s (length s - 1) 0
+    → x * 2 ^ (32 - w) % 4294967296 / 2 ^ (32 - w) ≡ bitsAt s (8 * length s - w) w
+last-bits s bytes w one narrow x e =
+    let none : 32 - (32 - w) - w ≡ 0 = omega arith in
+    cut x (32 - w) w (omega arith)
+    ∙ ap (λ k. x / 2 ^ k % 2 ^ w) none ∙ ap (λ y. y % 2 ^ w) (div-one x ∙ in-two)
+    ∙ low (bitsAt s start (8 - w)) w (bitsAt-small s (start + (8 - w)) w) ∙ ap (λ p. bitsAt s p w) from
+  where
+    -- where the last byte begins
+    start : ℕ
+    start = 8 * (length s - 1)
+
+    -- its bits in front of the last w, and those
+    in-two : x ≡ bitsAt s start (8 - w) * 2 ^ w + bitsAt s (start + (8 - w)) w
+    in-two =
+        let eight : 8 ≡ 8 - w + w = omega arith in
+        e ∙ sym (byte-at s bytes (length s - 1)) ∙ ap (bitsAt s start) eight ∙ binary-split (bitAt s) start (8 - w) w
+
+    from : start + (8 - w) ≡ 8 * length s - w
+    from = omega arith
+
+-- ---- the length
+
 -- what the test of the length told
 module _ (s : List ℕ) (m : ℕ) {r : Bool} (e : r ≡ leb m (8 * length s)) where
   pub inside : not r ≡ false → m ≤ 8 * length s
@@ -55,6 +87,12 @@ module _ (s : List ℕ) (m : ℕ) {r : Bool} (e : r ≡ leb m (8 * length s)) wh
 
   pub outside : not r ≡ true → 8 * length s < m
   outside q = leb-false m (8 * length s) (sym e ∙ not-true r q)
+
+-- ---- what can be asked for
+
+-- after the first of two fields, the second
+pub then-askable : {p q : Place} {v w : ℕ} (two : AskableTwo p v w) → BitsRead q (two .first .read + v) → Askable q w
+then-askable two here = record { read = _; here = here; low = two .low; wide = two .wide; narrow = two .narrow }
 
 -- ---- what was read
 

@@ -1,12 +1,14 @@
 -- The record of Theorems.antt, proved. Assumes nothing.
-use Prim.Native.Nat.{ℕ}
+use Prim.Native.Nat.{ℕ, _≤_}
 use mathlib.Core.Path.{_≡_, sym, ap, _∙_, subst}
 use mathlib.Core.Bool.{false}
-use mathlib.Core.List.{List}
+use mathlib.Core.List.{List, [], _∷_}
 use lib.Dec.{T}
+use Rattle.study.specs.Limits.{maxWithdrawals}
+use Rattle.study.specs.Study.{Study, Valid}
 use Rattle.study.specs.Refusals.{accepted, firstOf}
 use Rattle.study.specs.Theorems.{ValidContents}
-use Rattle.file_format.specs.File.{newMark, oldMark, fileOf, markOf, decoded, readReasons}
+use Rattle.file_format.specs.File.{newMark, oldMark, fileOf, oldFile, markOf, decoded, readReasons}
 use Rattle.file_format.specs.Theorems.{Bytes, OldFile}
 use Rattle.file_format.proofs.Proofs.{files}
 use Rattle.validity.specs.Memory.{State, short, isDataset, contentsOf}
@@ -55,6 +57,15 @@ module _ (over : State) (bytes : List ℕ) (e : answer over (readsFile bytes) �
   old-only : Bytes bytes → markOf bytes ≡ oldMark → OldFile bytes (contentsOf (after over (readsFile bytes)))
   old-only b m = subst (OldFile bytes) (sym holds) (files .old-only bytes b (own over bytes e) m)
 
+-- an old file of a valid study
+module _ (over : State) (count : ℕ) (S : Study) (e : short over ≡ false) (l : count ≤ maxWithdrawals) (ok : Valid S) where
+  old-accepts : answer over (readsFile (oldFile count S)) ≡ accepted
+  unfolding readsFile
+  old-accepts = sym (source-own over _ e) ∙ files .old-accepts count S l ok
+
+  old-gives : contentsOf (after over (readsFile (oldFile count S))) ≡ record { study = S; withdrawals = count ∷ 0 ∷ 0 ∷ 0 ∷ [] }
+  old-gives = holds over (oldFile count S) old-accepts ∙ files .old-gives count S l ok
+
 pub for-files : ForFiles
 for-files =
     record {
@@ -65,4 +76,6 @@ for-files =
       marked = λ over bytes e. files .marked bytes (own over bytes e);
       only = λ over bytes b e. only over bytes e b;
       old-only = λ over bytes b e. old-only over bytes e b;
+      old-accepts = old-accepts;
+      old-gives = old-gives;
     }

@@ -22,9 +22,9 @@ use Rattle.access.specs.Calls.{answer, made, after}
 use Rattle.access.proofs.AccessLaws.{unmoved, stays, leaves, source-short, source-own}
 use Rattle.study_file.specs.Calls.{readsFile}
 use Rattle.bit_reader.specs.declared.Place.{Place}
-use Rattle.study_file.specs.Heading.{HeadRecord}
-use Rattle.study_file.specs.Loading.{Loaded, Reading, TidesRead}
-use Rattle.study_file.proofs.LoadingLaws.{loaded-none, loaded-accepted, copied-distances, copied-settings}
+use Rattle.file_fields.specs.Heading.{HeadRecord}
+use Rattle.file_fields.specs.Loading.{Loaded, Reading, TidesRead}
+use Rattle.file_fields.proofs.LoadingLaws.{loaded-none, loaded-accepted, copied-distances, copied-settings}
 
 -- ---- on the way
 

@@ -21,8 +21,8 @@ use Rattle.access.specs.Calls.{nobody, Output, firstList, lent, answer, reply, 
 use Rattle.access.specs.Passed.{Passed, heldAnswer}
 use Rattle.access.proofs.AccessLaws.{held-refused, passed-valid, inquiry-answer, inquiry-own, replies-refusal, unwritten, replies, writes}
 use Rattle.study_file.specs.Calls.{writeReasons, writesFile}
-use Rattle.study_file.specs.Putting.{PutFields, Writable, fileFields}
-use Rattle.study_file.proofs.PuttingLaws.{file-written}
+use Rattle.file_fields.specs.Putting.{PutFields, Writable, fileFields}
+use Rattle.file_fields.proofs.PuttingLaws.{file-written}
 
 -- a refused call answers no length, and leaves the lent bytes
 module _ (σ : State) (file : List ℕ) where

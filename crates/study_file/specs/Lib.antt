@@ -1,9 +1,3 @@
--- To be read beside document 01: Calls, Theorems. The rest: inner promises.
+-- To be read beside document 01: Calls, Theorems.
 pub mod Calls
-pub mod Writing
-pub mod Putting
-pub mod Advance
-pub mod Heading
-pub mod Loading
 pub mod Theorems
-pub mod Rows

@@ -1,10 +1,10 @@
 // Read and Write: for any record, memory and bytes of any length, the answer and what stands afterwards.
-use crate::head::read_head;
-use crate::memory::copy_distances;
-use crate::memory::copy_settings;
-use crate::tides::read_tides;
-use crate::writing::byte_length;
-use crate::writing::put_fields;
+use file_fields::head::read_head;
+use file_fields::memory::copy_distances;
+use file_fields::memory::copy_settings;
+use file_fields::tides::read_tides;
+use file_fields::writing::byte_length;
+use file_fields::writing::put_fields;
 use study::Answer;
 use study::Dataset;
 use study::MAX_TIDES;
@@ -12,14 +12,6 @@ use study::Outcome;
 use study::Refusal;
 use study::TABLE_SIZE;
 use validity::is_short;
-
-mod head;
-mod length;
-mod memory;
-mod progress;
-mod tides;
-mod writing;
-
 ghost use mathlib.Core.Path.{_≡_};
 ghost use Rattle.validity.specs.Memory.{stateOf, entryState, exitState};
 ghost use Rattle.access.specs.Calls.{answer, after, reply, listAfter};
