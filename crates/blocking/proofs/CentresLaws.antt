@@ -25,7 +25,7 @@ use Rattle.study.proofs.CallLaws.{none-holds}
 use Rattle.study.proofs.StudyLaws.{study-lawful}
 use Rattle.study.proofs.NearestLaws.{some-centre}
 use Rattle.radius_theory.specs.Arrays.{within, arrayProblem}
-use Rattle.radius_search.specs.Inputs.{DistanceRows}
+use Rattle.radius_theory.specs.Arrays.{DistanceRows}
 use Rattle.radius_search.specs.Front.{CentresAt}
 use Rattle.radius_search.proofs.FrontLaws.{front-at}
 use Rattle.validity.specs.Memory.{State, studyOf, contentsOf}

@@ -2,15 +2,14 @@
 use Prim.Native.Nat.{ℕ, suc, _+_, _-_, _≤_, _<_}
 use native.Mathlib.Omega.{arith}
 use native.Mathlib.Numerals.{add-one}
-use mathlib.Core.Path.{_≡_, sym, ap, ap₂, _∙_, subst}
+use mathlib.Core.Path.{_≡_, sym, ap, _∙_, subst}
 use mathlib.Core.Logic.{⊎-elim}
 use mathlib.Core.List.{List, _++_}
-use lib.ListN.{length, getD, take, drop, set}
+use lib.ListN.{length, getD, take, drop}
 use lib.Seq.{getD-take}
-use Rattle.lists.specs.Lists.{tabulate, overwrite, countBelow, TailKept}
+use Rattle.lists.specs.Lists.{tabulate, overwrite, countBelow}
 use Rattle.lists.proofs.Counts.{count-same}
-use Rattle.lists.proofs.Tables.{length-tabulate, getD-tabulate, tabulate-is, getD-overwrite, getD-past, length-overwrite}
-use Rattle.lists.proofs.Tables.{overwrite-none, overwrite-step, overwrite-done}
+use Rattle.lists.proofs.Tables.{length-tabulate, getD-tabulate, tabulate-is, getD-overwrite, length-overwrite}
 use Rattle.study.specs.Limits.{maxTides}
 use Rattle.study.specs.Problem.{Problem, centresAmong, centres, centreOf, block, labels, radius, blocking}
 use Rattle.study.specs.Theorems.{Assignment, Prefers, FirstAssignment}
@@ -23,7 +22,7 @@ use Rattle.radius_search.specs.Front.{Front}
 use Rattle.radius_search.proofs.FrontLaws.{front-at, front-few, front-below, centres-few}
 use Rattle.radius_search.proofs.AssigningLaws.{numbered, numbered-at, centre-dist, allowed-by, assigns}
 use Rattle.radius_search.specs.Ascents.{Least}
-use Rattle.blocking_core.specs.First.{rank, First, Agree}
+use Rattle.first_assignment.specs.First.{rank, First, Agree}
 use Rattle.blocking_core.specs.Measured.{Measured}
 use Rattle.blocking_core.proofs.MeasuredLaws.{across-diameter, widest-diameter}
 use Rattle.blocking_core.specs.Core.{Blocks, Assigns}
@@ -84,24 +83,22 @@ module _ {d : List ℕ} {n : ℕ} {E : Test} (Q : ValidArrays d n E) {g count₁
 
 -- from the search, the first assignment there, and its numbering
 pub assigned-core : {d : List ℕ} {n : ℕ} {E : Test} (Q : ValidArrays d n E) {g count₁ : ℕ} {cs lent allowed found first old list : List ℕ}
-    → n ≤ maxTides → Least d n E g count₁ cs lent allowed found → First (rank d cs) n count₁ E allowed first → TailKept n old found
-    → TailKept n found first → n ≤ length old → list ≡ overwrite n (λ t. labels first t + 1) first → Assigns d n E g count₁ cs old list
+    → n ≤ maxTides → Least d n E g count₁ cs lent allowed found → First (rank d cs) n count₁ E allowed first → n ≤ length old
+    → list ≡ overwrite n (λ t. labels first t + 1) old → Assigns d n E g count₁ cs old list
 unfolding numbered overwrite labels
-assigned-core {d} {n} {E} Q {g} {count₁} {cs} {first = first} {old = old} {list = list} few L F K J long e =
+assigned-core {d} {n} {E} Q {g} {count₁} {cs} {first = first} {old = old} {list = list} few L F long e =
     record {
       radius-of = sym (radius-is Q few L F);
       centres-of = L .centres;
       list-of = whole;
-      same-length =
-          ap length e ∙ length-overwrite (λ t. labels first t + 1) first n (omega (arith, K .same-length, J .same-length))
-          ∙ J .same-length ∙ K .same-length;
+      same-length = ap length e ∙ length-overwrite (λ t. labels first t + 1) old n long;
       low = λ t l. omega (arith, at t l);
       high = λ t l. omega (arith, at t l, F .assigned .below t l, front-few few (L .centres));
       same = λ t l. at t l ∙ sym (ap (λ z. labels z t) (blocking-is Q few L F) ∙ numbered-at n (labels first) t l ∙ sym (add-one (labels first t)));
     }
   where
     at : (t : ℕ) → t < n → labels list t ≡ labels first t + 1
-    at t l = ap (λ z. getD z t 0) e ∙ getD-overwrite (λ t. labels first t + 1) first n t 0 l
+    at t l = ap (λ z. getD z t 0) e ∙ getD-overwrite (λ t. labels first t + 1) old n t 0 l
 
     front : tabulate n (λ t. labels first t + 1) ≡ blocking (arrayProblem d n E)
     front =
@@ -110,7 +107,7 @@ assigned-core {d} {n} {E} Q {g} {count₁} {cs} {first = first} {old = old} {lis
         ∙ sym (blocking-is Q few L F)
 
     whole : list ≡ blocking (arrayProblem d n E) ++ drop n old
-    whole = e ∙ ap₂ (λ a b. a ++ b) front (J .rest ∙ K .rest)
+    whole = e ∙ ap (λ a. a ++ drop n old) front
 
 -- from these and their measures
 pub core-blocks : {d : List ℕ} {n : ℕ} {E : Test} {g count₁ widest : ℕ} {cs old list sizes diameters : List ℕ} → n ≤ maxTides
@@ -141,25 +138,3 @@ core-blocks {d} {n} {E} {g} {count₁} {cs = cs} {list = list} few A R =
     block-same i =
         count-same n (block (labels list) (suc i)) (block (labels (blocking P)) (suc i))
         (λ t l. blocks-same (labels list) (labels (blocking P)) (suc i) t (A .same t l))
-
--- ---- the first t places are one more
-
-pub record NumberedTo (t : ℕ) (old list : List ℕ) : Type 0 where
-  pub is : list ≡ overwrite t (λ x. labels old x + 1) old
-
-pub numbered-none : (old : List ℕ) → NumberedTo 0 old old
-numbered-none old = record { is = overwrite-none (λ x. labels old x + 1) old }
-
-pub numbered-length : {t : ℕ} {old list : List ℕ} → NumberedTo t old list → t ≤ length old → length list ≡ length old
-numbered-length {t} {old} N l = ap length (N .is) ∙ length-overwrite (λ x. labels old x + 1) old t l
-
-pub numbered-here : {t : ℕ} {old list : List ℕ} → NumberedTo t old list → getD list t 0 ≡ labels old t
-unfolding labels
-numbered-here {t} {old} N = ap (λ z. getD z t 0) (N .is) ∙ getD-past (λ x. labels old x + 1) old t t 0 (omega arith)
-
-pub numbered-more : {t : ℕ} {old list : List ℕ} → NumberedTo t old list → t < length old → NumberedTo (t + 1) old (set list t (getD list t 0 + 1))
-numbered-more {t} {old} {list} N l =
-    record { is = overwrite-step (λ x. labels old x + 1) old (getD list t 0 + 1) (N .is) (ap (λ z. z + 1) (numbered-here N)) l }
-
-pub numbered-done : {t n : ℕ} {old list : List ℕ} → t ≡ n → NumberedTo t old list → list ≡ overwrite n (λ x. labels old x + 1) old
-numbered-done {old = old} e N = overwrite-done (λ x. labels old x + 1) old e (N .is)

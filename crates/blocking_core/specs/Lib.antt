@@ -1,5 +1,3 @@
--- Inner promises, which the contracts of this crate cite: Core, of what `block_rows` hands to `blocking`; the rest of private functions.
-pub mod Column
-pub mod First
+-- Inner promises, which the contracts of this crate cite: Core, of what `block_rows` hands to `blocking`; Measured, of the blocks' measures.
 pub mod Measured
 pub mod Core

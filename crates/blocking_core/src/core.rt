@@ -1,6 +1,6 @@
 // The blocking of a valid study that has enough tides.
-use crate::first::first_assignment;
 use crate::measure::measure;
+use first_assignment::first::first_assignment;
 use radius_search::LeastRadius;
 use radius_search::least_radius;
 use study::MAX_TIDES;
@@ -27,20 +27,21 @@ pub struct Rows {
     pub diameters: [u32; MAX_TIDES],
 }
 
-// Blocks are numbered from 1 in the list.
-fn number(list: &mut [u8], n: usize)
-    requires { ⌜ n ≤ length (now list) ⌝ }
-    requires { ⌜ ((t : ℕ) → t < n → labels (now list) t < maxTides) ⌝ }
-    ensures { λ _. ⌜ now (list .exit) ≡ overwrite n (λ (t : ℕ). labels (now (list .entry)) t + 1) (now (list .entry)) ⌝ }
+// Writes the list: blocks are numbered from 0 in the search, from 1 in the list.
+fn number(blocks: &[u8], list: &mut [u8], n: usize)
+    requires { ⌜ (n ≤ length (now blocks)) × (n ≤ length (now list)) ⌝ }
+    requires { ⌜ ((t : ℕ) → t < n → labels (now blocks) t < maxTides) ⌝ }
+    ensures { λ _. ⌜ now (list .exit) ≡ overwrite n (λ (t : ℕ). labels (now (blocks .entry)) t + 1) (now (list .entry)) ⌝ }
 {
     let mut t = 0;
     while t < n {
-        list[t] = list[t] + 1;
+        list[t] = blocks[t] + 1;
         t += 1;
     }
 }
 
-// The least radius with an assignment, its centres, and the first assignment there.
+// The least radius with an assignment, its centres, and the first assignment there. The search begins from what its list holds, so it gets one
+// of its own: the lent list is only written.
 fn assign(
     distances: &[u32],
     settings: &[u8],
@@ -56,7 +57,16 @@ fn assign(
         (now (centres .exit)) (now (list .entry)) (now (list .exit)) ⌝ }
 {
     let mut allowed: [u8; TABLE_SIZE] = [0; TABLE_SIZE];
-    let found = least_radius(distances, settings, n, minima, centres, &mut allowed, list);
+    let mut blocks: [u8; MAX_TIDES] = [0; MAX_TIDES];
+    let found = least_radius(
+        distances,
+        settings,
+        n,
+        minima,
+        centres,
+        &mut allowed,
+        &mut blocks,
+    );
     let count = found.count;
     first_assignment(
         distances,
@@ -66,9 +76,9 @@ fn assign(
         minima,
         settings,
         &mut allowed,
-        list,
+        &mut blocks,
     );
-    number(list, n);
+    number(&blocks, list, n);
     found
 }
 

@@ -4,5 +4,3 @@ pub mod OutputLaws
 pub mod BlockLaws
 pub mod TariffLaws
 pub mod MendLaws
-pub mod RunLaws
-pub mod Proofs

@@ -31,7 +31,7 @@ use Rattle.access.proofs.AccessLaws.{output-is, unwritten, inquiry-accepted, in
 use Rattle.study_file.specs.declared.Written.{Written}
 use Rattle.study_file.specs.declared.Written.the-variants as WrittenCase
 use Rattle.study_file.specs.Calls.{writeReasons, writtenOf, writesFile}
-use Rattle.study_file.proofs.Lengths.{length-sum}
+use Rattle.file_fields.proofs.Lengths.{length-sum}
 use Rattle.blocking.specs.Calls.{allThree, findsCentres, centresFront, judgesList, judgedReply}
 use Rattle.narrowing.specs.Narrowing.{narrowDataset}
 use Rattle.c_records.specs.Record.{Lent, recordSize, datasetOf, stateIn, code}

@@ -1,4 +1,2 @@
--- To be read beside documents 01 and 02: Api, Runs; what is proved of them: Theorems.
+-- To be read beside documents 01 and 02: Api. What is proved of it stands in c_guarantee.
 pub mod Api
-pub mod Runs
-pub mod Theorems

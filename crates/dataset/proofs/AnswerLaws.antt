@@ -11,7 +11,6 @@ use lib.ListN.{length, getD, set, replicate}
 use borrow.Author.Tests.{le-leb, lt-leb, eq-eqb, ne-eqb}
 use Rattle.lists.specs.Lists.{between, every, overwrite}
 use Rattle.lists.proofs.Tests.{split}
-use Rattle.lists.proofs.Scans.{every-fails, every-done}
 use Rattle.study.specs.Limits.{cell}
 use Rattle.study.specs.declared.Minima.{Minima}
 use Rattle.study.specs.declared.Dataset.{Dataset}
@@ -38,8 +37,9 @@ use Rattle.triangle.specs.declared.Violation.the-variants as ViolationCase
 use Rattle.access.specs.Calls.{answer, made, after}
 use Rattle.access.specs.Passed.{Passed}
 use Rattle.access.proofs.AccessLaws.{one-user, user-known, user-place, passed-by, unmoved, leaves, source-short, source-own, update-own, update-accepted}
+use Rattle.duplicates.specs.Scan.{duplicateAnswer}
 use Rattle.dataset.specs.Calls.{opensDataset, setsMinima, entersTide, withdrawsTide}
-use Rattle.dataset.specs.Accepted.{testedMinima, duplicateOf, duplicateAnswer, EnterAccepted, WithdrawAccepted}
+use Rattle.dataset.specs.Accepted.{testedMinima, EnterAccepted, WithdrawAccepted}
 
 -- ---- Open
 
@@ -131,22 +131,6 @@ module _ (s : State) (M : Minima) (P : Passed s) where
         (a, laid ∙ leaves s (setsMinima M) a)
 
 -- ---- Enter
-
--- what the scan for a duplicate answers: it found one, or passed all tides
-module _ (settings : List ℕ) (setting : ℕ) (row : List ℕ) where
-  abbrev pub differs : ℕ → Bool
-  differs i = not (duplicateOf settings setting row i)
-
-  scanned : (b : Bool) → every (length row) differs ≡ b → cond (not b) (refused (number 15)) accepted ≡ duplicateAnswer settings setting row
-  unfolding duplicateAnswer duplicated duplicateOf
-  scanned b e = ap (λ b. cond (not b) (refused (number 15)) accepted) (sym e)
-
-  pub duplicate-found : (i : ℕ) → i < length row → duplicateOf settings setting row i ≡ true
-      → refused (number 15) ≡ duplicateAnswer settings setting row
-  duplicate-found i l e = scanned false (every-fails differs (length row) i l (ap not e))
-
-  pub duplicate-none : (i : ℕ) → i ≤ length row → length row ≤ i → every i differs ≡ true → accepted ≡ duplicateAnswer settings setting row
-  duplicate-none i a b e = scanned true (every-done differs i (length row) a b e)
 
 -- what the code has found out once it is past 22, 4, 5 and 6
 pub record EnterTested (s : State) (setting : ℕ) (row : List ℕ) : Type 0 where

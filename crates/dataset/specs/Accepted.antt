@@ -1,14 +1,13 @@
 -- Inner promises of the calls: what a call may rely on once it is accepted. Assumes nothing.
 use Prim.Native.Nat.{ℕ, _≤_, _<_}
 use mathlib.Core.Path.{_≡_}
-use mathlib.Core.Bool.{Bool, cond}
+use mathlib.Core.Bool.{cond}
 use mathlib.Core.List.{List}
 use lib.Dec.{leb}
-use lib.ListN.{length, getD}
+use lib.ListN.{length}
 use Rattle.study.specs.Limits.{maxTides, maxUsers, maxWithdrawals}
 use Rattle.study.specs.declared.Minima.{Minima}
-use Rattle.study.specs.Refusals.{number, Verdict, accepted, refused}
-use Rattle.study.specs.Calls.{sumOfParts, understood, alike, duplicated, entering, countOf, withdrawing}
+use Rattle.study.specs.Calls.{sumOfParts, understood, entering, countOf, withdrawing}
 use Rattle.validity.specs.Memory.{State, contentsOf, stored}
 use Rattle.access.specs.Calls.{after}
 use Rattle.access.specs.Passed.{Passed}
@@ -17,15 +16,6 @@ use Rattle.dataset.specs.Calls.{entersTide, withdrawsTide}
 -- the record that Minima tests: as understood, but as given where the b's are together above 120; then it is refused either way
 abbrev pub testedMinima : Minima → Minima
 testedMinima M = cond (leb (sumOfParts M) maxTides) (understood M) M
-
--- a new tide is a duplicate of tide i, by the settings in memory
-unfoldable pub duplicateOf : List ℕ → ℕ → List ℕ → ℕ → Bool
-duplicateOf settings setting row i = alike (getD settings i 0) setting (getD row i 0)
-
--- the last of Enter's reasons, by the settings in memory
-unfoldable pub duplicateAnswer : List ℕ → ℕ → List ℕ → Verdict
-duplicateAnswer settings setting row =
-    cond (duplicated (λ i. getD settings i 0) (length row) setting (λ i. getD row i 0)) (refused (number 15)) accepted
 
 -- what an accepted Enter tells
 pub record EnterAccepted (s : State) (setting : ℕ) (row : List ℕ) : Type 0 where

@@ -1,5 +1,5 @@
 // Open, Minima, Enter, Withdraw: for any record and memory of any length, the answer and what stands afterwards.
-use crate::duplicates::check_duplicate;
+use duplicates::check_duplicate;
 use study::Answer;
 use study::Dataset;
 use study::MAX_K;
@@ -13,9 +13,6 @@ use study::Refusal;
 use study::wide;
 use triangle::Violation;
 use validity::is_short;
-
-mod duplicates;
-
 ghost use mathlib.Core.Path.{_≡_};
 ghost use lib.Dec.{T};
 ghost use Rattle.study.specs.Refusals.{isUser, verdictOf};

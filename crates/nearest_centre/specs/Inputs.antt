@@ -4,7 +4,7 @@ use mathlib.Core.Path.{_≡_}
 use mathlib.Core.List.{List}
 use lib.ListN.{length}
 use Rattle.study.specs.Limits.{maxTides}
-use Rattle.radius_search.specs.Inputs.{DistanceRows, TidesIn}
+use Rattle.radius_theory.specs.Arrays.{DistanceRows, TidesIn}
 
 -- the distances of n tides, and a table with count of these tides in front, at least one
 pub record Centred (d : List ℕ) (n : ℕ) (table : List ℕ) (count : ℕ) : Type 0 where

@@ -17,7 +17,7 @@ use Rattle.study.specs.Problem.{centresAmong}
 use Rattle.study.proofs.ProblemLaws.{among-below}
 use Rattle.radius_theory.specs.Arrays.{within, SizedArrays}
 use Rattle.radius_theory.proofs.ArrayLaws.{within-is}
-use Rattle.radius_search.specs.Inputs.{DistanceRows, TidesIn}
+use Rattle.radius_theory.specs.Arrays.{DistanceRows, TidesIn}
 use Rattle.radius_search.specs.Front.{Front, CentresAt, FarFrom}
 
 pub front-at : {table : List ℕ} {count : ℕ} {l : List ℕ} → Front table count l → (m : ℕ) → m < count → getD table m 0 ≡ getD l m 0

@@ -1,9 +1,8 @@
 -- What the functions of the search may assume of their arrays, said once each. Assumes nothing.
-use Prim.Native.Nat.{ℕ, _*_, _≤_, _<_}
+use Prim.Native.Nat.{ℕ, _≤_, _<_}
 use mathlib.Core.Path.{_≡_}
 use mathlib.Core.List.{List}
 use lib.ListN.{length}
-use Rattle.lists.specs.Lists.{at}
 use Rattle.study.specs.Limits.{maxTides, tableSize}
 use Rattle.study.specs.declared.Minima.{Minima}
 use Rattle.study.specs.Problem.{Problem}
@@ -26,16 +25,6 @@ ValidInput d s n M = ValidArrays d n (meeting M n s)
 pub record Input (d s : List ℕ) (n : ℕ) (M : Minima) : Type 0 where
   pub sized : SizedInput d s n M
   pub valid : ValidInput d s n M
-
--- the distances of n tides, a row of maxTides places for each
-pub record DistanceRows (d : List ℕ) (n : ℕ) : Type 0 where
-  pub few : n ≤ maxTides
-  pub distances-long : n * maxTides ≤ length d
-
--- the first count places of a table hold tides below n
-pub record TidesIn (table : List ℕ) (count n : ℕ) : Type 0 where
-  pub few : count ≤ maxTides
-  pub below : (m : ℕ) → m < count → at table m < n
 
 -- room for a table of allowed pairs and for a list of n tides
 pub record Room (n : ℕ) (allowed list : List ℕ) : Type 0 where

@@ -5,7 +5,7 @@ ghost use Prim.Native.Nat.{_<_};
 ghost use lib.ListN.{length};
 ghost use Rattle.study.specs.Limits.{maxTides};
 ghost use Rattle.radius_search.specs.Front.{CentresAt, FarFrom};
-ghost use Rattle.radius_search.specs.Inputs.{DistanceRows, TidesIn};
+ghost use Rattle.radius_theory.specs.Arrays.{DistanceRows, TidesIn};
 
 // Whether tide t is farther than g from each of the first count centres.
 fn far_from(

@@ -4,7 +4,7 @@ use study::MAX_TIDES;
 ghost use mathlib.Core.Path.{_≡_};
 ghost use Prim.Native.Nat.{ℕ, _<_};
 ghost use Rattle.radius_theory.specs.Radii.{noRadius};
-ghost use Rattle.radius_search.specs.Inputs.{DistanceRows, TidesIn};
+ghost use Rattle.radius_theory.specs.Arrays.{DistanceRows, TidesIn};
 ghost use Rattle.radius_search.specs.Next.{Next, InRow, InLater, InPairs, InAll, FirstFrom};
 
 // One more than the greatest distance: no radius is so great.

@@ -6,7 +6,7 @@ ghost use lib.Dec.{leb};
 ghost use lib.ListN.{length};
 ghost use Rattle.lists.specs.Lists.{bit};
 ghost use Rattle.study.specs.Limits.{maxTides, tableSize};
-ghost use Rattle.radius_search.specs.Inputs.{DistanceRows, TidesIn};
+ghost use Rattle.radius_theory.specs.Arrays.{DistanceRows, TidesIn};
 ghost use Rattle.radius_search.specs.Table.{Table, RowTo};
 
 // The entry of a tide x away from a block's centre: 1 where it may go there, else 0.

@@ -5,10 +5,21 @@ use mathlib.Core.Bool.{Bool, true, cond, _&&_}
 use mathlib.Core.List.{List}
 use lib.Dec.{T, leb, ltb}
 use lib.ListN.{length}
+use Rattle.lists.specs.Lists.{at}
 use Rattle.study.specs.Limits.{cell, maxTides, maxDistance}
 use Rattle.study.specs.Problem.{Problem}
 use Rattle.study.specs.Theorems.{Lawful}
 use Rattle.promise.specs.Promise.{Test}
+
+-- the distances of n tides, a row of maxTides places for each
+pub record DistanceRows (d : List ℕ) (n : ℕ) : Type 0 where
+  pub few : n ≤ maxTides
+  pub distances-long : n * maxTides ≤ length d
+
+-- the first count places of a table hold tides below n
+pub record TidesIn (table : List ℕ) (count n : ℕ) : Type 0 where
+  pub few : count ≤ maxTides
+  pub below : (m : ℕ) → m < count → at table m < n
 
 -- the distance of two of the first n tides, from distances in rows of maxTides; 0 beyond them
 unfoldable pub within : List ℕ → ℕ → ℕ → ℕ → ℕ

@@ -18,7 +18,7 @@ use Rattle.file_format.specs.File.{newMark, oldMark, byteLength, markOf, counts
 use Rattle.file_format.proofs.BitLaws.{binary-ext}
 use Rattle.file_format.proofs.DecodedLaws.{counts-few}
 use Rattle.file_format.proofs.ReadLaws.{unless-T, refused-head}
-use Rattle.study_file.proofs.Lengths.{length-sum}
+use Rattle.file_fields.proofs.Lengths.{length-sum}
 use Rattle.sheet_text.specs.Text.{refusedText}
 use Rattle.sheet_of_file.specs.Sheet.{printed, fileText, sheetOf}
 use Rattle.sheet_of_file.specs.Limit.{FirstBytesDecide, Decided}

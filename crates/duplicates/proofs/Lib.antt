@@ -1,0 +1,2 @@
+-- Laws, cited by the proofs of this crate.
+pub mod ScanLaws

@@ -1,0 +1,2 @@
+-- Inner promises: Scan, what the scan for a duplicate looks for and answers.
+pub mod Scan
