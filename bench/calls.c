@@ -22,15 +22,14 @@ static double now(void) {
     return t.tv_sec * 1e3 + t.tv_nsec * 1e-6;
 }
 
-/* The list is cleared: what it holds is where the search begins, and the answer of the call before would be the best of beginnings. */
 static uint32_t block(uint32_t *result) {
-    uint8_t list[120] = {0}, centres[120], sizes[120];
+    uint8_t list[120], centres[120], sizes[120];
     uint32_t diameters[120];
     return tides_block(DATASET, list, 120, centres, 120, sizes, 120, diameters, 120, result, 3);
 }
 
 static uint32_t tariff(uint32_t *result) {
-    uint8_t list[120] = {0}, centres[120], sizes[120];
+    uint8_t list[120], centres[120], sizes[120];
     uint32_t diameters[120];
     return tides_tariff(DATASET, list, 120, centres, 120, sizes, 120, diameters, 120, result, 12);
 }
