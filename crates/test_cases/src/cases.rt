@@ -1,13 +1,12 @@
 // Document 01's cases 1 to 6 and studies for document 02, 2.6, through the calls. A place of a list past the last tide is 0 here.
+use crate::comparing::agrees;
+use crate::comparing::blocked;
+use crate::comparing::is_list;
+use blocking::judge::judge;
 use study::BlockRecord;
-use study::Blocked;
+use study::Judged;
 use study::MAX_TIDES;
 use study::Minima;
-use test_comparisons::comparing;
-use test_comparisons::given::blocked;
-use test_comparisons::given::is_list;
-use test_comparisons::judging::is_approved;
-use test_comparisons::judging::judged;
 use test_exhaustive::exhaustive;
 use test_exhaustive::exhaustive::Order;
 use test_exhaustive::small::Small;
@@ -15,6 +14,8 @@ use test_exhaustive::small::table;
 use test_exhaustive::stored::has_duplicate;
 use test_tools::answers::blocked_number;
 use test_tools::answers::is_done;
+use test_tools::slices::front;
+use test_tools::tally;
 use test_tools::tally::Tally;
 
 // Tides in a plane, k = 1 and each b 0.
@@ -28,44 +29,26 @@ fn plane(n: usize, x: [u8; 7], y: [u8; 7], b0: u8) -> Small {
     }
 }
 
-fn line(n: usize, positions: [u8; 7], b0: u8) -> Small {
+pub fn line(n: usize, positions: [u8; 7], b0: u8) -> Small {
     plane(n, positions, [0; 7], b0)
-}
-
-fn greater(a: u32, b: u32) -> u32 {
-    if a < b {
-        return b;
-    }
-    a
 }
 
 // What Block is to give: a diameter past the last block is 0.
 struct Expected {
     count: usize,
     radius: u32,
+    widest: u32,
     diameters: [u32; 3],
     list: [u8; 7],
 }
 
-impl Expected {
-    fn widest(self) -> u32 {
-        let diameters = self.diameters;
-        greater(greater(diameters[0], diameters[1]), diameters[2])
-    }
-
-    fn is_answer(self, answer: Blocked) -> bool {
-        is_done(answer, self.count, self.radius, self.widest())
-    }
-
-    fn has_diameters(self, records: [BlockRecord; MAX_TIDES]) -> bool {
-        let first = records[0];
-        let second = records[1];
-        let third = records[2];
-        let diameters = self.diameters;
-        first.diameter == diameters[0]
-            && second.diameter == diameters[1]
-            && third.diameter == diameters[2]
-    }
+fn has_diameters(records: [BlockRecord; MAX_TIDES], diameters: [u32; 3]) -> bool {
+    let first = records[0];
+    let second = records[1];
+    let third = records[2];
+    first.diameter == diameters[0]
+        && second.diameter == diameters[1]
+        && third.diameter == diameters[2]
 }
 
 // Answer, list and diameters; and the plain blocker gives the same.
@@ -75,11 +58,12 @@ fn blocks(so_far: Tally, small: Small, expected: Expected) -> Tally {
     let places = given.list;
     let records = given.records;
     let list = expected.list;
+    let diameters = expected.diameters;
     so_far
-        .see(expected.is_answer(answer))
+        .see(is_done(answer, expected.count, expected.radius, expected.widest))
         .see(is_list(places, small.n, list))
-        .see(expected.has_diameters(records))
-        .see(comparing::agrees(small, exhaustive::block(small)))
+        .see(has_diameters(records, diameters))
+        .see(agrees(small, exhaustive::block(small)))
 }
 
 // The list and the records of a refusal are as before, by `agrees`.
@@ -88,7 +72,7 @@ fn refused(so_far: Tally, small: Small, number: u32) -> Tally {
     let answer = given.answer;
     so_far
         .see(blocked_number(answer) == number)
-        .see(comparing::agrees(small, exhaustive::block(small)))
+        .see(agrees(small, exhaustive::block(small)))
 }
 
 fn has_assignment(small: Small, g: u32) -> bool {
@@ -96,20 +80,33 @@ fn has_assignment(small: Small, g: u32) -> bool {
     found.found
 }
 
-pub fn case_1(so_far: Tally) -> Tally {
+// Whether Judge approves the list's first n numbers, with this diameter.
+fn approves(small: Small, list: [u8; 7], expected: u32) -> bool {
+    let mut distances = [7u32; 14403];
+    let mut settings = [9u8; 123];
+    let dataset = small.held(&mut distances, &mut settings);
+    match judge(dataset, &distances, &settings, front(&list, small.n)) {
+        Judged::Approved(widest) => widest == expected,
+        _ => false,
+    }
+}
+
+pub fn case_1() {
     let small = line(6, [2, 5, 0, 1, 3, 7, 0], 3);
     let t = blocks(
-        so_far,
+        tally::new(),
         small,
         Expected {
             count: 2,
             radius: 2,
+            widest: 4,
             diameters: [2, 4, 0],
             list: [1, 2, 1, 1, 2, 2, 0],
         },
     );
     t.see(!has_assignment(small, 3))
         .see(has_assignment(small, 4))
+        .print(b"case 1");
 }
 
 // Two settings, one tide of each to a block.
@@ -127,55 +124,60 @@ fn pairs(b0: u8) -> Small {
 }
 
 // With b0 = 1, which Minima takes as 2 (document 02, 2.2), Block gives the same.
-pub fn case_2(so_far: Tally) -> Tally {
+pub fn case_2() {
     let expected = Expected {
         count: 2,
         radius: 1,
+        widest: 1,
         diameters: [1, 1, 0],
         list: [1, 1, 2, 2, 0, 0, 0],
     };
-    blocks(blocks(so_far, pairs(2), expected), pairs(1), expected)
+    blocks(blocks(tally::new(), pairs(2), expected), pairs(1), expected).print(b"case 2");
 }
 
 // Cases 3, 4 and 5 hold a duplicate, so that they come in by file (document 02, 2.8).
-pub fn case_3(so_far: Tally) -> Tally {
+pub fn case_3() {
     let small = line(4, [2, 0, 2, 4, 0, 0, 0], 2);
     let t = blocks(
-        so_far,
+        tally::new(),
         small,
         Expected {
             count: 1,
             radius: 2,
+            widest: 4,
             diameters: [4, 0, 0],
             list: [1, 1, 1, 1, 0, 0, 0],
         },
     );
-    t.see(is_approved(judged(small, [1, 1, 2, 2, 0, 0, 0]), 2))
+    t.see(approves(small, [1, 1, 2, 2, 0, 0, 0], 2))
         .see(has_duplicate(small))
+        .print(b"case 3");
 }
 
-pub fn case_4(so_far: Tally) -> Tally {
+pub fn case_4() {
     let small = line(5, [0, 10, 5, 5, 5, 0, 0], 2);
     blocks(
-        so_far.see(has_duplicate(small)),
+        tally::new().see(has_duplicate(small)),
         small,
         Expected {
             count: 2,
             radius: 5,
+            widest: 5,
             diameters: [5, 5, 0],
             list: [1, 2, 1, 1, 2, 0, 0],
         },
-    )
+    ).print(b"case 4");
 }
 
-pub fn case_5(so_far: Tally) -> Tally {
+pub fn case_5() {
     let small = line(3, [0; 7], 1);
     let t = blocks(
-        so_far.see(has_duplicate(small)),
+        tally::new().see(has_duplicate(small)),
         small,
         Expected {
             count: 1,
             radius: 0,
+            widest: 0,
             diameters: [0, 0, 0],
             list: [1, 1, 1, 0, 0, 0, 0],
         },
@@ -186,24 +188,26 @@ pub fn case_5(so_far: Tally) -> Tally {
         Expected {
             count: 2,
             radius: 0,
+            widest: 0,
             diameters: [0, 0, 0],
             list: [1, 2, 0, 0, 0, 0, 0],
         },
-    )
+    ).print(b"case 5");
 }
 
-pub fn case_6(so_far: Tally) -> Tally {
-    let t = refused(so_far, line(2, [0, 5, 0, 0, 0, 0, 0], 3), 25);
+pub fn case_6() {
+    let t = refused(tally::new(), line(2, [0, 5, 0, 0, 0, 0, 0], 3), 25);
     blocks(
         t,
         line(2, [0, 5, 0, 0, 0, 0, 0], 2),
         Expected {
             count: 1,
             radius: 5,
+            widest: 5,
             diameters: [5, 0, 0],
             list: [1, 1, 0, 0, 0, 0, 0],
         },
-    )
+    ).print(b"case 6");
 }
 
 // Three blocks of two tides. Tide 4 is at 30 from block 2's centre, at 50 from block 3's and at 60 from block 1's. With it in block 2, as
@@ -216,6 +220,7 @@ fn second_choice(so_far: Tally) -> Tally {
         Expected {
             count: 3,
             radius: 60,
+            widest: 60,
             diameters: [60, 10, 50],
             list: [1, 2, 2, 3, 1, 3, 0],
         },
@@ -224,13 +229,14 @@ fn second_choice(so_far: Tally) -> Tally {
 
 // Document 02, 2.6. In the first study tides 3 and 4 are at 1 from block 2's centre and at 40 from block 1's; by number the list would be
 // 1 2 1 2. In the second tide 4 is at 1 from block 1's centre; by number the list would be 1 2 1 1 2 2.
-pub fn nearest_first(so_far: Tally) -> Tally {
+pub fn nearest_first() {
     let one = blocks(
-        so_far,
+        tally::new(),
         line(4, [0, 41, 40, 40, 0, 0, 0], 2),
         Expected {
             count: 2,
             radius: 40,
+            widest: 40,
             diameters: [40, 1, 0],
             list: [1, 2, 2, 1, 0, 0, 0],
         },
@@ -241,9 +247,10 @@ pub fn nearest_first(so_far: Tally) -> Tally {
         Expected {
             count: 2,
             radius: 40,
+            widest: 40,
             diameters: [40, 1, 0],
             list: [1, 2, 2, 1, 2, 1, 0],
         },
     );
-    second_choice(two)
+    second_choice(two).print(b"nearest first");
 }

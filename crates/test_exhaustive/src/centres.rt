@@ -50,7 +50,7 @@ impl Centres {
     }
 
     // How far a tide is from the centre of a block, the blocks numbered from 1; 0 where the number is 0.
-    pub fn away(self, small: Small, t: usize, block: u8) -> u32 {
+    fn away(self, small: Small, t: usize, block: u8) -> u32 {
         if block < 1 {
             return 0;
         }
@@ -103,42 +103,6 @@ impl Centres {
             }
         }
         0
-    }
-
-    // Whether no block's centre is nearer to a tide than this one's.
-    fn none_nearer(self, small: Small, t: usize, block: u8) -> bool {
-        let count = self.count;
-        let mut m: u8 = 0;
-        while m < count {
-            m += 1;
-            if self.away(small, t, m) < self.away(small, t, block) {
-                return false;
-            }
-        }
-        true
-    }
-
-    // The first block numbered above this one with no centre nearer to a tide than its own; 0 where there is none.
-    fn nearest_above(self, small: Small, t: usize, block: u8) -> u8 {
-        let count = self.count;
-        let mut m = block;
-        while m < count {
-            m += 1;
-            if self.none_nearer(small, t, m) {
-                return m;
-            }
-        }
-        0
-    }
-
-    // The number of the block whose centre is nearest to a tide, the lowest where several are equally near.
-    pub fn nearest(self, small: Small, t: usize) -> u8 {
-        self.nearest_above(small, t, 0)
-    }
-
-    // Whether several centres are equally near to a tide, and none nearer.
-    pub fn is_tied(self, small: Small, t: usize) -> bool {
-        self.nearest_above(small, t, self.nearest(small, t)) != 0
     }
 }
 

@@ -8,7 +8,7 @@ use test_random::next;
 use validity::sum_minima;
 
 // Seven numbers from low to high.
-pub fn numbers(seed: u64, low: u8, high: u8) -> [u8; 7] {
+fn numbers(seed: u64, low: u8, high: u8) -> [u8; 7] {
     let mut drawn = [0u8; 7];
     let mut state = seed;
     let mut i: usize = 0;

@@ -45,13 +45,6 @@ pub fn with_minima(held: Dataset, distances: &[u32], settings: &[u8], minima: Mi
     outcome.dataset
 }
 
-// k = 2, and two tides at 3, of settings 1 and 2.
-pub fn two_tides(distances: &mut [u32], settings: &mut [u8]) -> Dataset {
-    let empty = opened(distances, settings, 2);
-    let one = entered(empty, distances, settings, 1, &[]);
-    entered(one, distances, settings, 2, &[3])
-}
-
 // How far two tides on a line lie apart.
 pub fn gap(a: u8, b: u8) -> u32
     ensures { λ r. ⌜ r < 256 ⌝ }

@@ -13,14 +13,6 @@ pub fn new() -> Tally {
     Tally { tried: 0, right: 0 }
 }
 
-// An answer by its number; 0 is done.
-pub fn answer_number(answer: Answer) -> u32 {
-    match answer {
-        Answer::Done => 0,
-        Answer::Refused(why) => number_of(why),
-    }
-}
-
 fn is_pair(why: Refusal, i: usize, j: usize) -> bool {
     match why {
         Refusal::TriangleInequality(a, b) => a == i && b == j,
@@ -49,13 +41,13 @@ impl Tally {
         }
     }
 
-    pub fn answer(self, answer: Answer, expected: u32) -> Tally {
-        self.see(answer_number(answer) == expected)
-    }
-
+    // The answer by its number; 0 is done.
     pub fn outcome(self, outcome: Outcome, expected: u32) -> Tally {
         let answer = outcome.answer;
-        self.answer(answer, expected)
+        match answer {
+            Answer::Done => self.see(expected == 0),
+            Answer::Refused(why) => self.see(number_of(why) == expected),
+        }
     }
 
     // Refusal 7 with its pair.
@@ -70,13 +62,6 @@ impl Tally {
     pub fn place(self, distances: &[u32], p: usize, expected: u32) -> Tally {
         if p < distances.len() {
             return self.see(distances[p] == expected);
-        }
-        self.see(false)
-    }
-
-    pub fn setting(self, settings: &[u8], i: usize, expected: u8) -> Tally {
-        if i < settings.len() {
-            return self.see(settings[i] == expected);
         }
         self.see(false)
     }

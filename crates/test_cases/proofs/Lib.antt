@@ -1,0 +1,2 @@
+-- Lemmas for the proofs of the trials.
+pub mod SixLent
