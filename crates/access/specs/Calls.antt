@@ -5,8 +5,8 @@ use Rattle.std.specs.Prelude.{ℕ, Bool, true, false, cond, List, [], ◌∷◌}
 use Rattle.std.proofs.Math.Option.{Option, none, some}
 use Rattle.study.specs.declared.BlockRecord.{BlockRecord}
 use Rattle.study.specs.Study.{Contents}
-use Rattle.study.specs.Refusals.{Verdict, settled, Reply, replied, Reason, first_of, freshReasons, heldReasons}
-use Rattle.validity.specs.Memory.{State, short, isDataset, contentsOf, stored}
+use Rattle.study.specs.Refusals.{Verdict, settled, Reply, replied, Reason, first_of, fresh_reasons, held_reasons}
+use Rattle.validity.specs.Memory.{State, short, is_dataset, contents_of, stored}
 
 -- ---- what is held
 
@@ -19,16 +19,16 @@ abbrev pub fresh : Contents → Holding
 fresh C = record { contents = C }
 
 -- other contents; all else that is held stays
-abbrev pub onContents : (Contents → Contents) → Holding → Holding
-onContents f H = record { contents = f H.contents }
+abbrev pub on_contents : (Contents → Contents) → Holding → Holding
+on_contents f H = record { contents = f H.contents }
 
 -- what a dataset holds
-abbrev pub holdingOf : State → Holding
-holdingOf s = record { contents = contentsOf s }
+abbrev pub holding_of : State → Holding
+holding_of s = record { contents = contents_of s }
 
 -- what record and memory hold: where they are a dataset as described, what it holds; otherwise there is none
 unfoldable pub held : State → Option Holding
-held s = cond (short s) none (cond (isDataset s) (some (holdingOf s)) none)
+held s = cond (short s) none (cond (is_dataset s) (some (holding_of s)) none)
 
 -- record and memory that hold this; what else they keep stays
 abbrev pub kept : Holding → State → State
@@ -49,8 +49,8 @@ abbrev pub nobody : Caller
 nobody = record { users = [] }
 
 -- a call that names one
-abbrev pub theUser : ℕ → Caller
-theUser u = record { users = u ∷ [] }
+abbrev pub the_user : ℕ → Caller
+the_user u = record { users = u ∷ [] }
 
 -- a call that begins anew, whatever was held: its own reasons for a refusal, and the contents that an accepted call brings in
 pub record Source : Type 0 where
@@ -70,13 +70,13 @@ pub record Output : Type 0 where
   pub records : List BlockRecord
 
 -- the list of a call that is lent one
-abbrev pub firstList : List (List ℕ) → List ℕ
-firstList [] = []
-firstList (l ∷ ls) = l
+abbrev pub first_list : List (List ℕ) → List ℕ
+first_list [] = []
+first_list (l ∷ ls) = l
 
 -- of a call that answers no numbers and is lent no list
-abbrev pub noOutput : Output
-noOutput = record { numbers = []; lists = []; records = [] }
+abbrev pub no_output : Output
+no_output = record { numbers = []; lists = []; records = [] }
 
 -- a call that only reads: its own reasons, what it is lent, and what an accepted call answers and leaves there
 pub record Inquiry : Type 0 where
@@ -94,19 +94,19 @@ pub data Call : Type 0 where
 -- ---- what a call answers, makes and tells, from short memory and what is held. Memory that is too short for a dataset stays so
 
 -- the reasons of a call on a dataset, in the documents' order: the ladder that calls share, and then its own; 21 while there is none
-abbrev pub onHeld : Bool → Caller → Option Holding → (Holding → List Reason) → List Reason
-onHeld tooShort by none own = heldReasons tooShort by.users false []
-onHeld tooShort by (some H) own = heldReasons tooShort by.users true (own H)
+abbrev pub on_held : Bool → Caller → Option Holding → (Holding → List Reason) → List Reason
+on_held is_too_short by none own = held_reasons is_too_short by.users false []
+on_held is_too_short by (some H) own = held_reasons is_too_short by.users true (own H)
 
 -- of any call
 unfoldable pub reasons : Bool → Option Holding → Call → List Reason
-reasons tooShort h (begins S) = freshReasons tooShort S.own
-reasons tooShort h (changes U) = onHeld tooShort U.caller h U.own
-reasons tooShort h (asks Q) = onHeld tooShort Q.caller h Q.own
+reasons is_too_short h (begins S) = fresh_reasons is_too_short S.own
+reasons is_too_short h (changes U) = on_held is_too_short U.caller h U.own
+reasons is_too_short h (asks Q) = on_held is_too_short Q.caller h Q.own
 
 -- whether it is refused, and why
 unfoldable pub verdict : Bool → Option Holding → Call → Verdict
-verdict tooShort h c = first_of (reasons tooShort h c)
+verdict is_too_short h c = first_of (reasons is_too_short h c)
 
 -- what is there, changed; nothing, where there is nothing
 abbrev pub changing : {A : Type 0} → Option A → (A → A) → Option A
@@ -121,24 +121,24 @@ changed h (asks Q) = h
 
 -- a refused call leaves it
 unfoldable pub step : Bool → Option Holding → Call → Option Holding
-step tooShort h c = settled (verdict tooShort h c) (changed h c) h
+step is_too_short h c = settled (verdict is_too_short h c) (changed h c) h
 
 -- what a call is lent besides record and memory
 unfoldable pub lent : Call → Output
-lent (begins S) = noOutput
-lent (changes U) = noOutput
+lent (begins S) = no_output
+lent (changes U) = no_output
 lent (asks Q) = Q.lent
 
 -- an accepted inquiry tells of what is held
-abbrev pub tellsOf : Option Holding → Inquiry → Output
-tellsOf none Q = Q.lent
-tellsOf (some H) Q = Q.tells H
+abbrev pub tells_of : Option Holding → Inquiry → Output
+tells_of none Q = Q.lent
+tells_of (some H) Q = Q.tells H
 
 -- the numbers that an accepted call answers, and what it leaves in what it was lent
 unfoldable pub told : Option Holding → Call → Output
-told h (begins S) = noOutput
-told h (changes U) = noOutput
-told h (asks Q) = tellsOf h Q
+told h (begins S) = no_output
+told h (changes U) = no_output
+told h (asks Q) = tells_of h Q
 
 -- all that its caller learns
 pub record Response : Type 0 where
@@ -147,7 +147,7 @@ pub record Response : Type 0 where
 
 -- a refused call answers no numbers, and leaves what it was lent
 unfoldable pub learnt : Bool → Option Holding → Call → Response
-learnt tooShort h c = let v = verdict tooShort h c in record { verdict = v; output = settled v (told h c) (lent c) }
+learnt is_too_short h c = let v = verdict is_too_short h c in record { verdict = v; output = settled v (told h c) (lent c) }
 
 -- ---- the same on record and memory
 
@@ -168,21 +168,21 @@ unfoldable pub reply : State → Call → Reply (List ℕ)
 reply s c = replied (answer s c) (output s c).numbers
 
 -- the lists that it was lent, as they then stand
-abbrev pub listsAfter : State → Call → List (List ℕ)
-listsAfter s c = (output s c).lists
+abbrev pub lists_after : State → Call → List (List ℕ)
+lists_after s c = (output s c).lists
 
 -- of a call that is lent one list: that list
-abbrev pub listAfter : State → Call → List ℕ
-listAfter s c = firstList (listsAfter s c)
+abbrev pub list_after : State → Call → List ℕ
+list_after s c = first_list (lists_after s c)
 
 -- the records that it was lent, as they then stand
-abbrev pub recordsAfter : State → Call → List BlockRecord
-recordsAfter s c = (output s c).records
+abbrev pub records_after : State → Call → List BlockRecord
+records_after s c = (output s c).records
 
 -- record and memory after an accepted call
 unfoldable pub made : State → Call → State
 made s (begins S) = anew S.brings s
-made s (changes U) = kept (U.makes (holdingOf s)) s
+made s (changes U) = kept (U.makes (holding_of s)) s
 made s (asks Q) = s
 
 -- a refused call leaves them as they were

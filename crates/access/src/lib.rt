@@ -1,16 +1,16 @@
 // With what every call but Open and Read begins: for any record and memory of any length, the reasons that calls share.
 ghost use Rattle.std.specs.Prelude.{◌≡◌, []};
-ghost use Rattle.study.specs.Refusals.{isUser, verdictOf};
-ghost use Rattle.validity.specs.Memory.{entryState};
-ghost use Rattle.access.specs.Calls.{nobody, theUser};
-ghost use Rattle.access.specs.Passed.{heldAnswer};
+ghost use Rattle.study.specs.Refusals.{is_user, verdict_of};
+ghost use Rattle.validity.specs.Memory.{entry_state};
+ghost use Rattle.access.specs.Calls.{nobody, the_user};
+ghost use Rattle.access.specs.Passed.{held_answer};
 
 use study::{Answer, Dataset, MAX_USERS, Refusal, wide};
 use validity::is_short;
 
 // With what a call begins that names no user: short memory (1), then what is no dataset (21).
 pub fn check(dataset: Dataset, distances: &[u32], settings: &[u8]) -> Answer
-    ensures { verdictOf result ≡ heldAnswer (entryState dataset distances settings) nobody (λ _. []) }
+    ensures { verdict_of result ≡ held_answer (entry_state dataset distances settings) nobody (λ _. []) }
 {
     if is_short(distances, settings) {
         return Answer::Refused(Refusal::ShortMemory);
@@ -23,7 +23,7 @@ pub fn check(dataset: Dataset, distances: &[u32], settings: &[u8]) -> Answer
 
 // Whether this is a user (document 02, 2.7: keeper).
 fn is_user(user: u8) -> bool
-    ensures { result ≡ isUser user }
+    ensures { result ≡ is_user user }
 {
     if user < 1 {
         return false;
@@ -33,7 +33,7 @@ fn is_user(user: u8) -> bool
 
 // With what a call begins that names a user: short memory (1), a user who is none (14), then what is no dataset (21).
 pub fn check_user(dataset: Dataset, distances: &[u32], settings: &[u8], user: u8) -> Answer
-    ensures { verdictOf result ≡ heldAnswer (entryState dataset distances settings) (theUser user) (λ _. []) }
+    ensures { verdict_of result ≡ held_answer (entry_state dataset distances settings) (the_user user) (λ _. []) }
 {
     if is_short(distances, settings) {
         return Answer::Refused(Refusal::ShortMemory);

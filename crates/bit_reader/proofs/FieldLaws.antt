@@ -11,7 +11,7 @@ use lib.Pow.{field, low, shl-shr, shr-shr}
 use borrow.Author.Tests.{leb-true, leb-false, not-true, not-false}
 use Rattle.file_format.specs.Bits.{binary, bit_at, bits_at}
 use Rattle.file_format.specs.Theorems.{Bytes}
-use Rattle.file_format.proofs.BitLaws.{bitsAt-small, binary-split, byte_at, window}
+use Rattle.file_format.proofs.BitLaws.{bits_at_small, binary_split, byte_at, window}
 use Rattle.bit_reader.specs.declared.Place.{Place}
 use Rattle.bit_reader.specs.declared.FieldValue.TheVariants as FieldValueCase
 use Rattle.bit_reader.specs.Fields.{BitsRead, Askable, FieldGot, FieldRead, AskableTwo}
@@ -29,12 +29,12 @@ cut x b w h =
 
 module _ (s : List ℕ) {n : ℕ} (p : Place) (h : BitsRead p n) where
   -- the number in the field, of the bytes from the place's on
-  pub field-value : (w : ℕ) → w ≤ 20 → Bytes s → (a b c d : ℕ)
+  pub field_value : (w : ℕ) → w ≤ 20 → Bytes s → (a b c d : ℕ)
       → a ≡ get_or s p.byte 0 → b ≡ get_or s (p.byte + 1) 0 → c ≡ get_or s (p.byte + 2) 0 → d ≡ get_or s (p.byte + 3) 0
       → (a * 16777216 + b * 65536 + (c * 256 + d)) * 2 ^ p.bit % 4294967296 / 2 ^ (32 - w) ≡ bits_at s n w
-  field-value w narrow bytes a b c d e f g k =
+  field_value w narrow bytes a b c d e f g k =
       cut (a * 16777216 + b * 65536 + (c * 256 + d)) p.bit w (omega (arith, h.below))
-      ∙ ap₂ (λ x y. x / 2 ^ (32 - y - w) % 2 ^ w) (four ∙ ap word byte-is) bit_is
+      ∙ ap₂ (λ x y. x / 2 ^ (32 - y - w) % 2 ^ w) (four ∙ ap word byte_is) bit_is
       ∙ sym (window s bytes n w (omega (arith, narrow)))
     where
       word : ℕ → ℕ
@@ -43,8 +43,8 @@ module _ (s : List ℕ) {n : ℕ} (p : Place) (h : BitsRead p n) where
       four : a * 16777216 + b * 65536 + (c * 256 + d) ≡ word p.byte
       four = omega arith
 
-      byte-is : p.byte ≡ n / 8
-      byte-is = omega (arith, h.below, h.count)
+      byte_is : p.byte ≡ n / 8
+      byte_is = omega (arith, h.below, h.count)
 
       bit_is : p.bit ≡ n % 8
       bit_is = omega (arith, h.below, h.count)
@@ -57,13 +57,13 @@ unfolding binary
 no_bits s at w e = sym (ap (λ x. eqb (binary (bit_at s) at x) 0) e)
 
 -- the last w bits are those of the last byte, x
-pub last-bits : (s : List ℕ) → Bytes s → (w : ℕ) → 1 ≤ length s → w ≤ 8 → (x : ℕ) → x ≡ get_or s (length s - 1) 0
+pub last_bits : (s : List ℕ) → Bytes s → (w : ℕ) → 1 ≤ length s → w ≤ 8 → (x : ℕ) → x ≡ get_or s (length s - 1) 0
     → x * 2 ^ (32 - w) % 4294967296 / 2 ^ (32 - w) ≡ bits_at s (8 * length s - w) w
-last-bits s bytes w one narrow x e =
+last_bits s bytes w one narrow x e =
     let none : 32 - (32 - w) - w ≡ 0 = omega arith in
     cut x (32 - w) w (omega arith)
     ∙ ap (λ k. x / 2 ^ k % 2 ^ w) none ∙ ap (λ y. y % 2 ^ w) (div-one x ∙ in_two)
-    ∙ low (bits_at s start (8 - w)) w (bitsAt-small s (start + (8 - w)) w) ∙ ap (λ p. bits_at s p w) from
+    ∙ low (bits_at s start (8 - w)) w (bits_at_small s (start + (8 - w)) w) ∙ ap (λ p. bits_at s p w) from
   where
     -- where the last byte begins
     start : ℕ
@@ -73,7 +73,7 @@ last-bits s bytes w one narrow x e =
     in_two : x ≡ bits_at s start (8 - w) * 2 ^ w + bits_at s (start + (8 - w)) w
     in_two =
         let eight : 8 ≡ 8 - w + w = omega arith in
-        e ∙ sym (byte_at s bytes (length s - 1)) ∙ ap (bits_at s start) eight ∙ binary-split (bit_at s) start (8 - w) w
+        e ∙ sym (byte_at s bytes (length s - 1)) ∙ ap (bits_at s start) eight ∙ binary_split (bit_at s) start (8 - w) w
 
     from : start + (8 - w) ≡ 8 * length s - w
     from = omega arith
@@ -91,22 +91,22 @@ module _ (s : List ℕ) (m : ℕ) {r : Bool} (e : r ≡ leb m (8 * length s)) wh
 -- ---- what can be asked for
 
 -- after the first of two fields, the second
-pub then-askable : {p q : Place} {v w : ℕ} (two : AskableTwo p v w) → BitsRead q (two.first.read + v) → Askable q w
-then-askable two here = record { read = _; here = here; low = two.low; wide = two.wide; narrow = two.narrow }
+pub then_askable : {p q : Place} {v w : ℕ} (two : AskableTwo p v w) → BitsRead q (two.first.read + v) → Askable q w
+then_askable two here = record { read = _; here = here; low = two.low; wide = two.wide; narrow = two.narrow }
 
 -- ---- what was read
 
 -- the same number of bits, written otherwise
-pub bits-same : {p : Place} {m n : ℕ} → BitsRead p m → m ≡ n → BitsRead p n
-bits-same r e = record { below = r.below; count = r.count ∙ e }
+pub bits_same : {p : Place} {m n : ℕ} → BitsRead p m → m ≡ n → BitsRead p n
+bits_same r e = record { below = r.below; count = r.count ∙ e }
 
 module _ {s : List ℕ} {n w v : ℕ} {next : Place} where
-  pub field-small : FieldGot s n w v next → v < 2 ^ w
-  field-small g = subst (λ x. x < 2 ^ w) (sym g.is) (bitsAt-small s n w)
+  pub field_small : FieldGot s n w v next → v < 2 ^ w
+  field_small g = subst (λ x. x < 2 ^ w) (sym g.is) (bits_at_small s n w)
 
   -- the answer is the field
-  pub field-read : FieldGot s n w v next → FieldRead s n w (FieldValueCase.Value v next)
-  field-read g = record { got = λ e. same e; ends = λ e. absurd (never e) }
+  pub field_read : FieldGot s n w v next → FieldRead s n w (FieldValueCase.Value v next)
+  field_read g = record { got = λ e. same e; ends = λ e. absurd (never e) }
     where
       same : {x : ℕ} {p : Place} → FieldValueCase.Value v next ≡ FieldValueCase.Value x p → FieldGot s n w x p
       same {x} {p} e =

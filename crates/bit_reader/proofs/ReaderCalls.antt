@@ -62,11 +62,11 @@ abbrev pub reader : Bor (List ℕ) → Place → BitReader
 reader s p = record { bytes = s; place = p }
 
 -- the machine values of a slice, and of a field's answer
-abbrev pub slice-val : Bor (List ℕ) → Val
-slice-val s = slice_val s.ref_ptr (length s.now)
+abbrev pub slice_val_of : Bor (List ℕ) → Val
+slice_val_of s = slice_val s.ref_ptr (length s.now)
 
-abbrev pub field-val : FieldValue → Val
-field-val f = EL.val F.the_type F'.the_laws f
+abbrev pub field_val : FieldValue → Val
+field_val f = EL.val F.the_type F'.the_laws f
 
 -- the lifetime's token
 abbrev pub token : {M : Type 1} {𝓤 : Ura M} → Lft → Share → Item 𝓤
@@ -94,48 +94,48 @@ module _ (κ : Lft) where
   G-laws = K'.the_laws α
 
   -- the machine value of what a reader gave; that of a reader r is `T'.lowered r`
-  abbrev pub taken-val : Taken → Val
-  taken-val t = LL.val G G-laws t
+  abbrev pub taken_val : Taken → Val
+  taken_val t = LL.val G G-laws t
 
   -- what a slice owns, a reader, and what a reader gave, at their machine values
   abbrev pub OwnS : Bor (List ℕ) → Fml
-  OwnS s = (ShrSlice (named 0) κ u8).own_val s (slice-val s ∷ [])
+  OwnS s = (ShrSlice (named 0) κ u8).own_val s (slice_val_of s ∷ [])
 
   abbrev pub OwnR : BitReader → Fml
   OwnR r = (T.the_row α).own_val r (T'.lowered r ∷ [])
 
   abbrev pub OwnG : Taken → Fml
-  OwnG t = (K.the_row α).own_val t (taken-val t ∷ [])
+  OwnG t = (K.the_row α).own_val t (taken_val t ∷ [])
 
   -- that these values are theirs
   abbrev pub IsReader : BitReader → Type 0
   IsReader r = Is (T.the_row α) r (T'.lowered r ∷ [])
 
   abbrev pub IsTaken : Taken → Type 0
-  IsTaken t = Is (K.the_row α) t (taken-val t ∷ [])
+  IsTaken t = Is (K.the_row α) t (taken_val t ∷ [])
 
   module _ (t : Taken) (is : IsTaken t) where
-    pub is-value : Is F.the_row t.value (field-val t.value ∷ [])
-    is-value = (LL.owed G G-laws t _ is).0
+    pub is_value : Is F.the_row t.value (field_val t.value ∷ [])
+    is_value = (LL.owed G G-laws t _ is).0
 
-    pub is-rest : IsReader t.rest
-    is-rest = (LL.owed G G-laws t _ is).1.0
+    pub is_rest : IsReader t.rest
+    is_rest = (LL.owed G G-laws t _ is).1.0
 
   module _ {M : Type 1} {𝓤 : Ura M} (𝓛 : Logic 𝓤) where
-    pub typed-reader : (r : BitReader) → IsReader r → Holds (has_ty (T'.mir erased) (T'.lowered r)) × WT (T'.lowered r)
-    typed-reader r is = ((LL.lawful (T.the_type αᵉ) (T'.the_laws αᵉ) 𝓛).typed r _ is).0
+    pub typed_reader : (r : BitReader) → IsReader r → Holds (has_ty (T'.mir erased) (T'.lowered r)) × WT (T'.lowered r)
+    typed_reader r is = ((LL.lawful (T.the_type αᵉ) (T'.the_laws αᵉ) 𝓛).typed r _ is).0
 
-    pub typed-taken : (t : Taken) → IsTaken t → Holds (has_ty (K'.mir erased) (taken-val t)) × WT (taken-val t)
-    typed-taken t is = ((LL.lawful (K.the_type αᵉ) (K'.the_laws αᵉ) 𝓛).typed t _ is).0
+    pub typed_taken : (t : Taken) → IsTaken t → Holds (has_ty (K'.mir erased) (taken_val t)) × WT (taken_val t)
+    typed_taken t is = ((LL.lawful (K.the_type αᵉ) (K'.the_laws αᵉ) 𝓛).typed t _ is).0
 
-    pub typed-value : (t : Taken) → IsTaken t → Holds (has_ty F'.mir (field-val t.value)) × WT (field-val t.value)
-    typed-value t is = ((EL.lawful F.the_type F'.the_laws 𝓛 tt).typed t.value _ (is-value t is)).0
+    pub typed_value : (t : Taken) → IsTaken t → Holds (has_ty F'.mir (field_val t.value)) × WT (field_val t.value)
+    typed_value t is = ((EL.lawful F.the_type F'.the_laws 𝓛 tt).typed t.value _ (is_value t is)).0
 
     pub rest_out : (t : Taken) → ent 𝓤 (sem 𝓛 (OwnG t)) (sem 𝓛 (OwnR t.rest))
     rest_out t =
         qed 𝓛 (‵ (OwnG t) ∷ []) ∵
-        use1 𝓛 (given (taken-val t ∷ [] ≡ taken-val t ∷ []) (‵ (all_own G.parts G-laws (t.value, (t.rest, tt)))))
-        (own_open 𝓛 G G-laws (t.value, (t.rest, tt)) (taken-val t)) $ learn ! (λ _.
+        use1 𝓛 (given (taken_val t ∷ [] ≡ taken_val t ∷ []) (‵ (all_own G.parts G-laws (t.value, (t.rest, tt)))))
+        (own_open 𝓛 G G-laws (t.value, (t.rest, tt)) (taken_val t)) $ learn ! (λ _.
         use1 𝓛 (‵ (field_own G.parts G-laws 1 t.rest) ⊛ ‵ (rest G.parts G-laws 1 (t.value, (t.rest, tt))))
         (own_out 𝓛 G.parts G-laws 1 (t.value, (t.rest, tt))) $ split ! $ keep ! (0 ∷ []) $ done !)
 
@@ -148,15 +148,15 @@ module _ {M : Type 1} {𝓤 : Ura M} (𝓛 : Logic 𝓤) (mem : Memory → SProp
   Take = triple_of 𝓛 take.signature (take.spec 𝓛 mem run)
 
   module _ (κ : Lft) (q : Share) where
-    abbrev to-new : Bor (List ℕ) → Place → New.Ghost
-    to-new s p = (((κ, tt), (q, tt), tt, (s, (p, tt)), (slice-val s ∷ [], (P'.lowered p ∷ [], tt))), tt)
+    abbrev to_new : Bor (List ℕ) → Place → New.Ghost
+    to_new s p = (((κ, tt), (q, tt), tt, (s, (p, tt)), (slice_val_of s ∷ [], (P'.lowered p ∷ [], tt))), tt)
 
     abbrev to_take : BitReader → ℕ → Take.Ghost
     to_take r w = (((κ, tt), (q, tt), tt, (r, (w, tt)), (T'.lowered r ∷ [], (vint w64 w ∷ [], tt))), tt)
 
     -- what each asks
     abbrev pub AsksNew : Bor (List ℕ) → Place → SProp 𝓤
-    AsksNew s p = New.pre (to-new s p)
+    AsksNew s p = New.pre (to_new s p)
 
     abbrev pub AsksTake : BitReader → ℕ → SProp 𝓤
     AsksTake r w = Take.pre (to_take r w)
@@ -171,42 +171,42 @@ module _ {M : Type 1} {𝓤 : Ura M} (𝓛 : Logic 𝓤) (mem : Memory → SProp
 module _ {M : Type 1} {𝓤 : Ura M} (𝓛 : Logic 𝓤) (mem : Memory → SProp 𝓤) (run : Routine → Fun 𝓤) (κ : Lft) (q : Share) where
   open 𝓛 use {H}
 
-  pub goes-new : (s : Bor (List ℕ)) (p : Place) → Is P.the_row p (P'.lowered p ∷ [])
+  pub goes_new : (s : Bor (List ℕ)) (p : Place) → Is P.the_row p (P'.lowered p ∷ [])
       → ent 𝓤 (⋆ 𝓛 (‵ (OwnS κ s) ∷ token κ q ∷ [])) (sep 𝓤 (AsksNew 𝓛 mem run κ q s p) (sem 𝓛 (OwnS κ s)))
-  goes-new s p is-p =
+  goes_new s p is_p =
       qed 𝓛 (‵ (OwnS κ s) ∷ token κ q ∷ []) ∵
-      use1 𝓛 (‵ (OwnS κ s) ⊛ ‵ (OwnS κ s)) ((shr_slice_copy 𝓛 (named 0) κ u8).twice s (slice-val s ∷ [])) $ split ! $
+      use1 𝓛 (‵ (OwnS κ s) ⊛ ‵ (OwnS κ s)) ((shr_slice_copy 𝓛 (named 0) κ u8).twice s (slice_val_of s ∷ [])) $ split ! $
       -- [what s owns, twice; the token]
-      nothing ! $ owned ! P.the_row (Is P.the_row) (LL.makes P.the_type P'.the_plain 𝓛) p _ is-p $ fjoin ! $ move ! (1 ∷ 0 ∷ []) $ fjoin ! $
+      nothing ! $ owned ! P.the_row (Is P.the_row) (LL.makes P.the_type P'.the_plain 𝓛) p _ is_p $ fjoin ! $ move ! (1 ∷ 0 ∷ []) $ fjoin ! $
       move ! (2 ∷ 0 ∷ []) $ use2 𝓛 (raw (AsksNew 𝓛 mem run κ q s p))
-      (qed 𝓛 (token κ q ∷ ‵ (owns (ShrSlice (named 0) κ u8 ∷ P.the_row ∷ []) (s, (p, tt)) (slice-val s ∷ [], (P'.lowered p ∷ [], tt))) ∷ []) ∵
+      (qed 𝓛 (token κ q ∷ ‵ (owns (ShrSlice (named 0) κ u8 ∷ P.the_row ∷ []) (s, (p, tt)) (slice_val_of s ∷ [], (P'.lowered p ∷ [], tt))) ∷ []) ∵
       join ! $ frame ! $ done !) $ frame ! $ done !
 
-  pub goes-take : (r : BitReader) (w : ℕ) → w < 2 ^ 64 → Askable r.place w
+  pub goes_take : (r : BitReader) (w : ℕ) → w < 2 ^ 64 → Askable r.place w
       → ent 𝓤 (⋆ 𝓛 (‵ (OwnR κ r) ∷ token κ q ∷ [])) (AsksTake 𝓛 mem run κ q r w)
-  goes-take r w fits ask =
+  goes_take r w fits ask =
       qed 𝓛 (‵ (OwnR κ r) ∷ token κ q ∷ []) ∵ says ! ask $
       nothing ! $ owned ! usize (Is usize) (uint_Makes 𝓛 w64) w _ (refl, fits) $ fjoin ! $ move ! (1 ∷ 0 ∷ []) $ fjoin ! $ move ! (1 ∷ 0 ∷ []) $
       frame ! $ done !
 
   -- of what each says, the clause alone: neither has a `&mut`, so what is said of last values is dropped
-  new-said : (s : Bor (List ℕ)) (p : Place) (r : BitReader) → ent 𝓤 (SaysNew 𝓛 mem run κ q s p r) (fact 𝓤 ((r.bytes ≡ s) × (r.place ≡ p)))
-  new-said s p r =
+  new_said : (s : Bor (List ℕ)) (p : Place) (r : BitReader) → ent 𝓤 (SaysNew 𝓛 mem run κ q s p r) (fact 𝓤 ((r.bytes ≡ s) × (r.place ≡ p)))
+  new_said s p r =
       ex_e 𝓤 _ (λ ws. snd∗ 𝓤 (sem 𝓛 (lasts new.ended (κ, tt) (s, (p, tt)) ws)) (fact 𝓤 ((r.bytes ≡ s) × (r.place ≡ p))))
 
-  take-said : (r : BitReader) (w : ℕ) (t : Taken) → ent 𝓤 (SaysTake 𝓛 mem run κ q r w t) (fact 𝓤 (TakenFrom r w t))
-  take-said r w t = ex_e 𝓤 _ (λ ws. snd∗ 𝓤 (sem 𝓛 (lasts take.ended (κ, tt) (r, (w, tt)) ws)) (fact 𝓤 (TakenFrom r w t)))
+  take_said : (r : BitReader) (w : ℕ) (t : Taken) → ent 𝓤 (SaysTake 𝓛 mem run κ q r w t) (fact 𝓤 (TakenFrom r w t))
+  take_said r w t = ex_e 𝓤 _ (λ ws. snd∗ 𝓤 (sem 𝓛 (lasts take.ended (κ, tt) (r, (w, tt)) ws)) (fact 𝓤 (TakenFrom r w t)))
 
   -- the calls, where the head of the context is what the callee asks; the machine value that comes back is that of what comes back
   module _ {Z : Type 0} {Γ : List (Item 𝓤)} {E : Env 𝓤 H} {C : Calls 𝓤 H} {Λ : Loops 𝓤 H} {after : Post 𝓤 H} {xs : List Operand} {d : Spot} {more : Body} where
     pub makes : Z → FmC 𝓤 H 𝓛.laws C → Triple 𝓤 (C #new) (New 𝓛 mem run) → (s : Bor (List ℕ)) (p : Place)
-        → Opds Z 𝓛 (raw (AsksNew 𝓛 mem run κ q s p) ∷ Γ) E xs ((New 𝓛 mem run).args (to-new 𝓛 mem run κ q s p))
+        → Opds Z 𝓛 (raw (AsksNew 𝓛 mem run κ q s p) ∷ Γ) E xs ((New 𝓛 mem run).args (to_new 𝓛 mem run κ q s p))
         → (IsReader κ (reader s p) → Seq Z 𝓛 (‵ (OwnR κ (reader s p)) ∷ token κ q ∷ Γ) (lands C Λ E d (T'.lowered (reader s p)) more after))
         → Seq Z 𝓛 (raw (AsksNew 𝓛 mem run κ q s p) ∷ Γ) (runs C Λ E (seq (call #new xs d) more) after)
     makes z fm met s p os k =
-        calls_at z fm (New 𝓛 mem run) met (to-new 𝓛 mem run κ q s p) os (λ u.
+        calls_at z fm (New 𝓛 mem run) met (to_new 𝓛 mem run κ q s p) os (λ u.
         use1 𝓛 (later (some (λ (r : BitReader). (token κ q ⊛ ‵ ((T.the_row (α κ)).own_val r (u ∷ []))) ⊛ raw (SaysNew 𝓛 mem run κ q s p r)))) (id⊢ 𝓤 _) $
-        await z tt $ pick z (λ r. split z $ move z (1 ∷ []) $ use1 𝓛 (raw (fact 𝓤 ((r.bytes ≡ s) × (r.place ≡ p)))) (new-said s p r) $
+        await z tt $ pick z (λ r. split z $ move z (1 ∷ []) $ use1 𝓛 (raw (fact 𝓤 ((r.bytes ≡ s) × (r.place ≡ p)))) (new_said s p r) $
         heard z ((r.bytes ≡ s) × (r.place ≡ p)) (λ e. split z $ move z (1 ∷ []) $
         rewrite z 0 (λ (y : BitReader). ‵ ((T.the_row (α κ)).own_val y (u ∷ []))) {x = reader s p} (λ i. record { bytes = e.0 i; place = e.1 i }) refl $
         peeks z (T.the_row (α κ)) (Is (T.the_row (α κ))) (shows 𝓛 (T.the_row (α κ))) (reader s p) (u ∷ []) (λ is.
@@ -216,12 +216,12 @@ module _ {M : Type 1} {𝓤 : Ura M} (𝓛 : Logic 𝓤) (mem : Memory → SProp
 
     pub takes : Z → FmC 𝓤 H 𝓛.laws C → Triple 𝓤 (C #take) (Take 𝓛 mem run) → (r : BitReader) (w : ℕ)
         → Opds Z 𝓛 (raw (AsksTake 𝓛 mem run κ q r w) ∷ Γ) E xs ((Take 𝓛 mem run).args (to_take 𝓛 mem run κ q r w))
-        → ((t : Taken) → IsTaken κ t → TakenFrom r w t → Seq Z 𝓛 (‵ (OwnG κ t) ∷ token κ q ∷ Γ) (lands C Λ E d (taken-val κ t) more after))
+        → ((t : Taken) → IsTaken κ t → TakenFrom r w t → Seq Z 𝓛 (‵ (OwnG κ t) ∷ token κ q ∷ Γ) (lands C Λ E d (taken_val κ t) more after))
         → Seq Z 𝓛 (raw (AsksTake 𝓛 mem run κ q r w) ∷ Γ) (runs C Λ E (seq (call #take xs d) more) after)
     takes z fm met r w os k =
         calls_at z fm (Take 𝓛 mem run) met (to_take 𝓛 mem run κ q r w) os (λ u.
         use1 𝓛 (later (some (λ (t : Taken). (token κ q ⊛ ‵ ((K.the_row (α κ)).own_val t (u ∷ []))) ⊛ raw (SaysTake 𝓛 mem run κ q r w t)))) (id⊢ 𝓤 _) $
-        await z tt $ pick z (λ t. split z $ move z (1 ∷ []) $ use1 𝓛 (raw (fact 𝓤 (TakenFrom r w t))) (take-said r w t) $
+        await z tt $ pick z (λ t. split z $ move z (1 ∷ []) $ use1 𝓛 (raw (fact 𝓤 (TakenFrom r w t))) (take_said r w t) $
         heard z (TakenFrom r w t) (λ e. split z $ move z (1 ∷ []) $
         peeks z (K.the_row (α κ)) (Is (K.the_row (α κ))) (shows 𝓛 (K.the_row (α κ))) t (u ∷ []) (λ is.
         subst (λ (x : Val). Seq Z 𝓛 (‵ ((K.the_row (α κ)).own_val t (x ∷ [])) ∷ token κ q ∷ Γ) (lands C Λ E d x more after))

@@ -25,8 +25,8 @@ use denote.ArrayMemory.{Single, Array-apart, Array-whole}
 use denote.Steps.{peeks}
 
 module _ (R : RattleType) (n : ℕ) (b : ℕ) where
-  abbrev at-list : GName → List R.Denot → MutBor (List R.Denot)
-  at-list γ ys = record { ref_ptr = (b, 0); ghost_name = γ; now = ys }
+  abbrev at_list : GName → List R.Denot → MutBor (List R.Denot)
+  at_list γ ys = record { ref_ptr = (b, 0); ghost_name = γ; now = ys }
 
   -- the array in its local, at the machine value v
   abbrev pub InLocal : List R.Denot → List Val → Fml
@@ -35,17 +35,17 @@ module _ (R : RattleType) (n : ℕ) (b : ℕ) where
   module _ {M : Type 1} {𝓤 : Ura M} (𝓛 : Logic 𝓤) where
     open 𝓛 use {H, A}
 
-    pub lends-array : Single R.mir → (ℓ : Lifetime) (κ : Lft) (xs : List R.Denot) (vs : List Val) → Room R n
-        → ent 𝓤 (sem 𝓛 (InLocal xs vs)) (H.⇛ (ex 𝓤 (λ (γ : GName). sep 𝓤 (sem 𝓛 ((MutSlice ℓ κ R).own_val (at-list γ xs) (slice_val (b, 0) n ∷ []))) (A.lent κ (Held R n b 0 γ)))))
+    pub lends_array : Single R.mir → (ℓ : Lifetime) (κ : Lft) (xs : List R.Denot) (vs : List Val) → Room R n
+        → ent 𝓤 (sem 𝓛 (InLocal xs vs)) (H.⇛ (ex 𝓤 (λ (γ : GName). sep 𝓤 (sem 𝓛 ((MutSlice ℓ κ R).own_val (at_list γ xs) (slice_val (b, 0) n ∷ []))) (A.lent κ (Held R n b 0 γ)))))
     unfolding part_of
-    lends-array one ℓ κ xs vs room =
+    lends_array one ℓ κ xs vs room =
         qed 𝓛 (‵ (InLocal xs vs) ∷ []) ∵ updating ! $ fpack ! (List Val) (λ us. InLocal xs us) vs $
         use1 𝓛 (‵ ((arr_parts (shares R) n).part full_share xs b 0)) (Array-apart 𝓛 R full_share one n xs b 0) $ fsplit ! $ feq_l ! (λ l.
         use1 𝓛 (‵ (cells (mem R) xs b 0)) (whole_in 𝓛 R xs b 0) $
-        use1 𝓛 (later (some (λ (γ : GName). ‵ ((MutSlice ℓ κ R).own_val (at-list γ xs) (slice_val (b, 0) (length xs) ∷ [])) ⊛ ‵ (flent κ (Held R (length xs) b 0 γ)))))
+        use1 𝓛 (later (some (λ (γ : GName). ‵ ((MutSlice ℓ κ R).own_val (at_list γ xs) (slice_val (b, 0) (length xs) ∷ [])) ⊛ ‵ (flent κ (Held R (length xs) b 0 γ)))))
         (lends_slice 𝓛 R ℓ κ xs b 0 (subst (Room R) (sym l) room)) $ await ! tt $ pick ! (λ γ. split ! $
-        rewrite ! 0 (λ (m : ℕ). ‵ ((MutSlice ℓ κ R).own_val (at-list γ xs) (slice_val (b, 0) m ∷ []))) l refl $ rewrite ! 1 (λ (m : ℕ). ‵ (flent κ (Held R m b 0 γ))) l refl $
-        at_once ! $ show ! (λ (δ : GName). sep 𝓤 (sem 𝓛 ((MutSlice ℓ κ R).own_val (at-list δ xs) (slice_val (b, 0) n ∷ []))) (A.lent κ (Held R n b 0 δ))) γ $ frame ! $ done !))
+        rewrite ! 0 (λ (m : ℕ). ‵ ((MutSlice ℓ κ R).own_val (at_list γ xs) (slice_val (b, 0) m ∷ []))) l refl $ rewrite ! 1 (λ (m : ℕ). ‵ (flent κ (Held R m b 0 γ))) l refl $
+        at_once ! $ show ! (λ (δ : GName). sep 𝓤 (sem 𝓛 ((MutSlice ℓ κ R).own_val (at_list δ xs) (slice_val (b, 0) n ∷ []))) (A.lent κ (Held R n b 0 δ))) γ $ frame ! $ done !))
 
     pub array_back : (vals : R.Denot → List Val) → Tells R (Is R) vals → (κ : Lft) (γ : GName) (ys : List R.Denot)
         → ent 𝓤 (sep 𝓤 (A.dead κ) (sep 𝓤 (A.lent κ (Held R n b 0 γ)) (sem 𝓛 (finally R γ ys)))) (H.⇛ (sem 𝓛 (InLocal ys (array_vals vals ys))))

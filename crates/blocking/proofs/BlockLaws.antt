@@ -5,115 +5,115 @@ use native.Mathlib.Numerals.{add-one}
 use mathlib.Core.Path.{refl, sym, ap, ap₂, ◌∙◌, subst}
 use lib.Dec.{leb→le}
 use borrow.Author.Tests.{le-leb, lt-leb}
-use Rattle.lists.specs.Lists.{countBelow, overwrite}
-use Rattle.lists.proofs.Tests.{not-not, T-left, T-right}
-use Rattle.lists.proofs.Tables.{overwrite-none, overwrite-ext, getD-overwrite}
-use Rattle.study.specs.Limits.{cell, maxDistance}
+use Rattle.lists.specs.Lists.{count_below, overwrite}
+use Rattle.lists.proofs.Tests.{not_not, T-left, T-right}
+use Rattle.lists.proofs.Tables.{overwrite_none, overwrite_ext, getD_overwrite}
+use Rattle.study.specs.Limits.{cell, max_distance}
 use Rattle.study.specs.declared.Minima.{Minima}
 use Rattle.study.specs.declared.Refusal.{Refusal}
 use Rattle.study.specs.declared.BlockRecord.{BlockRecord}
 use Rattle.study.specs.declared.Answer.{Answer}
 use Rattle.study.specs.declared.Answer.TheVariants.{Done, Refused}
-use Rattle.study.specs.Problem.{Problem, centres, block, labels, radius, blocking, diameter, greatestDiameter}
+use Rattle.study.specs.Problem.{Problem, centres, block, labels, radius, blocking, diameter, greatest_diameter}
 use Rattle.study.specs.Study.{Study, size, sufficient, problem}
-use Rattle.study.specs.Refusals.{number, numbered, Verdict, accepted, refused, verdictOf, value, refusal, first_of}
-use Rattle.study.specs.Calls.{blockReasons, Figures, figures, blockRecord}
-use Rattle.study.proofs.CallLaws.{none-holds}
-use Rattle.study.proofs.Proofs.{for-problem, for-study}
+use Rattle.study.specs.Refusals.{number, numbered, Verdict, accepted, refused, verdict_of, value, refusal, first_of}
+use Rattle.study.specs.Calls.{block_reasons, Figures, figures, block_record}
+use Rattle.study.proofs.CallLaws.{none_holds}
+use Rattle.study.proofs.Proofs.{for_problem, for_study}
 use Rattle.promise.specs.Promise.{meeting, Able}
-use Rattle.radius_theory.specs.Arrays.{arrayProblem, ball, SizedArrays, ValidArrays}
-use Rattle.radius_search.specs.Inputs.{inputProblem}
+use Rattle.radius_theory.specs.Arrays.{array_problem, ball, SizedArrays, ValidArrays}
+use Rattle.radius_search.specs.Inputs.{input_problem}
 use Rattle.blocking_core.specs.Core.{Blocks}
-use Rattle.validity.specs.Memory.{State, studyOf, contentsOf}
-use Rattle.validity.proofs.ValidityLaws.{study-size, valid-study}
-use Rattle.access.specs.Calls.{nobody, Output, firstList, lent, answer, reply, listAfter}
+use Rattle.validity.specs.Memory.{State, study_of, contents_of}
+use Rattle.validity.proofs.ValidityLaws.{study_size, valid_study}
+use Rattle.access.specs.Calls.{nobody, Output, first_list, lent, answer, reply, list_after}
 use Rattle.access.specs.Passed.{Passed}
-use Rattle.access.proofs.AccessLaws.{held-own, accepted-held, inquiry-answer, passed-by, replies-refusal, unwritten, replies, writes}
+use Rattle.access.proofs.AccessLaws.{held_own, accepted_held, inquiry_answer, passed_by, replies_refusal, unwritten, replies, writes}
 use Rattle.blocking.specs.declared.block.BlockRows.{BlockRows}
-use Rattle.blocking.specs.Calls.{makesBlocks}
-use Rattle.blocking.proofs.ProblemOfArrays.{problem-of-arrays, sized-arrays, valid-arrays, meets-same}
-use Rattle.blocking.specs.Rows.{rowAt, Lending, RowsOf}
-use Rattle.blocking.proofs.TidesLaws.{past-24, tide-there}
-use Rattle.blocking.specs.Accepted.{TidesChecked, blockAnswer, BlockAccepted}
+use Rattle.blocking.specs.Calls.{makes_blocks}
+use Rattle.blocking.proofs.ProblemOfArrays.{problem_of_arrays, sized_arrays, valid_arrays, meets_same}
+use Rattle.blocking.specs.Rows.{row_record, Lending, RowsOf}
+use Rattle.blocking.proofs.TidesLaws.{past_24, tide_there}
+use Rattle.blocking.specs.Accepted.{TidesChecked, block_answer, BlockAccepted}
 
 -- Block's answer by lengths is the call's answer
-pub made-answer : (s : State) (list : List ℕ) {room : ℕ} (records : List BlockRecord) → length records ≡ room
-    → blockAnswer s (length list) room ≡ answer s (makesBlocks list records)
-unfolding blockAnswer makesBlocks
-made-answer s list records k = ap (blockAnswer s (length list)) (sym k) ∙ sym (inquiry-answer s _)
+pub made_answer : (s : State) (list : List ℕ) {room : ℕ} (records : List BlockRecord) → length records ≡ room
+    → block_answer s (length list) room ≡ answer s (makes_blocks list records)
+unfolding block_answer makes_blocks
+made_answer s list records k = ap (block_answer s (length list)) (sym k) ∙ sym (inquiry_answer s _)
 
 module _ (s : State) (list room : ℕ) where
   abbrev n : ℕ
   n = s.dataset.n
 
   abbrev S : Study
-  S = studyOf s
+  S = study_of s
 
   abbrev M : Minima
   M = s.dataset.minima
 
   -- the ball that the code counts holds every tide
   abbrev whole : Bool
-  whole = meeting M n s.settings (ball s.distances 0 maxDistance)
+  whole = meeting M n s.settings (ball s.distances 0 max_distance)
 
   module _ {first : Answer} (F : TidesChecked s first) (done : first ≡ Done) where
-    block-own : (v : Verdict) → first_of (blockReasons S list room) ≡ v → v ≡ blockAnswer s list room
-    unfolding blockAnswer contentsOf
-    block-own v q = sym q ∙ held-own s (λ H. blockReasons H.contents.study list room) (F.passed done).not_short (F.passed done).tested
+    block_own : (v : Verdict) → first_of (block_reasons S list room) ≡ v → v ≡ block_answer s list room
+    unfolding block_answer contents_of
+    block_own v q = sym q ∙ held_own s (λ H. block_reasons H.contents.study list room) (F.passed done).not_short (F.passed done).tested
 
     whole_is : sufficient S (λ t. true) ≡ whole
-    unfolding arrayProblem problem meeting
+    unfolding array_problem problem meeting
     whole_is =
-        ap (λ (Q : Problem). Q.enough (λ t. true)) (problem-of-arrays s (F.passed done).study)
-        ∙ meets-same M n (λ t k. refl)
-        (λ t k. sym (le-leb (cell s.distances 0 t) maxDistance ((F.passed done).study.distance_high 0 t (F.some-tide done) k)))
+        ap (λ (Q : Problem). Q.enough (λ t. true)) (problem_of_arrays s (F.passed done).study)
+        ∙ meets_same M n (λ t k. refl)
+        (λ t k. sym (le-leb (cell s.distances 0 t) max_distance ((F.passed done).study.distance_high 0 t (F.some_tide done) k)))
 
     module _ {r : Bool} (e : r ≡ whole) where
-      pub block-25 : r ≡ false → refused (number 25) ≡ blockAnswer s list room
-      unfolding blockReasons first_of
-      block-25 f = block-own (refused (number 25)) (rw (past-24 F done, whole_is ∙ sym e ∙ f))
+      pub block_25 : r ≡ false → refused (number 25) ≡ block_answer s list room
+      unfolding block_reasons first_of
+      block_25 f = block_own (refused (number 25)) (rw (past_24 F done, whole_is ∙ sym e ∙ f))
 
       module _ (f : r ≡ true) where
-        pub block-1-list : list < n → refused (number 1) ≡ blockAnswer s list room
-        unfolding blockReasons first_of
-        block-1-list h =
-            block-own (refused (number 1)) (rw (past-24 F done, whole_is ∙ sym e ∙ f, lt-leb (size S) list (omega (arith, study-size s))))
+        pub block_1_list : list < n → refused (number 1) ≡ block_answer s list room
+        unfolding block_reasons first_of
+        block_1_list h =
+            block_own (refused (number 1)) (rw (past_24 F done, whole_is ∙ sym e ∙ f, lt-leb (size S) list (omega (arith, study_size s))))
 
-        pub block-1-records : n ≤ list → room < n → refused (number 1) ≡ blockAnswer s list room
-        unfolding blockReasons first_of
-        block-1-records h k =
-            block-own (refused (number 1))
+        pub block_1_records : n ≤ list → room < n → refused (number 1) ≡ block_answer s list room
+        unfolding block_reasons first_of
+        block_1_records h k =
+            block_own (refused (number 1))
             (rw (
-              past-24 F done,
+              past_24 F done,
               whole_is ∙ sym e ∙ f,
-              le-leb (size S) list (omega (arith, study-size s)),
-              lt-leb (size S) room (omega (arith, study-size s)),
+              le-leb (size S) list (omega (arith, study_size s)),
+              lt-leb (size S) room (omega (arith, study_size s)),
             ))
 
-        pub block-done : n ≤ list → n ≤ room → accepted ≡ blockAnswer s list room
-        unfolding blockReasons first_of
-        block-done h k =
-            block-own accepted
+        pub block_done : n ≤ list → n ≤ room → accepted ≡ block_answer s list room
+        unfolding block_reasons first_of
+        block_done h k =
+            block_own accepted
             (rw (
-              past-24 F done,
+              past_24 F done,
               whole_is ∙ sym e ∙ f,
-              le-leb (size S) list (omega (arith, study-size s)),
-              le-leb (size S) room (omega (arith, study-size s)),
+              le-leb (size S) list (omega (arith, study_size s)),
+              le-leb (size S) room (omega (arith, study_size s)),
             ))
 
-  pub block-accepted : {a : Answer} → a ≡ Done → verdictOf a ≡ blockAnswer s list room → BlockAccepted s list room
-  unfolding blockAnswer contentsOf blockReasons
-  block-accepted e f =
-      let q : accepted ≡ blockAnswer s list room = sym (ap verdictOf e) ∙ f in
-      let h = accepted-held s nobody (λ H. blockReasons H.contents.study list room) (sym q) in
-      let w = none-holds (blockReasons S list room) h.reasons in
-      let fits = not-not (leb (size S) list && leb (size S) room) w.1.1.0 in
+  pub block_accepted : {a : Answer} → a ≡ Done → verdict_of a ≡ block_answer s list room → BlockAccepted s list room
+  unfolding block_answer contents_of block_reasons
+  block_accepted e f =
+      let q : accepted ≡ block_answer s list room = sym (ap verdict_of e) ∙ f in
+      let h = accepted_held s nobody (λ H. block_reasons H.contents.study list room) (sym q) in
+      let w = none_holds (block_reasons S list room) h.reasons in
+      let fits = not_not (leb (size S) list && leb (size S) room) w.1.1.0 in
       record {
-        passed = passed-by s h.not_short h.tested;
-        some-tide = tide-there s w.0;
-        enough = not-not (sufficient S (λ t. true)) w.1.0;
-        list-room = omega (arith, study-size s, leb→le (size S) list (T-left (leb (size S) list) (leb (size S) room) fits));
-        record-room = omega (arith, study-size s, leb→le (size S) room (T-right (leb (size S) list) (leb (size S) room) fits));
+        passed = passed_by s h.not_short h.tested;
+        some_tide = tide_there s w.0;
+        enough = not_not (sufficient S (λ t. true)) w.1.0;
+        list_room = omega (arith, study_size s, leb→le (size S) list (T-left (leb (size S) list) (leb (size S) room) fits));
+        record_room = omega (arith, study_size s, leb→le (size S) room (T-right (leb (size S) list) (leb (size S) room) fits));
         answer = q;
       }
 
@@ -125,115 +125,115 @@ module _ (s : State) (list room : ℕ) where
     g = s.settings
 
     abbrev P : Problem
-    P = arrayProblem d n (meeting M n g)
+    P = array_problem d n (meeting M n g)
 
-    pub accepted-sized : SizedArrays (Able M n g) d n
-    accepted-sized = sized-arrays s A.passed.study A.passed.long
+    pub accepted_sized : SizedArrays (Able M n g) d n
+    accepted_sized = sized_arrays s A.passed.study A.passed.long
 
-    pub accepted-valid-arrays : ValidArrays d n (meeting M n g)
-    accepted-valid-arrays = valid-arrays s A.passed.study A.enough
+    pub accepted_valid_arrays : ValidArrays d n (meeting M n g)
+    accepted_valid_arrays = valid_arrays s A.passed.study A.enough
 
     same : problem S ≡ P
-    same = problem-of-arrays s A.passed.study
+    same = problem_of_arrays s A.passed.study
 
     module _ {c r w : ℕ} {cs sizes diameters : List ℕ} (B : Blocks d n (meeting M n g) c r w cs sizes diameters) where
-      pub figures-are : record { blocks = c; radius = r; widest = w } ≡ figures S
+      pub figures_are : record { blocks = c; radius = r; widest = w } ≡ figures S
       unfolding figures
-      figures-are =
+      figures_are =
           subst
           (λ (Q : Problem). ◌≡◌ {A = Figures} (record { blocks = c; radius = r; widest = w })
-          (record { blocks = length (centres Q (radius Q)); radius = radius Q; widest = greatestDiameter Q (labels (blocking Q)) }))
-          (sym same) (rw (B.count-is, B.radius-of, B.widest_of))
+          (record { blocks = length (centres Q (radius Q)); radius = radius Q; widest = greatest_diameter Q (labels (blocking Q)) }))
+          (sym same) (rw (B.count_is, B.radius_of, B.widest_of))
 
       -- the rows with the centres as tide numbers
       module _ {numbers : List ℕ} (old : List ℕ) (e : numbers ≡ overwrite c (λ i. get_or cs i 0 + 1) old) where
         abbrev pub rows : BlockRows
         rows = record { count = c; centres = numbers; tides = sizes; diameters = diameters }
 
-        pub row_is : (i : ℕ) → i < c → rowAt rows i ≡ blockRecord S i
-        unfolding blockRecord arrayProblem
+        pub row_is : (i : ℕ) → i < c → row_record rows i ≡ block_record S i
+        unfolding block_record array_problem
         row_is i l =
             subst
-            (λ (Q : Problem). rowAt rows i
+            (λ (Q : Problem). row_record rows i
             ≡ record {
               centre = suc (get_or (centres Q (radius Q)) i 0);
-              tides = countBelow Q.size (block (labels (blocking Q)) (suc i));
+              tides = count_below Q.size (block (labels (blocking Q)) (suc i));
               diameter = diameter Q (labels (blocking Q)) (suc i);
             })
             (sym same)
-            (rw (number, B.type_size i l, B.diameter-of i l))
+            (rw (number, B.type_size i l, B.diameter_of i l))
           where
             number : get_or numbers i 0 ≡ suc (get_or (centres P (radius P)) i 0)
             number =
-                ap (λ z. get_or z i 0) e ∙ getD-overwrite (λ i. get_or cs i 0 + 1) old c i 0 l ∙ add-one (get_or cs i 0) ∙ ap suc (B.centre-of i l)
+                ap (λ z. get_or z i 0) e ∙ getD_overwrite (λ i. get_or cs i 0 + 1) old c i 0 l ∙ add-one (get_or cs i 0) ∙ ap suc (B.centre_of_lem i l)
 
 -- the blocking gives every tide a block
-blocking-long : (s : State) → Passed s → T (sufficient (studyOf s) (λ t. true)) → length (blocking (problem (studyOf s))) ≡ s.dataset.n
+blocking_long : (s : State) → Passed s → T (sufficient (study_of s) (λ t. true)) → length (blocking (problem (study_of s))) ≡ s.dataset.n
 unfolding problem
-blocking-long s P w =
-    let S = studyOf s in
-    ((for-problem (problem S) (for-study S (valid-study s P.study)).lawful).canonical w).assignment.long ∙ study-size s
+blocking_long s P w =
+    let S = study_of s in
+    ((for_problem (problem S) (for_study S (valid_study s P.study)).lawful).canonical w).assignment.long ∙ study_size s
 
 -- ---- what the core hands back, whatever records are lent
 
 module _ (s : State) (list : List ℕ) (room : ℕ) where
-  abbrev of-study : Study
-  of-study = studyOf s
+  abbrev of_study : Study
+  of_study = study_of s
 
   -- a refused call has no rows, and leaves the list
-  module _ {a : Answer} {x : Refusal} (e : a ≡ Refused x) (f : verdictOf a ≡ blockAnswer s (length list) room) where
-    refusing : (records : List BlockRecord) → length records ≡ room → refused (numbered x) ≡ answer s (makesBlocks list records)
-    refusing records k = sym (ap verdictOf e) ∙ f ∙ made-answer s list records k
+  module _ {a : Answer} {x : Refusal} (e : a ≡ Refused x) (f : verdict_of a ≡ block_answer s (length list) room) where
+    refusing : (records : List BlockRecord) → length records ≡ room → refused (numbered x) ≡ answer s (makes_blocks list records)
+    refusing records k = sym (ap verdict_of e) ∙ f ∙ made_answer s list records k
 
-    pub block-refusal : Lending room (λ records. refusal (numbered x) ≡ reply s (makesBlocks list records))
-    block-refusal records k = replies-refusal s (makesBlocks list records) (refusing records k)
+    pub block_refusal : Lending room (λ records. refusal (numbered x) ≡ reply s (makes_blocks list records))
+    block_refusal records k = replies_refusal s (makes_blocks list records) (refusing records k)
 
-    pub no_rows : (rows : BlockRows) → rows.count ≡ 0 → RowsOf s (makesBlocks list) room rows
-    unfolding makesBlocks lent
+    pub no_rows : (rows : BlockRows) → rows.count ≡ 0 → RowsOf s (makes_blocks list) room rows
+    unfolding makes_blocks lent
     no_rows rows z =
         record {
           fits = omega arith;
           few = omega arith;
           records = λ l k.
-              ap (λ c. overwrite c (rowAt rows) l) z ∙ sym (overwrite-none (rowAt rows) l)
-              ∙ ap (λ (o : Output). o.records) (unwritten s (makesBlocks list l) (refusing l k));
+              ap (λ c. overwrite c (row_record rows) l) z ∙ sym (overwrite_none (row_record rows) l)
+              ∙ ap (λ (o : Output). o.records) (unwritten s (makes_blocks list l) (refusing l k));
         }
 
-    pub block-list-stays : Lending room (λ records. list ≡ listAfter s (makesBlocks list records))
-    unfolding makesBlocks lent
-    block-list-stays records k = ap (λ (o : Output). firstList o.lists) (unwritten s (makesBlocks list records) (refusing records k))
+    pub block_list_stays : Lending room (λ records. list ≡ list_after s (makes_blocks list records))
+    unfolding makes_blocks lent
+    block_list_stays records k = ap (λ (o : Output). first_list o.lists) (unwritten s (makes_blocks list records) (refusing records k))
 
   -- an accepted one hands back the study's blocks
   module _ (A : BlockAccepted s (length list) room) where
-    accepting : (records : List BlockRecord) → length records ≡ room → accepted ≡ answer s (makesBlocks list records)
-    accepting records k = A.answer ∙ made-answer s list records k
+    accepting : (records : List BlockRecord) → length records ≡ room → accepted ≡ answer s (makes_blocks list records)
+    accepting records k = A.answer ∙ made_answer s list records k
 
     module _ {c r w : ℕ} {cs sizes diameters : List ℕ}
         (B : Blocks s.distances s.dataset.n (meeting s.dataset.minima s.dataset.n s.settings) c r w cs sizes diameters) where
-      pub block-value : Lending room (λ records. value (c ∷ r ∷ w ∷ []) ≡ reply s (makesBlocks list records))
-      unfolding makesBlocks contentsOf
-      block-value records k =
-          ap (λ (F : Figures). value (F.blocks ∷ F.radius ∷ F.widest ∷ [])) (figures-are s (length list) room A B)
+      pub block_value : Lending room (λ records. value (c ∷ r ∷ w ∷ []) ≡ reply s (makes_blocks list records))
+      unfolding makes_blocks contents_of
+      block_value records k =
+          ap (λ (F : Figures). value (F.blocks ∷ F.radius ∷ F.widest ∷ [])) (figures_are s (length list) room A B)
           ∙ replies s _ A.passed (accepting records k)
 
       module _ {numbers : List ℕ} (old : List ℕ) (e : numbers ≡ overwrite c (λ i. get_or cs i 0 + 1) old) where
-        pub block-rows : RowsOf s (makesBlocks list) room (rows s (length list) room A B old e)
-        unfolding makesBlocks contentsOf
-        block-rows =
+        pub block_rows : RowsOf s (makes_blocks list) room (rows s (length list) room A B old e)
+        unfolding makes_blocks contents_of
+        block_rows =
             record {
-              fits = omega (arith, B.few, A.record-room);
+              fits = omega (arith, B.few, A.record_room);
               few = omega (arith, B.few, A.passed.study.few);
               records = λ l k.
-                  overwrite-ext (rowAt (rows s (length list) room A B old e)) l c (blockRecord of-study) (row_is s (length list) room A B old e)
-                  ∙ ap (λ (F : Figures). overwrite F.blocks (blockRecord of-study) l) (figures-are s (length list) room A B)
+                  overwrite_ext (row_record (rows s (length list) room A B old e)) l c (block_record of_study) (row_is s (length list) room A B old e)
+                  ∙ ap (λ (F : Figures). overwrite F.blocks (block_record of_study) l) (figures_are s (length list) room A B)
                   ∙ ap (λ (o : Output). o.records) (writes s _ A.passed (accepting l k));
             }
 
-    pub block-list : {new : List ℕ}
-        → new ≡ blocking (inputProblem s.distances s.settings s.dataset.n s.dataset.minima) ++ drop s.dataset.n list
-        → Lending room (λ records. new ≡ listAfter s (makesBlocks list records))
-    unfolding makesBlocks contentsOf
-    block-list {new} e records k =
-        e ∙ ap₂ (λ (Q : Problem) (k : ℕ). blocking Q ++ drop k list) (sym (problem-of-arrays s A.passed.study))
-        (sym (blocking-long s A.passed A.enough))
-        ∙ ap (λ (o : Output). firstList o.lists) (writes s _ A.passed (accepting records k))
+    pub block_list : {new : List ℕ}
+        → new ≡ blocking (input_problem s.distances s.settings s.dataset.n s.dataset.minima) ++ drop s.dataset.n list
+        → Lending room (λ records. new ≡ list_after s (makes_blocks list records))
+    unfolding makes_blocks contents_of
+    block_list {new} e records k =
+        e ∙ ap₂ (λ (Q : Problem) (k : ℕ). blocking Q ++ drop k list) (sym (problem_of_arrays s A.passed.study))
+        (sym (blocking_long s A.passed A.enough))
+        ∙ ap (λ (o : Output). first_list o.lists) (writes s _ A.passed (accepting records k))

@@ -5,28 +5,28 @@ use mathlib.Core.Path.{refl, sym, ap, ap₂, ◌∙◌}
 use lib.Dec.{eqb→eq}
 use borrow.Author.Tests.{eq-eqb, ne_eqb}
 use Rattle.lists.specs.Lists.{between, every}
-use Rattle.lists.proofs.Tests.{not-not}
+use Rattle.lists.proofs.Tests.{not_not}
 use Rattle.study.specs.declared.Minima.{Minima}
 use Rattle.study.specs.declared.Refusal.{Refusal}
 use Rattle.study.specs.declared.Answer.{Answer}
 use Rattle.study.specs.declared.Answer.TheVariants.{Done, Refused}
-use Rattle.study.specs.Problem.{Problem, block, labels, greatestDiameter, feasible}
+use Rattle.study.specs.Problem.{Problem, block, labels, greatest_diameter, feasible}
 use Rattle.study.specs.Study.{Study, size, meets, problem}
-use Rattle.study.specs.Refusals.{number, numbered, Verdict, accepted, refused, verdictOf, value, refusal, first_of}
-use Rattle.study.specs.Calls.{judgeReasons, approved, approval, disapproval, judgement}
-use Rattle.study.proofs.CallLaws.{none-holds}
+use Rattle.study.specs.Refusals.{number, numbered, Verdict, accepted, refused, verdict_of, value, refusal, first_of}
+use Rattle.study.specs.Calls.{judge_reasons, approved, approval, disapproval, judgement}
+use Rattle.study.proofs.CallLaws.{none_holds}
 use Rattle.promise.specs.Promise.{meeting}
-use Rattle.radius_theory.specs.Arrays.{arrayProblem}
-use Rattle.validity.specs.Memory.{State, studyOf, contentsOf}
-use Rattle.validity.proofs.ValidityLaws.{study-size}
+use Rattle.radius_theory.specs.Arrays.{array_problem}
+use Rattle.validity.specs.Memory.{State, study_of, contents_of}
+use Rattle.validity.proofs.ValidityLaws.{study_size}
 use Rattle.access.specs.Calls.{answer, reply}
 use Rattle.access.specs.Passed.{Passed}
-use Rattle.access.proofs.AccessLaws.{passed-by, replies-refusal, inquiry-own, inquiry-accepted, replies}
-use Rattle.blocking.specs.Calls.{judgementNumbers, judgesList}
-use Rattle.blocking.proofs.ProblemOfArrays.{problem-of-arrays, sized-arrays}
-use Rattle.blocking_core.specs.Measured.{widestOf}
-use Rattle.blocking_core.proofs.MeasuredLaws.{widest-diameter}
-use Rattle.blocking.proofs.TidesLaws.{past-24}
+use Rattle.access.proofs.AccessLaws.{passed_by, replies_refusal, inquiry_own, inquiry_accepted, replies}
+use Rattle.blocking.specs.Calls.{judgement_numbers, judges_list}
+use Rattle.blocking.proofs.ProblemOfArrays.{problem_of_arrays, sized_arrays}
+use Rattle.blocking_core.specs.Measured.{widest_of}
+use Rattle.blocking_core.proofs.MeasuredLaws.{widest_diameter}
+use Rattle.blocking.proofs.TidesLaws.{past_24}
 use Rattle.blocking.specs.Accepted.{TidesChecked, JudgedArrays}
 
 module _ (s : State) (list : List ℕ) where
@@ -34,54 +34,54 @@ module _ (s : State) (list : List ℕ) where
   n = s.dataset.n
 
   abbrev S : Study
-  S = studyOf s
+  S = study_of s
 
   module _ {first : Answer} (F : TidesChecked s first) (done : first ≡ Done) where
-    judge-own : (v : Verdict) → first_of (judgeReasons S list) ≡ v → v ≡ answer s (judgesList list)
-    unfolding judgesList contentsOf
-    judge-own v q = sym q ∙ inquiry-own s _ (F.passed done) refl
+    judge_own : (v : Verdict) → first_of (judge_reasons S list) ≡ v → v ≡ answer s (judges_list list)
+    unfolding judges_list contents_of
+    judge_own v q = sym q ∙ inquiry_own s _ (F.passed done) refl
 
-    pub judge-12 : (length list ≡ n → ⊥) → refused (number 12) ≡ answer s (judgesList list)
-    unfolding judgeReasons first_of
-    judge-12 h = judge-own (refused (number 12)) (rw (past-24 F done, ne_eqb (length list) (size S) (λ e. h (e ∙ study-size s))))
+    pub judge_12 : (length list ≡ n → ⊥) → refused (number 12) ≡ answer s (judges_list list)
+    unfolding judge_reasons first_of
+    judge_12 h = judge_own (refused (number 12)) (rw (past_24 F done, ne_eqb (length list) (size S) (λ e. h (e ∙ study_size s))))
 
-    pub judge-done : length list ≡ n → accepted ≡ answer s (judgesList list)
-    unfolding judgeReasons first_of
-    judge-done h = judge-own accepted (rw (past-24 F done, eq-eqb (length list) (size S) (h ∙ sym (study-size s))))
+    pub judge_done : length list ≡ n → accepted ≡ answer s (judges_list list)
+    unfolding judge_reasons first_of
+    judge_done h = judge_own accepted (rw (past_24 F done, eq-eqb (length list) (size S) (h ∙ sym (study_size s))))
 
   -- what an accepted call tells
   pub record JudgeAccepted : Type 0 where
     pub passed : Passed s
     pub long : length list ≡ n
-    pub answer : accepted ≡ answer s (judgesList list)
+    pub answer : accepted ≡ answer s (judges_list list)
 
-  pub judge-accepted : {a : Answer} → a ≡ Done → verdictOf a ≡ answer s (judgesList list) → JudgeAccepted
-  unfolding judgesList contentsOf judgeReasons
-  judge-accepted e f =
-      let q : accepted ≡ answer s (judgesList list) = sym (ap verdictOf e) ∙ f in
-      let h = inquiry-accepted s _ (sym q) in
-      let w = none-holds (judgeReasons S list) h.reasons in
+  pub judge_accepted : {a : Answer} → a ≡ Done → verdict_of a ≡ answer s (judges_list list) → JudgeAccepted
+  unfolding judges_list contents_of judge_reasons
+  judge_accepted e f =
+      let q : accepted ≡ answer s (judges_list list) = sym (ap verdict_of e) ∙ f in
+      let h = inquiry_accepted s _ (sym q) in
+      let w = none_holds (judge_reasons S list) h.reasons in
       record {
-        passed = passed-by s h.not_short h.tested;
-        long = eqb→eq (length list) (size S) (not-not (eqb (length list) (size S)) w.1.0) ∙ study-size s;
+        passed = passed_by s h.not_short h.tested;
+        long = eqb→eq (length list) (size S) (not_not (eqb (length list) (size S)) w.1.0) ∙ study_size s;
         answer = q;
       }
 
-  pub judge-refused : {a : Answer} {x : Refusal} → a ≡ Refused x → verdictOf a ≡ answer s (judgesList list) → refusal (numbered x) ≡ reply s (judgesList list)
-  judge-refused {a} {x} e f = replies-refusal s (judgesList list) (sym (ap verdictOf e) ∙ f)
+  pub judge_refused : {a : Answer} {x : Refusal} → a ≡ Refused x → verdict_of a ≡ answer s (judges_list list) → refusal (numbered x) ≡ reply s (judges_list list)
+  judge_refused {a} {x} e f = replies_refusal s (judges_list list) (sym (ap verdict_of e) ∙ f)
 
   module _ (A : JudgeAccepted) where
     abbrev M : Minima
     M = s.dataset.minima
 
-    pub judged-arrays : JudgedArrays s.settings n list
-    judged-arrays =
-        let z = sized-arrays s A.passed.study A.passed.long in
+    pub judged_arrays : JudgedArrays s.settings n list
+    judged_arrays =
+        let z = sized_arrays s A.passed.study A.passed.long in
         record {
           few = z.few;
-          settings-long = z.able.settings-long;
-          setting-high = z.able.setting-high;
-          list-long = omega (arith, A.long);
+          settings_long = z.able.settings_long;
+          setting_high = z.able.setting_high;
+          list_long = omega (arith, A.long);
         }
 
     -- the two tests that the code makes
@@ -91,28 +91,28 @@ module _ (s : State) (list : List ℕ) where
     abbrev sufficient : Bool
     sufficient = every n (λ u. meets M n (λ t. get_or s.settings t 0) (block (labels list) (labels list u)))
 
-    approved-is : approved S list ≡ numbers && sufficient
-    unfolding approved feasible arrayProblem meeting
-    approved-is =
-        ap₂ (λ (k : ℕ) (P : Problem). every k (λ t. between 1 255 (labels list t)) && feasible P (labels list)) (study-size s)
-        (problem-of-arrays s A.passed.study)
+    approved_is : approved S list ≡ numbers && sufficient
+    unfolding approved feasible array_problem meeting
+    approved_is =
+        ap₂ (λ (k : ℕ) (P : Problem). every k (λ t. between 1 255 (labels list t)) && feasible P (labels list)) (study_size s)
+        (problem_of_arrays s A.passed.study)
 
     judged : (b : Bool) → numbers && sufficient ≡ b
-        → value (judgementNumbers (cond b (approval (greatestDiameter (problem S) (labels list))) disapproval)) ≡ reply s (judgesList list)
-    unfolding judgesList judgement contentsOf
+        → value (judgement_numbers (cond b (approval (greatest_diameter (problem S) (labels list))) disapproval)) ≡ reply s (judges_list list)
+    unfolding judges_list judgement contents_of
     judged b e =
-        ap (λ z. value (judgementNumbers (cond z (approval (greatestDiameter (problem S) (labels list))) disapproval))) (sym e ∙ sym approved-is)
+        ap (λ z. value (judgement_numbers (cond z (approval (greatest_diameter (problem S) (labels list))) disapproval))) (sym e ∙ sym approved_is)
         ∙ replies s _ A.passed A.answer
 
-    pub judge-number : {r : Bool} → r ≡ numbers → r ≡ false → value (judgementNumbers disapproval) ≡ reply s (judgesList list)
-    judge-number e f = judged false (rw (sym e ∙ f))
+    pub judge_number : {r : Bool} → r ≡ numbers → r ≡ false → value (judgement_numbers disapproval) ≡ reply s (judges_list list)
+    judge_number e f = judged false (rw (sym e ∙ f))
 
-    pub judge-few : {q r : Bool} → q ≡ numbers → q ≡ true → r ≡ sufficient → r ≡ false → value (judgementNumbers disapproval) ≡ reply s (judgesList list)
-    judge-few d c e f = judged false (rw (sym d ∙ c, sym e ∙ f))
+    pub judge_few : {q r : Bool} → q ≡ numbers → q ≡ true → r ≡ sufficient → r ≡ false → value (judgement_numbers disapproval) ≡ reply s (judges_list list)
+    judge_few d c e f = judged false (rw (sym d ∙ c, sym e ∙ f))
 
-    pub judge-yes : {q r : Bool} {w : ℕ} → q ≡ numbers → q ≡ true → r ≡ sufficient → r ≡ true → w ≡ widestOf s.distances n (labels list) n
-        → value (judgementNumbers (approval w)) ≡ reply s (judgesList list)
-    judge-yes d c e f h =
-        ap (λ z. value (judgementNumbers (approval z))) (h ∙ widest-diameter s.distances n (meeting M n s.settings) (labels list)
-        ∙ ap (λ (P : Problem). greatestDiameter P (labels list)) (sym (problem-of-arrays s A.passed.study)))
+    pub judge_yes : {q r : Bool} {w : ℕ} → q ≡ numbers → q ≡ true → r ≡ sufficient → r ≡ true → w ≡ widest_of s.distances n (labels list) n
+        → value (judgement_numbers (approval w)) ≡ reply s (judges_list list)
+    judge_yes d c e f h =
+        ap (λ z. value (judgement_numbers (approval z))) (h ∙ widest_diameter s.distances n (meeting M n s.settings) (labels list)
+        ∙ ap (λ (P : Problem). greatest_diameter P (labels list)) (sym (problem_of_arrays s A.passed.study)))
         ∙ judged true (rw (sym d ∙ c, sym e ∙ f))

@@ -10,8 +10,8 @@
 --     asked        the call, lent a list and records
 --     φ            φ s c r is what both contracts say of the answer r to the call c, where s is the dataset and its memory
 --     CORE, NAME   the names of the core and of the call
--- From them come the core's contract (`core-ended`, `core-clauses`), the call's (`ended`, `clauses`) and the call's code (`function`). A
--- call's proof is an instance of `lent-meets`: that its own contracts and its own code are these is seen by computing. Assumes nothing.
+-- From them come the core's contract (`core_ended`, `core_clauses`), the call's (`ended`, `clauses`) and the call's code (`function`). A
+-- call's proof is an instance of `lent_meets`: that its own contracts and its own code are these is seen by computing. Assumes nothing.
 --     enum_type, struct_type       the type of an answer that is a declared enum, or a declared struct
 use Rattle.core.specs.Prelude.{◌≡◌, ℕ, ◌^◌, ◌<◌, T as Holds, List, [], ◌∷◌, length}
 use mathlib.Core.Path.{refl, ◌∙◌, ap, subst}
@@ -43,10 +43,10 @@ use denote.Builtin.{u8, u32, usize, unit}
 use denote.Ref.{Bor}
 use denote.Slice.{slice_ty, ShrSlice, MutSlice, finally, shr_slice_vals, shr_slice_Tells, mut_slice_Tells, shr_slice_Lawful, mut_slice_Lawful}
 use denote.Steps.{owned, peeks, heard, nothing, only}
-use denote.Struct.Struct.{Plains, AreAll, layout as struct-layout}
+use denote.Struct.Struct.{Plains, AreAll, layout as struct_layout}
 use denote.Struct.Declared as DD
 use denote.Struct.Laws as LL
-use denote.Enum.Enum.{Few, Plainss, layout as enum-layout}
+use denote.Enum.Enum.{Few, Plainss, layout as enum_layout}
 use denote.Enum.Declared as ED
 use denote.Enum.Laws as EL
 use denote.Triple.Statement.{Contract, Triple}
@@ -61,8 +61,8 @@ use Rattle.lists.specs.Lists.{overwrite}
 use Rattle.study.specs.declared.BlockRecord.{BlockRecord}
 use Rattle.study.specs.declared.Dataset.{Dataset}
 use Rattle.validity.specs.Memory.{State, state_of}
-use Rattle.access.specs.Calls.{Call, listAfter, recordsAfter}
-use Rattle.blocking.specs.Rows.{rowAt, Lending, RowsOf}
+use Rattle.access.specs.Calls.{Call, list_after, records_after}
+use Rattle.blocking.specs.Rows.{row_record, Lending, RowsOf}
 use Rattle.blocking.specs.declared.block.BlockRows.{BlockRows}
 use Rattle.study.specs.contracts.Dataset as S
 use Rattle.study.proofs.Dataset.TheLaws as S'
@@ -70,11 +70,11 @@ use Rattle.study.proofs.BlockRecord.TheLaws as T'
 use Rattle.blocking.specs.contracts.block.BlockRows as B
 use Rattle.blocking.proofs.block.BlockRows.TheLaws as B'
 use Rattle.blocking.specs.contracts.storing.put_records as put
-use Rattle.blocking.proofs.storing.put_records.Symbol as put-def
+use Rattle.blocking.proofs.storing.put_records.Symbol as put_def
 use Rattle.blocking.proofs.storing.put_records.Symbol.{name as #put-records}
-use Rattle.blocking.proofs.storing.put_records.Met as put-thm
-use Rattle.blocking.proofs.Arguments.{R, dataset-val, slice-val, OwnV, OwnW, twice, typed-dataset}
-use Rattle.blocking.proofs.Walks.{full, promise, reads, returns-from, asks_nothing, heard3, says3, frees_all, table, known, walk-proves}
+use Rattle.blocking.proofs.storing.put_records.Met as put_thm
+use Rattle.blocking.proofs.Arguments.{R, dataset_val, slice_val_of, OwnV, OwnW, twice, typed_dataset}
+use Rattle.blocking.proofs.Walks.{full, promise, reads, returns_from, asks_nothing, heard3, says3, frees_all, table, known, walk_proves}
 
 -- ---- what differs from call to call
 
@@ -90,7 +90,7 @@ pub record PlainType : Type 2 where
 abbrev pub enum_type : (E : ED.Declared) (L : EL.Laws E) → Few (ED.shape E) → Plainss (ED.variants E) → PlainType
 enum_type E L few facts = record {
   row = ED.row E;
-  mir = enum-layout (ED.shape E);
+  mir = enum_layout (ED.shape E);
   val = EL.val E L;
   typed = λ 𝓛 x u is. ((EL.lawful E L 𝓛 few).typed x _ is).0;
   makes = λ 𝓛. EL.makes E facts 𝓛;
@@ -99,19 +99,19 @@ enum_type E L few facts = record {
 abbrev pub struct_type : (E : DD.Declared) (L : LL.Laws E) → Plains (DD.fields E) → PlainType
 struct_type E L facts = record {
   row = DD.row E;
-  mir = struct-layout (DD.shape E);
+  mir = struct_layout (DD.shape E);
   val = LL.val E L;
   typed = λ 𝓛 x u is. ((LL.lawful E L 𝓛).typed x _ is).0;
   makes = λ 𝓛. LL.makes E facts 𝓛;
 }
 
 -- the rows' machine value
-abbrev pub rows-val : BlockRows → Val
-rows-val rows = LL.val B.the_type B'.the_laws rows
+abbrev pub rows_val : BlockRows → Val
+rows_val rows = LL.val B.the_type B'.the_laws rows
 
 -- the MIR type of a struct of an answer and the rows
-abbrev pub pair-type : Sym → Ty → Ty
-pair-type name τ = ty_struct name (tcons τ (tcons B'.mir tnil))
+abbrev pub pair_type : Sym → Ty → Ty
+pair_type name τ = ty_struct name (tcons τ (tcons B'.mir tnil))
 
 -- what a core hands back: a declared struct E of an answer, of type Q, and the rows. The last three are seen by computing: what the struct
 -- is in MIR, what its machine value is, and that what is known of its fields is known of the answer and the rows
@@ -121,18 +121,18 @@ pub record Handed : Type 2 where
   pub laws : LL.Laws E
   pub answer : E.D → Q.row.Denot
   pub rows : E.D → BlockRows
-  pub laid : struct-layout (DD.shape E) ≡ pair-type E.name Q.mir
-  pub valued : (r : E.D) → LL.val E laws r ≡ vstruct (vcons (Q.val (answer r)) (vcons (rows-val (rows r)) vnil))
+  pub laid : struct_layout (DD.shape E) ≡ pair_type E.name Q.mir
+  pub valued : (r : E.D) → LL.val E laws r ≡ vstruct (vcons (Q.val (answer r)) (vcons (rows_val (rows r)) vnil))
   pub parted : (r : E.D) → AreAll (DD.fields E) (E.to r) (valss (DD.fields E) (LL.spells E.parts laws) (E.to r))
-      → Is Q.row (answer r) (Q.val (answer r) ∷ []) × Is B.the_row (rows r) (rows-val (rows r) ∷ [])
+      → Is Q.row (answer r) (Q.val (answer r) ∷ []) × Is B.the_row (rows r) (rows_val (rows r) ∷ [])
 
 module _ (P : Handed) (asked : List ℕ → List BlockRecord → Call) (φ : State → Call → P.Q.row.Denot → Type 0) where
   -- the struct's type
   abbrev D : RattleType
   D = DD.row P.E
 
-  abbrev mir-d : Ty
-  mir-d = pair-type P.E.name P.Q.mir
+  abbrev mir_d : Ty
+  mir_d = pair_type P.E.name P.Q.mir
 
   -- ---- the two contracts
 
@@ -146,8 +146,8 @@ module _ (P : Handed) (asked : List ℕ → List BlockRecord → Call) (φ : Sta
   abbrev Rs : {n : ℕ} → Slot n
   Rs = plain (λ _. R)
 
-  abbrev pub core-ended : Ended
-  core-ended = record {
+  abbrev pub core_ended : Ended
+  core_ended = record {
     signature = record {
       lifetimes = 3;
       outlives = [];
@@ -171,8 +171,8 @@ module _ (P : Handed) (asked : List ℕ → List BlockRecord → Call) (φ : Sta
   }
 
   module _ {M : Type 1} (𝓤 : Ura M) where
-    abbrev pub core-clauses : Clauses 𝓤 core-ended
-    core-clauses κs a = record {
+    abbrev pub core_clauses : Clauses 𝓤 core_ended
+    core_clauses κs a = record {
       ghost = Unit {0};
       requires = λ g. emp 𝓤;
       ensures = λ g r e.
@@ -181,7 +181,7 @@ module _ (P : Handed) (asked : List ℕ → List BlockRecord → Call) (φ : Sta
           let room = a.1.1.1.1.0 in
           sep 𝓤 (fact 𝓤 (Lending room (λ records. φ s (asked l records) (P.answer r))))
           (sep 𝓤 (fact 𝓤 (RowsOf s (asked l) room (P.rows r)))
-          (fact 𝓤 (Lending room (λ records. e.1.1.1.0.now ≡ listAfter s (asked l records)))));
+          (fact 𝓤 (Lending room (λ records. e.1.1.1.0.now ≡ list_after s (asked l records)))));
     }
 
     abbrev pub clauses : Clauses 𝓤 ended
@@ -193,8 +193,8 @@ module _ (P : Handed) (asked : List ℕ → List BlockRecord → Call) (φ : Sta
           let l = a.1.1.1.0.now in
           let records = a.1.1.1.1.0.now in
           sep 𝓤 (fact 𝓤 (φ s (asked l records) r))
-          (sep 𝓤 (fact 𝓤 (e.1.1.1.0.now ≡ listAfter s (asked l records)))
-          (fact 𝓤 (e.1.1.1.1.0.now ≡ recordsAfter s (asked l records))));
+          (sep 𝓤 (fact 𝓤 (e.1.1.1.0.now ≡ list_after s (asked l records)))
+          (fact 𝓤 (e.1.1.1.1.0.now ≡ records_after s (asked l records))));
     }
 
   abbrev stayed : Stays ended.signature.params ended.kept
@@ -226,7 +226,7 @@ module _ (P : Handed) (asked : List ℕ → List BlockRecord → Call) (φ : Sta
       params = 5;
       locals = holds P.Q.mir ∷ holds S'.mir ∷ holds (slice_ty (ty_ref (named 0) imm (ty_int w32))) ∷ holds (slice_ty (ty_ref (named 1) imm (ty_int w8)))
           ∷ holds (slice_ty (ty_ref (named 2) mut (ty_int w8))) ∷ holds (slice_ty (ty_ref (named 3) mut (pointee R.written))) ∷ holds (ty_int w64)
-          ∷ holds mir-d ∷ holds (ty_ref erased mut (ty_int w8)) ∷ holds (slice_ty (ty_ref erased mut (ty_int w8))) ∷ holds ty_unit
+          ∷ holds mir_d ∷ holds (ty_ref erased mut (ty_int w8)) ∷ holds (slice_ty (ty_ref erased mut (ty_int w8))) ∷ holds ty_unit
           ∷ holds (ty_ref erased mut (pointee R.written)) ∷ holds (slice_ty (ty_ref erased mut (pointee R.written))) ∷ [];
       body =
           seq (assign (at 6) (rv_opd (copy (place 5 (field 1 ∷ [])))))
@@ -245,7 +245,7 @@ module _ (P : Handed) (asked : List ℕ → List BlockRecord → Call) (φ : Sta
   -- the contracts that the proof cites
   module _ {M : Type 1} {𝓤 : Ura M} (𝓛 : Logic 𝓤) where
     abbrev pub Core : Contract 𝓤
-    Core = promise 𝓛 core-ended (core-clauses 𝓤)
+    Core = promise 𝓛 core_ended (core_clauses 𝓤)
 
     abbrev Put : (Memory → SProp 𝓤) → (Routine → Fun 𝓤) → Contract 𝓤
     Put mem run = promise 𝓛 put.ended (put.clauses 𝓛 mem run)
@@ -256,19 +256,19 @@ module _ (P : Handed) (asked : List ℕ → List BlockRecord → Call) (φ : Sta
     open 𝓛 use {H, A}
 
     abbrev sd : Val
-    sd = dataset-val d
+    sd = dataset_val d
 
     abbrev sv : Val
-    sv = slice-val v
+    sv = slice_val_of v
 
     abbrev sw : Val
-    sw = slice-val w
+    sw = slice_val_of w
 
     abbrev sl : Val
-    sl = slice-val l
+    sl = slice_val_of l
 
     abbrev sx : Val
-    sx = slice-val x
+    sx = slice_val_of x
 
     -- the room that there is for records
     abbrev n : ℕ
@@ -299,8 +299,8 @@ module _ (P : Handed) (asked : List ℕ → List BlockRecord → Call) (φ : Sta
     OwnX = (MutSlice (named 3) κ₃ R).own_val x (sx ∷ [])
 
     -- the call of the core
-    abbrev to-core : (Core 𝓛).Ghost
-    to-core = (
+    abbrev to_core : (Core 𝓛).Ghost
+    to_core = (
       (
         (κ₀, (κ₁, (κ₂, tt))),
         (q₀, (q₁, (q₂, tt))),
@@ -311,7 +311,7 @@ module _ (P : Handed) (asked : List ℕ → List BlockRecord → Call) (φ : Sta
       tt,
     )
 
-    apart : n < 2 ^ 64 → ent 𝓤 Entry (sep 𝓤 ((Core 𝓛).pre to-core)
+    apart : n < 2 ^ 64 → ent 𝓤 Entry (sep 𝓤 ((Core 𝓛).pre to_core)
         (sep 𝓤 (A.lft κ₃ q₃) (sep 𝓤 (sem 𝓛 OwnX) (sep 𝓤 (sem 𝓛 (OwnV κ₀ v)) (sem 𝓛 (OwnW κ₁ w))))))
     apart fits =
         qed 𝓛 ((‵ (flft κ₀ q₀) ⊛ (‵ (flft κ₁ q₁) ⊛ (‵ (flft κ₂ q₂) ⊛ (‵ (flft κ₃ q₃) ⊛ ‵ ftrue))))
@@ -325,22 +325,22 @@ module _ (P : Handed) (asked : List ℕ → List BlockRecord → Call) (φ : Sta
         move ! (3 ∷ 0 ∷ []) $ fjoin ! $ move ! (3 ∷ 0 ∷ []) $ fjoin ! $ move ! (4 ∷ 0 ∷ []) $ fjoin ! $ move ! (5 ∷ 0 ∷ []) $ fjoin ! $
         -- [what the core owns; records; true; settings; distances; κ₃; true; κ₂; κ₁; κ₀]
         move ! (7 ∷ 6 ∷ []) $ join ! $ move ! (7 ∷ 0 ∷ []) $ join ! $ move ! (7 ∷ 0 ∷ []) $ join ! $
-        use2 𝓛 (raw ((Core 𝓛).pre to-core)) (asks_nothing 𝓤 _) $ frame ! $ keep ! (4 ∷ 0 ∷ 3 ∷ 2 ∷ []) $ done !
+        use2 𝓛 (raw ((Core 𝓛).pre to_core)) (asks_nothing 𝓤 _) $ frame ! $ keep ! (4 ∷ 0 ∷ 3 ∷ 2 ∷ []) $ done !
 
     -- the call of `put_records`, on these rows
-    abbrev to-put : BlockRows → (Put 𝓛 mem run).Ghost
-    to-put rows = (((κ₃, tt), (q₃, tt), tt, (x, (rows, tt)), (sx ∷ [], (rows-val rows ∷ [], tt))), tt)
+    abbrev to_put : BlockRows → (Put 𝓛 mem run).Ghost
+    to_put rows = (((κ₃, tt), (q₃, tt), tt, (x, (rows, tt)), (sx ∷ [], (rows_val rows ∷ [], tt))), tt)
 
-    goes-put : (rows : BlockRows) → RowsOf state (asked l.now) n rows → Is B.the_row rows (rows-val rows ∷ [])
-        → ent 𝓤 (sep 𝓤 (A.lft κ₃ q₃) (sem 𝓛 OwnX)) ((Put 𝓛 mem run).pre (to-put rows))
-    goes-put rows told is =
+    goes_put : (rows : BlockRows) → RowsOf state (asked l.now) n rows → Is B.the_row rows (rows_val rows ∷ [])
+        → ent 𝓤 (sep 𝓤 (A.lft κ₃ q₃) (sem 𝓛 OwnX)) ((Put 𝓛 mem run).pre (to_put rows))
+    goes_put rows told is =
         qed 𝓛 (‵ (flft κ₃ q₃) ∷ ‵ OwnX ∷ []) ∵ says ! (told.fits, told.few) $ nothing ! $ move ! (1 ∷ 0 ∷ []) $ join ! $ frame ! $
         nothing ! $ owned ! B.the_row (Is B.the_row) ((LL.makes B.the_type B'.the_plain) 𝓛) rows _ is $ fjoin ! $
         move ! (1 ∷ 0 ∷ []) $ fjoin ! $ done !
 
     exits : (r : P.Q.row.Denot) (zs : List ℕ) (ws : List BlockRecord)
-        → φ state (asked l.now x.now) r → zs ≡ listAfter state (asked l.now x.now)
-        → ws ≡ recordsAfter state (asked l.now x.now)
+        → φ state (asked l.now x.now) r → zs ≡ list_after state (asked l.now x.now)
+        → ws ≡ records_after state (asked l.now x.now)
         → length zs ≡ length l.now → length ws ≡ length x.now → Is S.the_row d (sd ∷ []) → Is P.Q.row r (P.Q.val r ∷ [])
         → ent 𝓤 (⋆ 𝓛 (‵ (finally R x.name ws) ∷ (‵ (flft κ₃ q₃) ⊛ ‵ ftrue) ∷ ‵ (finally u8 l.name zs)
         ∷ (‵ (flft κ₀ q₀) ⊛ (‵ (flft κ₁ q₁) ⊛ (‵ (flft κ₂ q₂) ⊛ ‵ ftrue))) ∷ ‵ (OwnV κ₀ v) ∷ ‵ (OwnW κ₁ w) ∷ [])) (Post (P.Q.val r))
@@ -360,14 +360,14 @@ module _ (P : Handed) (asked : List ℕ → List BlockRecord → Call) (φ : Sta
         owned ! P.Q.row (Is P.Q.row) (P.Q.makes 𝓛) r _ is $ done !
 
     -- what the callees hand back is of their locals' types
-    typed-handed : (r : P.E.D) (u : Val) → Is D r (u ∷ []) → Holds (has_ty mir-d u) × WT u
-    typed-handed r u is = subst (λ (τ : Ty). Holds (has_ty τ u) × WT u) P.laid ((LL.lawful P.E P.laws 𝓛).typed r _ is).0
+    typed_handed : (r : P.E.D) (u : Val) → Is D r (u ∷ []) → Holds (has_ty mir_d u) × WT u
+    typed_handed r u is = subst (λ (τ : Ty). Holds (has_ty τ u) × WT u) P.laid ((LL.lawful P.E P.laws 𝓛).typed r _ is).0
 
-    typed-unit : (u : Val) → Is unit tt (u ∷ []) → Holds (has_ty ty_unit u) × WT u
-    typed-unit u is = ((Nothing-Lawful 𝓛).typed tt _ is).0
+    typed_unit : (u : Val) → Is unit tt (u ∷ []) → Holds (has_ty ty_unit u) × WT u
+    typed_unit u is = ((Nothing-Lawful 𝓛).typed tt _ is).0
 
-    module _ (CORE : Name) (𝓣 : Tables 𝓤 H) (known-core : Triple 𝓤 (𝓣.C CORE) (Core 𝓛))
-        (known-put : Triple 𝓤 (𝓣.C #put-records) (Put 𝓛 mem run)) where
+    module _ (CORE : Name) (𝓣 : Tables 𝓤 H) (known_core : Triple 𝓤 (𝓣.C CORE) (Core 𝓛))
+        (known_put : Triple 𝓤 (𝓣.C #put-records) (Put 𝓛 mem run)) where
       walk : Is S.the_row d (sd ∷ []) → Is (ShrSlice (named 0) κ₀ u32) v (sv ∷ []) → Is (ShrSlice (named 1) κ₁ u8) w (sw ∷ [])
           → Is (MutSlice (named 2) κ₂ u8) l (sl ∷ []) → Is (MutSlice (named 3) κ₃ R) x (sx ∷ [])
           → ent 𝓤 Entry (WpFn 𝓤 H 𝓣.C 𝓣.Λ (function CORE) (sd ∷ sv ∷ sw ∷ sl ∷ sx ∷ []) Post)
@@ -375,7 +375,7 @@ module _ (P : Handed) (asked : List ℕ → List BlockRecord → Call) (φ : Sta
           qed 𝓛 (raw Entry ∷ []) ∵ enter ! 𝓣.C 𝓣.Λ (function CORE) (sd ∷ sv ∷ sw ∷ sl ∷ sx ∷ []) _ $
           alloc1 ! (λ l₀. alloc1 ! (λ l₁. alloc1 ! (λ l₂. alloc1 ! (λ l₃. alloc1 ! (λ l₄. alloc1 ! (λ l₅. alloc1 ! (λ l₆. alloc1 ! (λ l₇.
           alloc1 ! (λ l₈. alloc1 ! (λ l₉. alloc1 ! (λ l₁₀. alloc1 ! (λ l₁₁. alloc1 ! (λ l₁₂. alloc0 ! $ params1 ! $
-          pass1 ! (init ! 22 refl (typed-dataset 𝓛 d sd gd)) $
+          pass1 ! (init ! 22 refl (typed_dataset 𝓛 d sd gd)) $
           pass1 ! (init ! 20 refl ((shr_slice_Lawful 𝓛 (named 0) κ₀ u32).typed v _ gv).0) $
           pass1 ! (init ! 18 refl ((shr_slice_Lawful 𝓛 (named 1) κ₁ u8).typed w _ gw).0) $
           pass1 ! (init ! 16 refl ((mut_slice_Lawful 𝓛 (named 2) κ₂ u8).typed l _ gl).0) $
@@ -386,11 +386,11 @@ module _ (P : Handed) (asked : List ℕ → List BlockRecord → Call) (φ : Sta
           assigns ! (addr ! (from ! (fld ! refl (hop ! (look_in ! 16 (sub ! 0 refl (whole !))) (stop !))))) (from ! (stop !)) (init ! 8 refl (tt, tt)) $
           assigns ! (agg ! (and_then ! (reads ! 8 refl) (and_then ! (load ! (from ! (fld ! refl (stop !))) (look_in ! 16 (sub ! 1 refl (whole !))))
           (no_more !)))) (from ! (stop !)) (init ! 6 refl (tt, (tt, (record { fits = gl.0.1.0 }, tt)))) $
-          move ! (26 ∷ []) $ use1 𝓛 (raw ((Core 𝓛).pre to-core) ⊛ (‵ (flft κ₃ q₃) ⊛ (‵ OwnX ⊛ (‵ (OwnV κ₀ v) ⊛ ‵ (OwnW κ₁ w)))))
+          move ! (26 ∷ []) $ use1 𝓛 (raw ((Core 𝓛).pre to_core) ⊛ (‵ (flft κ₃ q₃) ⊛ (‵ OwnX ⊛ (‵ (OwnV κ₀ v) ⊛ ‵ (OwnW κ₁ w)))))
           (apart gx.0.1.0) $
           split ! $ move ! (1 ∷ []) $ split ! $ move ! (1 ∷ []) $ split ! $ move ! (1 ∷ []) $ split ! $ move ! (4 ∷ 3 ∷ 2 ∷ 0 ∷ 1 ∷ []) $
           -- [the core's pre; κ₃; records; distances; settings; _12; …]
-          returns-from ! (fm_of 𝓤 H 𝓛.laws 𝓣) core-ended (core-clauses 𝓤) known-core to-core
+          returns_from ! (fm_of 𝓤 H 𝓛.laws 𝓣) core_ended (core_clauses 𝓤) known_core to_core
           (and_then ! (reads ! 27 refl) (and_then ! (reads ! 25 refl) (and_then ! (reads ! 23 refl) (and_then ! (reads ! 11 refl)
           (and_then ! (reads ! 17 refl) (no_more !)))))) (λ u r zs.
           heard3 ! (λ answered told listed. fsplit ! $ drop ! $ fsplit ! $ drop ! $ fsplit ! $ drop ! $ fsplit ! $ fsplit ! $
@@ -398,22 +398,22 @@ module _ (P : Handed) (asked : List ℕ → List BlockRecord → Call) (φ : Sta
           -- [the list's last value; the result; the tokens; κ₃; records; distances; settings; _12; …]
           move ! (1 ∷ []) $ peeks ! D (Is D) (shows 𝓛 D) r (u ∷ []) (λ is.
           let parts = P.parted r (LL.owed P.E P.laws r _ is) in
-          land ! (from ! (stop !)) (init ! 17 refl (typed-handed r u is)) $
-          rewrite ! 17 (λ (m : Val). ‵ (fat full_share mir-d l₇ 0 m)) (ap only (LL.tells P.E P.laws r (u ∷ []) is) ∙ P.valued r) refl $ drop ! $
+          land ! (from ! (stop !)) (init ! 17 refl (typed_handed r u is)) $
+          rewrite ! 17 (λ (m : Val). ‵ (fat full_share mir_d l₇ 0 m)) (ap only (LL.tells P.E P.laws r (u ∷ []) is) ∙ P.valued r) refl $ drop ! $
           -- [the list's last value; the tokens; κ₃; records; distances; settings; _12; …]
           assigns ! (addr ! (from ! (fld ! refl (hop ! (look_in ! 20 (sub ! 0 refl (whole !))) (stop !))))) (from ! (stop !)) (init ! 8 refl (tt, tt)) $
           assigns ! (agg ! (and_then ! (reads ! 8 refl) (and_then ! (load ! (from ! (fld ! refl (stop !))) (look_in ! 20 (sub ! 1 refl (whole !))))
           (no_more !)))) (from ! (stop !)) (init ! 6 refl (tt, (tt, (record { fits = gx.0.1.0 }, tt)))) $
-          move ! (2 ∷ 3 ∷ []) $ use2 𝓛 (raw ((Put 𝓛 mem run).pre (to-put (P.rows r)))) (goes-put (P.rows r) told parts.1) $
+          move ! (2 ∷ 3 ∷ []) $ use2 𝓛 (raw ((Put 𝓛 mem run).pre (to_put (P.rows r)))) (goes_put (P.rows r) told parts.1) $
           -- [put_records' pre; the list's last value; the tokens; distances; settings; _12; …]
-          returns-from ! (fm_of 𝓤 H 𝓛.laws 𝓣) put.ended (put.clauses 𝓛 mem run) known-put (to-put (P.rows r))
+          returns_from ! (fm_of 𝓤 H 𝓛.laws 𝓣) put.ended (put.clauses 𝓛 mem run) known_put (to_put (P.rows r))
           (and_then ! (reads ! 5 refl) (and_then ! (load ! (from ! (fld ! refl (stop !))) (look_in ! 15 (sub ! 1 refl (whole !)))) (no_more !)))
           (λ u' t ws.
-          heard ! (ws.0 ≡ overwrite (P.rows r).count (rowAt (P.rows r)) x.now) (λ stored. fsplit ! $ fsplit ! $
+          heard ! (ws.0 ≡ overwrite (P.rows r).count (row_record (P.rows r)) x.now) (λ stored. fsplit ! $ fsplit ! $
           move ! (1 ∷ []) $ feq_l ! (λ long'. move ! (1 ∷ []) $ drop ! $
           -- [the records' last value; the result; κ₃; the list's last value; the tokens; distances; settings; _12; …]
           move ! (1 ∷ []) $ peeks ! unit (Is unit) (shows 𝓛 unit) t (u' ∷ []) (λ is'.
-          land ! (from ! (stop !)) (init ! 11 refl (typed-unit u' is')) $
+          land ! (from ! (stop !)) (init ! 11 refl (typed_unit u' is')) $
           assigns ! (of_opd ! (load ! (from ! (fld ! refl (stop !))) (look_in ! 17 (sub ! 0 refl (whole !))))) (from ! (stop !))
           (init ! 31 refl (P.Q.typed 𝓛 (P.answer r) _ parts.0)) $
           returns ! (look ! 31 refl) $ frees_all ! 7 (full _ ∷ full _ ∷ full _ ∷ full _ ∷ full _ ∷ full _ ∷ full _ ∷ full _ ∷ full _ ∷ full _
@@ -441,7 +441,7 @@ module _ (P : Handed) (asked : List ℕ → List BlockRecord → Call) (φ : Sta
 
     walks : (mem : Memory → SProp 𝓤) (run : Routine → Fun 𝓤) (CORE : Name) (𝓣 : Tables 𝓤 H) → Triple 𝓤 (𝓣.C CORE) (Core 𝓛)
         → Triple 𝓤 (𝓣.C #put-records) (Put 𝓛 mem run) → Walks 𝓛 ended stayed (WpFn 𝓤 H 𝓣.C 𝓣.Λ (function CORE)) (clauses 𝓤)
-    walks mem run CORE 𝓣 known-core known-put = walked 𝓛 ended stayed (clauses 𝓤) (WpFn 𝓤 H 𝓣.C 𝓣.Λ (function CORE))
+    walks mem run CORE 𝓣 known_core known_put = walked 𝓛 ended stayed (clauses 𝓤) (WpFn 𝓤 H 𝓣.C 𝓣.Λ (function CORE))
         (λ κs. (LL.vals S.the_type S'.the_laws, (shr_slice_vals, (shr_slice_vals, (shr_slice_vals, (shr_slice_vals, tt))))))
         (λ κs. (
           LL.tells S.the_type S'.the_laws,
@@ -455,17 +455,17 @@ module _ (P : Handed) (asked : List ℕ → List BlockRecord → Call) (φ : Sta
         ))
         (λ κs qs bounds a g are. via 𝓤 _ (fst∗ 𝓤 _ (emp 𝓤)) (walk 𝓛 mem run κs.0 κs.1.0 κs.1.1.0 κs.1.1.1.0
         qs.0 qs.1.0 qs.1.1.0 qs.1.1.1.0 a.0 a.1.0 a.1.1.0 a.1.1.1.0 a.1.1.1.1.0
-        CORE 𝓣 known-core known-put are.0 are.1.0 are.1.1.0 are.1.1.1.0 are.1.1.1.1.0))
+        CORE 𝓣 known_core known_put are.0 are.1.0 are.1.1.0 are.1.1.1.0 are.1.1.1.1.0))
 
   -- γ says which routine each name means: NAME the call, CORE the core, and the name of `put_records` the routine that is proved here
   module _ {M : Type 1} {𝓤 : Ura M} (𝓛 : Logic 𝓤) (𝓜 : Model 𝓤 𝓛.H) (𝓡 : Running 𝓤 𝓛.H 𝓜) (γ : Routines) where
     open 𝓛 use {H}
 
-    pub lent-meets : (NAME CORE : Name) → Closed 𝓤 H (tables 𝓤 H 𝓜 𝓡 γ).C (tables 𝓤 H 𝓜 𝓡 γ).Λ NAME (function CORE)
-        → (core : Routine) → γ CORE ≡ core → Triple 𝓤 (𝓡.run core) (Core 𝓛) → γ #put-records ≡ put-def.routine
+    pub lent_meets : (NAME CORE : Name) → Closed 𝓤 H (tables 𝓤 H 𝓜 𝓡 γ).C (tables 𝓤 H 𝓜 𝓡 γ).Λ NAME (function CORE)
+        → (core : Routine) → γ CORE ≡ core → Triple 𝓤 (𝓡.run core) (Core 𝓛) → γ #put-records ≡ put_def.routine
         → Meets 𝓛 ended.signature (𝓡.run (γ NAME)) (closing 𝓛 ended (clauses 𝓤))
-    lent-meets NAME CORE closed core is-core met is-put =
-        walk-proves 𝓛 𝓜 𝓡 γ ended stayed (goes 𝓛) (clauses 𝓤) NAME (function CORE) closed
+    lent_meets NAME CORE closed core is-core met is-put =
+        walk_proves 𝓛 𝓜 𝓡 γ ended stayed (goes 𝓛) (clauses 𝓤) NAME (function CORE) closed
         (walks 𝓛 𝓜.mem 𝓡.run CORE (table 𝓤 H 𝓜 𝓡 γ)
-        (known 𝓛 𝓜 𝓡 γ core-ended (core-clauses 𝓤) CORE core is-core met)
-        (known 𝓛 𝓜 𝓡 γ put.ended (put.clauses 𝓛 𝓜.mem 𝓡.run) #put-records put-def.routine is-put (put-thm.met 𝓤 𝓛 𝓜 𝓡)))
+        (known 𝓛 𝓜 𝓡 γ core_ended (core_clauses 𝓤) CORE core is-core met)
+        (known 𝓛 𝓜 𝓡 γ put.ended (put.clauses 𝓛 𝓜.mem 𝓡.run) #put-records put_def.routine is-put (put_thm.met 𝓤 𝓛 𝓜 𝓡)))

@@ -10,46 +10,46 @@ use Rattle.study.specs.declared.Refusal.TheVariants.{NoTides}
 use Rattle.study.specs.declared.Answer.{Answer}
 use Rattle.study.specs.declared.Answer.TheVariants.{Done, Refused}
 use Rattle.study.specs.Study.{size}
-use Rattle.study.specs.Refusals.{verdictOf, first_of}
-use Rattle.validity.specs.Memory.{State, studyOf, contentsOf}
-use Rattle.validity.proofs.ValidityLaws.{study-size}
+use Rattle.study.specs.Refusals.{verdict_of, first_of}
+use Rattle.validity.specs.Memory.{State, study_of, contents_of}
+use Rattle.validity.proofs.ValidityLaws.{study_size}
 use Rattle.access.specs.Calls.{nobody}
-use Rattle.access.specs.Passed.{Passed, heldAnswer}
-use Rattle.access.proofs.AccessLaws.{held-own, held-refused}
-use Rattle.blocking.specs.Accepted.{noTides, TidesChecked}
+use Rattle.access.specs.Passed.{Passed, held_answer}
+use Rattle.access.proofs.AccessLaws.{held_own, held_refused}
+use Rattle.blocking.specs.Accepted.{no_tides, TidesChecked}
 
 -- Done is no refusal
-not-both : {A : Type 0} {a : Answer} {x : Refusal} → a ≡ Refused x → a ≡ Done → A
-not-both e f = let z : ◌≡◌ {A = ℕ} 0 1 = cc in absurd (omega arith)
+not_both : {A : Type 0} {a : Answer} {x : Refusal} → a ≡ Refused x → a ≡ Done → A
+not_both e f = let z : ◌≡◌ {A = ℕ} 0 1 = cc in absurd (omega arith)
 
 -- the test of the first reason fails where there is a tide
-pub past-24 : {s : State} {first : Answer} → TidesChecked s first → first ≡ Done → eqb (size (studyOf s)) 0 ≡ false
-past-24 {s} F done = let l = F.some-tide done in ne_eqb (size (studyOf s)) 0 (λ e. omega (arith, study-size s))
+pub past_24 : {s : State} {first : Answer} → TidesChecked s first → first ≡ Done → eqb (size (study_of s)) 0 ≡ false
+past_24 {s} F done = let l = F.some_tide done in ne_eqb (size (study_of s)) 0 (λ e. omega (arith, study_size s))
 
 -- and where it fails, there is a tide
-pub tide-there : (s : State) → T (not (eqb (size (studyOf s)) 0)) → 0 < s.dataset.n
-tide-there s h =
-    ⊎_elim (λ k. k) (λ k. absurd (subst (λ b. T (not b)) (eq-eqb (size (studyOf s)) 0 (omega (arith, study-size s))) h)) (split 0 s.dataset.n)
+pub tide_there : (s : State) → T (not (eqb (size (study_of s)) 0)) → 0 < s.dataset.n
+tide_there s h =
+    ⊎_elim (λ k. k) (λ k. absurd (subst (λ b. T (not b)) (eq-eqb (size (study_of s)) 0 (omega (arith, study_size s))) h)) (split 0 s.dataset.n)
 
 module _ {s : State} where
-  pub tides-refused : {a : Answer} {x : Refusal} → a ≡ Refused x → verdictOf a ≡ heldAnswer s nobody (λ _. []) → TidesChecked s a
-  tides-refused e f =
+  pub tides_refused : {a : Answer} {x : Refusal} → a ≡ Refused x → verdict_of a ≡ held_answer s nobody (λ _. []) → TidesChecked s a
+  tides_refused e f =
       record {
-        refuses = λ _ _ own. held-refused s nobody (λ H. noTides H.contents.study ∷ own H) e f;
-        passed = not-both e;
-        some-tide = not-both e;
+        refuses = λ _ _ own. held_refused s nobody (λ H. no_tides H.contents.study ∷ own H) e f;
+        passed = not_both e;
+        some_tide = not_both e;
       }
 
-  pub tides-none : Passed s → s.dataset.n < 1 → TidesChecked s (Refused NoTides)
-  unfolding contentsOf first_of
-  tides-none P l =
+  pub tides_none : Passed s → s.dataset.n < 1 → TidesChecked s (Refused NoTides)
+  unfolding contents_of first_of
+  tides_none P l =
       record {
         refuses = λ _ _ own.
-            sym (rw (eq-eqb (size (studyOf s)) 0 (omega (arith, study-size s))))
-            ∙ held-own s (λ H. noTides H.contents.study ∷ own H) P.not_IsShort P.tested;
-        passed = not-both refl;
-        some-tide = not-both refl;
+            sym (rw (eq-eqb (size (study_of s)) 0 (omega (arith, study_size s))))
+            ∙ held_own s (λ H. no_tides H.contents.study ∷ own H) P.not_IsShort P.tested;
+        passed = not_both refl;
+        some_tide = not_both refl;
       }
 
-  pub tides-some : Passed s → 1 ≤ s.dataset.n → TidesChecked s Done
-  tides-some P l = record { refuses = λ _ e. not-both e refl; passed = λ _. P; some-tide = λ _. l }
+  pub tides_some : Passed s → 1 ≤ s.dataset.n → TidesChecked s Done
+  tides_some P l = record { refuses = λ _ e. not_both e refl; passed = λ _. P; some_tide = λ _. l }

@@ -49,13 +49,13 @@ module _ {M : Type 1} {𝓤 : Ura M} {𝓛 : Logic 𝓤} {K : Type 0} {Γ : List
     tests t o more over = first t $ branches t o (λ h. skips t $ record { prf = (more h).prf }) (λ h. jumps t $ record { prf = (over h).prf })
 
     -- what the callee asks at y is the head of the context
-    pub returns-from : K → FmC 𝓤 H 𝓛.laws C → {f : Name} {xs : List Operand} {d : Place} {rest : Body} (F : Ended) (c : Clauses 𝓤 F) → Triple 𝓤 (C f) (promise 𝓛 F c) → (y : (promise 𝓛 F c).Ghost)
+    pub returns_from : K → FmC 𝓤 H 𝓛.laws C → {f : Name} {xs : List Operand} {d : Place} {rest : Body} (F : Ended) (c : Clauses 𝓤 F) → Triple 𝓤 (C f) (promise 𝓛 F c) → (y : (promise 𝓛 F c).Ghost)
         → Opds K 𝓛 (raw ((promise 𝓛 F c).pre y) ∷ Γ) E xs ((promise 𝓛 F c).args y)
         → ((u : Val) (r : Res F.signature y.0.0) (ws : Lasts F y.0.0 y.0.3)
         → Seq K 𝓛 (raw ((c y.0.0 y.0.3).ensures y.1 r (at_exit F y.0.0 y.0.3 ws)) ∷ ‵ (lasts F y.0.0 y.0.3 ws) ∷ ‵ ((type_at F.signature.result y.0.0).own_val r (u ∷ []))
         ∷ raw (alive 𝓛 F.signature y.0.0 y.0.1) ∷ Γ) (lands C Λ E d u rest q))
         → Seq K 𝓛 (raw ((promise 𝓛 F c).pre y) ∷ Γ) (runs C Λ E (seq (call f xs d) rest) q)
-    returns-from t fm F c met y os k =
+    returns_from t fm F c met y os k =
         calls_at t fm (promise 𝓛 F c) met y os (λ u.
         use1 𝓛 (later (some (λ (r : Res F.signature y.0.0). (raw (alive 𝓛 F.signature y.0.0 y.0.1) ⊛ ‵ ((type_at F.signature.result y.0.0).own_val r (u ∷ [])))
         ⊛ some (λ (ws : Lasts F y.0.0 y.0.3). ‵ (lasts F y.0.0 y.0.3 ws) ⊛ raw ((c y.0.0 y.0.3).ensures y.1 r (at_exit F y.0.0 y.0.3 ws)))))) (id⊢ 𝓤 _) $
@@ -129,9 +129,9 @@ module _ {M : Type 1} {𝓤 : Ura M} (𝓛 : Logic 𝓤) (𝓜 : Model 𝓤 𝓛
   unfolding tables_of
   known F c f r e met = cited 𝓤 H (promise 𝓛 F c) 𝓜 𝓡 γ f r e met
 
-  pub walk-proves : (F : Ended) (hs : Stays F.signature.params F.kept) → AllGo 𝓛 F.signature.lifetimes F.signature.params F.kept hs → (c : Clauses 𝓤 F) (f : Name) (body : Fn)
+  pub walk_proves : (F : Ended) (hs : Stays F.signature.params F.kept) → AllGo 𝓛 F.signature.lifetimes F.signature.params F.kept hs → (c : Clauses 𝓤 F) (f : Name) (body : Fn)
       → Closed 𝓤 H (tables 𝓤 H 𝓜 𝓡 γ).C (tables 𝓤 H 𝓜 𝓡 γ).Λ f body → Walks 𝓛 F hs (WpFn 𝓤 H (table 𝓤 H 𝓜 𝓡 γ).C (table 𝓤 H 𝓜 𝓡 γ).Λ body) c → Meets 𝓛 F.signature (𝓡.run (γ f)) (closing 𝓛 F c)
   unfolding tables_of
-  walk-proves F hs gs c f body closed walks =
+  walk_proves F hs gs c f body closed walks =
       entered 𝓤 H (promise 𝓛 F c) (tables 𝓤 H 𝓜 𝓡 γ).C (tables 𝓤 H 𝓜 𝓡 γ).Λ f body closed
       (walk_Meets 𝓛 F hs gs c (WpFn 𝓤 H (table 𝓤 H 𝓜 𝓡 γ).C (table 𝓤 H 𝓜 𝓡 γ).Λ body) (WpFn-mono 𝓤 H 𝓛.laws (table 𝓤 H 𝓜 𝓡 γ) body) walks)

@@ -1,23 +1,23 @@
 -- The rows of numbers that the core of Block hands back, and the records that they stand for. Assumes nothing.
 use Rattle.core.specs.Prelude.{◌≡◌, ℕ, ◌≤◌, List, length, replicate, slice_index}
 use Rattle.lists.specs.Lists.{overwrite}
-use Rattle.study.specs.Limits.{maxTides}
+use Rattle.study.specs.Limits.{max_tides}
 use Rattle.study.specs.declared.BlockRecord.{BlockRecord}
 use Rattle.validity.specs.Memory.{State}
 use Rattle.blocking.specs.declared.block.BlockRows.{BlockRows}
-use Rattle.access.specs.Calls.{Call, recordsAfter}
+use Rattle.access.specs.Calls.{Call, records_after}
 
 -- the record of block i, from 0
-abbrev pub rowAt : BlockRows → ℕ → BlockRecord
-rowAt rows i = record { centre = slice_index rows.centres i; tides = slice_index rows.tides i; diameter = slice_index rows.diameters i }
+abbrev pub row_record : BlockRows → ℕ → BlockRecord
+row_record rows i = record { centre = slice_index rows.centres i; tides = slice_index rows.tides i; diameter = slice_index rows.diameters i }
 
 -- a place with no block in it
-abbrev pub noRecord : BlockRecord
-noRecord = record { centre = 0; tides = 0; diameter = 0 }
+abbrev pub no_record : BlockRecord
+no_record = record { centre = 0; tides = 0; diameter = 0 }
 
 -- as many places as there can be blocks, with none in them
-unfoldable pub noRecords : List BlockRecord
-noRecords = replicate maxTides noRecord
+unfoldable pub no_records : List BlockRecord
+no_records = replicate max_tides no_record
 
 -- this holds of any records of this number. The core of a call is told no more of the records that its caller lends than how many there are;
 -- so what it promises is said of all that they can be
@@ -28,6 +28,6 @@ Lending room P = (records : List BlockRecord) → length records ≡ room → P 
 -- since `records` holds of any l; the places past them are free, and stand in no record
 pub record RowsOf (s : State) (call : List BlockRecord → Call) (room : ℕ) (rows : BlockRows) : Type 0 where
   pub fits : rows.count ≤ room
-  pub few : rows.count ≤ maxTides
+  pub few : rows.count ≤ max_tides
   -- put into the records, they are what the call leaves
-  pub records : Lending room (λ l. overwrite rows.count (rowAt rows) l ≡ recordsAfter s (call l))
+  pub records : Lending room (λ l. overwrite rows.count (row_record rows) l ≡ records_after s (call l))

@@ -1,10 +1,10 @@
 // Block: the core, by plain rows of numbers.
 ghost use Rattle.core.specs.Prelude.{◌≡◌};
-ghost use Rattle.study.specs.Refusals.{verdictOf};
-ghost use Rattle.validity.specs.Memory.{entryState};
-ghost use Rattle.access.specs.Calls.{reply, listAfter};
-ghost use Rattle.blocking.specs.Calls.{makesBlocks, blockedReply};
-ghost use Rattle.blocking.specs.Accepted.{blockAnswer};
+ghost use Rattle.study.specs.Refusals.{verdict_of};
+ghost use Rattle.validity.specs.Memory.{entry_state};
+ghost use Rattle.access.specs.Calls.{reply, list_after};
+ghost use Rattle.blocking.specs.Calls.{makes_blocks, blocked_reply};
+ghost use Rattle.blocking.specs.Accepted.{block_answer};
 ghost use Rattle.blocking.specs.Rows.{Lending, RowsOf};
 
 use crate::computing::compute;
@@ -37,7 +37,7 @@ fn block_answer(
     list: usize,
     records: usize,
 ) -> Answer
-    ensures { verdictOf result ≡ blockAnswer (entryState dataset distances settings) list records }
+    ensures { verdict_of result ≡ block_answer (entry_state dataset distances settings) list records }
 {
     let first = check_tides(dataset, distances, settings);
     let Answer::Done = first else {
@@ -67,11 +67,11 @@ pub fn block_core(
     list: &mut [u8],
     room: usize,
 ) -> Computed
-    ensures answer { Lending room (λ records. blockedReply result.answer
-        ≡ reply (entryState dataset distances settings) (makesBlocks list.old records)) }
-    ensures rows { RowsOf (entryState dataset distances settings) (makesBlocks list.old) room result.rows }
+    ensures answer { Lending room (λ records. blocked_reply result.answer
+        ≡ reply (entry_state dataset distances settings) (makes_blocks list.old records)) }
+    ensures rows { RowsOf (entry_state dataset distances settings) (makes_blocks list.old) room result.rows }
     ensures list { Lending room (λ records. list.new
-        ≡ listAfter (entryState dataset distances settings) (makesBlocks list.old records)) }
+        ≡ list_after (entry_state dataset distances settings) (makes_blocks list.old records)) }
 {
     let answer = block_answer(dataset, distances, settings, list.len(), room);
     if let Answer::Refused(why) = answer {

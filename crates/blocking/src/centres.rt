@@ -1,10 +1,10 @@
 // Centres at a radius, and each tide's nearest of them.
 ghost use Rattle.core.specs.Prelude.{◌≡◌, ℕ, [], ◌∷◌, length, drop};
-ghost use Rattle.study.specs.Refusals.{verdictOf};
-ghost use Rattle.study.specs.Numbers.{refusalNumber};
-ghost use Rattle.validity.specs.Memory.{entryState};
-ghost use Rattle.access.specs.Calls.{answer, listsAfter};
-ghost use Rattle.blocking.specs.Calls.{entryLists, exitLists, allThree, findsCentres, centresFront};
+ghost use Rattle.study.specs.Refusals.{verdict_of};
+ghost use Rattle.study.specs.Numbers.{refusal_number};
+ghost use Rattle.validity.specs.Memory.{entry_state};
+ghost use Rattle.access.specs.Calls.{answer, lists_after};
+ghost use Rattle.blocking.specs.Calls.{entry_lists, exit_lists, all_three, finds_centres, centres_front};
 
 use crate::front::fill_lists;
 use crate::tides::check_tides;
@@ -27,8 +27,8 @@ pub fn centres_answer(
     nearest: &[u8],
     away: &[u32],
 ) -> Answer
-    ensures { (g : ℕ) → verdictOf result
-        ≡ answer (entryState dataset distances settings) (findsCentres g (entryLists list nearest away)) }
+    ensures { (g : ℕ) → verdict_of result
+        ≡ answer (entry_state dataset distances settings) (finds_centres g (entry_lists list nearest away)) }
 {
     let first = check_tides(dataset, distances, settings);
     let Answer::Done = first else {
@@ -58,11 +58,11 @@ pub fn centres_into(
     nearest: &mut [u8],
     away: &mut [u32],
 ) -> Counted
-    ensures answer { verdictOf result.answer
-        ≡ answer (entryState dataset distances settings) (findsCentres g (entryLists list nearest away)) }
-    ensures count { result.count ≡ length (centresFront (entryState dataset distances settings) g (entryLists list nearest away)) }
-    ensures lists { allThree (exitLists list nearest away)
-        ≡ listsAfter (entryState dataset distances settings) (findsCentres g (entryLists list nearest away)) }
+    ensures answer { verdict_of result.answer
+        ≡ answer (entry_state dataset distances settings) (finds_centres g (entry_lists list nearest away)) }
+    ensures count { result.count ≡ length (centres_front (entry_state dataset distances settings) g (entry_lists list nearest away)) }
+    ensures lists { all_three (exit_lists list nearest away)
+        ≡ lists_after (entry_state dataset distances settings) (finds_centres g (entry_lists list nearest away)) }
 {
     let answer = centres_answer(dataset, distances, settings, list, nearest, away);
     let Answer::Done = answer else {
@@ -85,11 +85,11 @@ pub fn centres<'a>(
     refusal: &mut u8,
 ) -> &'a mut [u8]
     ensures front { result.ref_ptr ≡ list.entry.ref_ptr }
-    ensures part { result.now ≡ centresFront (entryState dataset distances settings) g (entryLists list nearest away) }
+    ensures part { result.now ≡ centres_front (entry_state dataset distances settings) g (entry_lists list nearest away) }
     ensures others { nearest.new ∷ away.new ∷ []
-        ≡ drop 1 (listsAfter (entryState dataset distances settings) (findsCentres g (entryLists list nearest away))) }
+        ≡ drop 1 (lists_after (entry_state dataset distances settings) (finds_centres g (entry_lists list nearest away))) }
     ensures refusal { refusal.new
-        ≡ refusalNumber (answer (entryState dataset distances settings) (findsCentres g (entryLists list nearest away))) }
+        ≡ refusal_number (answer (entry_state dataset distances settings) (finds_centres g (entry_lists list nearest away))) }
 {
     let filled = centres_into(dataset, distances, settings, g, list, nearest, away);
     let answer = filled.answer;

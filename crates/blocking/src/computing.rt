@@ -1,8 +1,8 @@
 // What an accepted Block writes and answers.
 ghost use Rattle.core.specs.Prelude.{◌≡◌, length};
-ghost use Rattle.validity.specs.Memory.{state_of, entryState};
-ghost use Rattle.access.specs.Calls.{reply, listAfter};
-ghost use Rattle.blocking.specs.Calls.{makesBlocks, blockedReply};
+ghost use Rattle.validity.specs.Memory.{state_of, entry_state};
+ghost use Rattle.access.specs.Calls.{reply, list_after};
+ghost use Rattle.blocking.specs.Calls.{makes_blocks, blocked_reply};
 ghost use Rattle.blocking.specs.Accepted.{BlockAccepted};
 ghost use Rattle.blocking.specs.Rows.{Lending, RowsOf};
 
@@ -20,11 +20,11 @@ pub fn compute(
     room: usize,
 ) -> Computed
     requires { BlockAccepted (state_of dataset distances.now settings.now) (length list.old) room }
-    ensures lending { Lending room (λ records. blockedReply result.answer
-        ≡ reply (entryState dataset distances settings) (makesBlocks list.old records)) }
-    ensures rows_of { RowsOf (entryState dataset distances settings) (makesBlocks list.old) room result.rows }
+    ensures lending { Lending room (λ records. blocked_reply result.answer
+        ≡ reply (entry_state dataset distances settings) (makes_blocks list.old records)) }
+    ensures rows_of { RowsOf (entry_state dataset distances settings) (makes_blocks list.old) room result.rows }
     ensures lending_2 { Lending room (λ records. list.new
-        ≡ listAfter (entryState dataset distances settings) (makesBlocks list.old records)) }
+        ≡ list_after (entry_state dataset distances settings) (makes_blocks list.old records)) }
 {
     let n = dataset.n;
     let rows = block_rows(distances, settings, n, dataset.minima, list);

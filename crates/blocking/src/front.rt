@@ -1,10 +1,10 @@
 // What an accepted Centres writes.
 ghost use Rattle.core.specs.Prelude.{◌≡◌, ℕ, ◌+◌, ◌<◌, ◌≤◌, length, slice_index};
 ghost use Rattle.lists.specs.Lists.{overwrite};
-ghost use Rattle.study.specs.Limits.{maxTides};
-ghost use Rattle.validity.specs.Memory.{state_of, entryState};
-ghost use Rattle.access.specs.Calls.{listsAfter};
-ghost use Rattle.blocking.specs.Calls.{centreLists, entryLists, exitLists, allThree, findsCentres, centresFront};
+ghost use Rattle.study.specs.Limits.{max_tides};
+ghost use Rattle.validity.specs.Memory.{state_of, entry_state};
+ghost use Rattle.access.specs.Calls.{lists_after};
+ghost use Rattle.blocking.specs.Calls.{centre_lists, entry_lists, exit_lists, all_three, finds_centres, centres_front};
 ghost use Rattle.blocking.specs.Accepted.{CentresAccepted};
 
 use nearest_centre::put_nearest;
@@ -13,8 +13,8 @@ use study::{Dataset, MAX_TIDES};
 
 // Writes the first count centres to the front of the list, as tide numbers from 1.
 pub fn put_centres(centres: &[usize; MAX_TIDES], count: usize, list: &mut [u8])
-    requires centres_len { (length centres.now ≡ maxTides) × (count ≤ maxTides) × (count ≤ length list.old) }
-    requires by_index { (i : ℕ) → i < count → slice_index centres.now i < maxTides }
+    requires centres_len { (length centres.now ≡ max_tides) × (count ≤ max_tides) × (count ≤ length list.old) }
+    requires by_index { (i : ℕ) → i < count → slice_index centres.now i < max_tides }
     ensures { list.new ≡ overwrite count (λ (i : ℕ). slice_index centres.now i + 1) list.old }
 {
     let mut i = 0;
@@ -34,10 +34,10 @@ pub fn fill_lists(
     nearest: &mut [u8],
     away: &mut [u32],
 ) -> usize
-    requires { CentresAccepted (state_of dataset distances.now settings.now) (centreLists list.old nearest.old away.old) }
-    ensures value { result ≡ length (centresFront (entryState dataset distances settings) g (entryLists list nearest away)) }
-    ensures away_value { allThree (exitLists list nearest away)
-        ≡ listsAfter (entryState dataset distances settings) (findsCentres g (entryLists list nearest away)) }
+    requires { CentresAccepted (state_of dataset distances.now settings.now) (centre_lists list.old nearest.old away.old) }
+    ensures value { result ≡ length (centres_front (entry_state dataset distances settings) g (entry_lists list nearest away)) }
+    ensures away_value { all_three (exit_lists list nearest away)
+        ≡ lists_after (entry_state dataset distances settings) (finds_centres g (entry_lists list nearest away)) }
 {
     let n = dataset.n;
     let mut centres: [usize; MAX_TIDES] = [0; MAX_TIDES];

@@ -1,9 +1,9 @@
 // Judge: whether a list of block numbers made by anyone is feasible.
 ghost use Rattle.core.specs.Prelude.{◌≡◌};
-ghost use Rattle.study.specs.Refusals.{verdictOf};
-ghost use Rattle.validity.specs.Memory.{entryState};
+ghost use Rattle.study.specs.Refusals.{verdict_of};
+ghost use Rattle.validity.specs.Memory.{entry_state};
 ghost use Rattle.access.specs.Calls.{answer, reply};
-ghost use Rattle.blocking.specs.Calls.{judgesList, judgedReply};
+ghost use Rattle.blocking.specs.Calls.{judges_list, judged_reply};
 
 use crate::judging::{blocks_meet, numbers_valid};
 use crate::tides::check_tides;
@@ -12,7 +12,7 @@ use study::{Answer, Dataset, Judged, Refusal};
 
 // The answer alone: whether the list is judged at all.
 fn judge_answer(dataset: Dataset, distances: &[u32], settings: &[u8], list: &[u8]) -> Answer
-    ensures { verdictOf result ≡ answer (entryState dataset distances settings) (judgesList list.now) }
+    ensures { verdict_of result ≡ answer (entry_state dataset distances settings) (judges_list list.now) }
 {
     let first = check_tides(dataset, distances, settings);
     let Answer::Done = first else {
@@ -27,7 +27,7 @@ fn judge_answer(dataset: Dataset, distances: &[u32], settings: &[u8], list: &[u8
 
 // Yes with the greatest diameter, or no.
 pub fn judge(dataset: Dataset, distances: &[u32], settings: &[u8], list: &[u8]) -> Judged
-    ensures { judgedReply result ≡ reply (entryState dataset distances settings) (judgesList list.now) }
+    ensures { judged_reply result ≡ reply (entry_state dataset distances settings) (judges_list list.now) }
 {
     let answer = judge_answer(dataset, distances, settings, list);
     if let Answer::Refused(why) = answer {

@@ -1,16 +1,16 @@
 // What an accepted Block stores: its rows as records, in a lent slice.
 ghost use Rattle.core.specs.Prelude.{◌≡◌, ◌<◌, ◌≤◌, length};
 ghost use Rattle.lists.specs.Lists.{overwrite};
-ghost use Rattle.study.specs.Limits.{maxTides};
-ghost use Rattle.blocking.specs.Rows.{rowAt};
+ghost use Rattle.study.specs.Limits.{max_tides};
+ghost use Rattle.blocking.specs.Rows.{row_record};
 
 use crate::block::BlockRows;
 use study::BlockRecord;
 
 // The record of one block.
 fn row_at(rows: BlockRows, i: usize) -> BlockRecord
-    requires { i < maxTides }
-    ensures { result ≡ rowAt rows i }
+    requires { i < max_tides }
+    ensures { result ≡ row_record rows i }
 {
     BlockRecord {
         centre: rows.centres[i],
@@ -21,8 +21,8 @@ fn row_at(rows: BlockRows, i: usize) -> BlockRecord
 
 // Stores the records of all blocks; the later places stay.
 pub fn put_records(records: &mut [BlockRecord], rows: BlockRows)
-    requires { (rows.count ≤ length records.old) × (rows.count ≤ maxTides) }
-    ensures { records.new ≡ overwrite rows.count (rowAt rows) records.old }
+    requires { (rows.count ≤ length records.old) × (rows.count ≤ max_tides) }
+    ensures { records.new ≡ overwrite rows.count (row_record rows) records.old }
 {
     let count = rows.count;
     let mut i: usize = 0;

@@ -1,10 +1,10 @@
 // The blocking of a valid study that has enough tides.
 ghost use Rattle.std.specs.Prelude.{◌≡◌, ◌++◌, ℕ, ◌+◌, ◌<◌, ◌≤◌, length, drop};
 ghost use Rattle.lists.specs.Lists.{overwrite};
-ghost use Rattle.study.specs.Limits.{maxTides};
+ghost use Rattle.study.specs.Limits.{max_tides};
 ghost use Rattle.study.specs.Problem.{labels, blocking};
 ghost use Rattle.promise.specs.Promise.{meeting, Able};
-ghost use Rattle.radius_theory.specs.Arrays.{arrayProblem, ValidArrays, SizedArrays};
+ghost use Rattle.radius_theory.specs.Arrays.{array_problem, ValidArrays, SizedArrays};
 ghost use Rattle.blocking_core.specs.Core.{Assigns, Blocks};
 
 use crate::measure::measure;
@@ -26,7 +26,7 @@ pub struct Rows {
 // Writes the list: blocks are numbered from 0 in the search, from 1 in the list.
 fn number(blocks: &[u8], list: &mut [u8], n: usize)
     requires n_in_bounds { (n ≤ length blocks.now) × (n ≤ length list.old) }
-    requires by_index { (t : ℕ) → t < n → labels blocks.now t < maxTides }
+    requires by_index { (t : ℕ) → t < n → labels blocks.now t < max_tides }
     ensures { list.new ≡ overwrite n (λ (t : ℕ). labels blocks.now t + 1) list.old }
 {
     let mut t = 0;
@@ -48,7 +48,7 @@ fn assign(
 ) -> LeastRadius
     requires sized_arrays { SizedArrays (Able minima n settings.now) distances.now n }
     requires valid_arrays { ValidArrays distances.now n (meeting minima n settings.now) }
-    requires n_nonzero { (0 < n) × (length centres.old ≡ maxTides) × (n ≤ length list.old) }
+    requires n_nonzero { (0 < n) × (length centres.old ≡ max_tides) × (n ≤ length list.old) }
     ensures { Assigns distances.now n (meeting minima n settings.now) result.radius result.count
         centres.new list.old list.new }
 {
@@ -91,7 +91,7 @@ pub fn block_rows(
     requires n_nonzero { (0 < n) × (n ≤ length list.old) }
     ensures blocks { Blocks distances.now n (meeting minima n settings.now) result.count result.radius result.widest
         result.centres result.sizes result.diameters }
-    ensures list_after { list.new ≡ blocking (arrayProblem distances.now n (meeting minima n settings.now))
+    ensures list_after { list.new ≡ blocking (array_problem distances.now n (meeting minima n settings.now))
         ++ drop n list.old }
 {
     let mut centres: [usize; MAX_TIDES] = [0; MAX_TIDES];

@@ -1,8 +1,8 @@
 // Sizes and diameters of the blocks.
 ghost use Rattle.std.specs.Prelude.{◌≡◌, cond, ℕ, ◌*◌, ◌<◌, ◌≤◌, max, eqb, length};
-ghost use Rattle.study.specs.Limits.{maxTides};
+ghost use Rattle.study.specs.Limits.{max_tides};
 ghost use Rattle.study.specs.Problem.{labels};
-ghost use Rattle.blocking_core.specs.Measured.{farthestOf, widestOf, Measured};
+ghost use Rattle.blocking_core.specs.Measured.{farthest_of, widest_of, Measured};
 
 use study::{MAX_TIDES, wide};
 
@@ -28,9 +28,9 @@ fn inside(block: u8, other: u8, x: u32) -> u32
 
 // The greatest distance of tide t from an earlier tide of its block, or 0.
 fn farthest(distances: &[u32], list: &[u8], n: usize, t: usize) -> u32
-    requires n_le_max_tides { (n ≤ maxTides) × (n * maxTides ≤ length distances.now) × (n ≤ length list.now) }
+    requires n_le_max_tides { (n ≤ max_tides) × (n * max_tides ≤ length distances.now) × (n ≤ length list.now) }
     requires t_lt_n { t < n }
-    ensures { result ≡ farthestOf distances.now n (labels list.now) t t }
+    ensures { result ≡ farthest_of distances.now n (labels list.now) t t }
 {
     let mut best = 0;
     let mut u = 0;
@@ -44,8 +44,8 @@ fn farthest(distances: &[u32], list: &[u8], n: usize, t: usize) -> u32
 
 // The greatest diameter.
 pub fn widest(distances: &[u32], list: &[u8], n: usize) -> u32
-    requires { (n ≤ maxTides) × (n * maxTides ≤ length distances.now) × (n ≤ length list.now) }
-    ensures { result ≡ widestOf distances.now n (labels list.now) n }
+    requires { (n ≤ max_tides) × (n * max_tides ≤ length distances.now) × (n ≤ length list.now) }
+    ensures { result ≡ widest_of distances.now n (labels list.now) n }
 {
     let mut best = 0;
     let mut t = 0;
@@ -65,9 +65,9 @@ pub fn measure(
     sizes: &mut [u8; MAX_TIDES],
     diameters: &mut [u32; MAX_TIDES],
 ) -> u32
-    requires n_le_max_tides { (n ≤ maxTides) × (n * maxTides ≤ length distances.now) × (n ≤ length list.now) }
+    requires n_le_max_tides { (n ≤ max_tides) × (n * max_tides ≤ length distances.now) × (n ≤ length list.now) }
     requires by_index { (t : ℕ) → t < n → 1 ≤ labels list.now t }
-    requires by_index_2 { (t : ℕ) → t < n → labels list.now t ≤ maxTides }
+    requires by_index_2 { (t : ℕ) → t < n → labels list.now t ≤ max_tides }
     requires measured { Measured distances.now n (labels list.now) 0 sizes.old diameters.old 0 }
     ensures { Measured distances.now n (labels list.now) n sizes.new diameters.new result }
 {

@@ -5,75 +5,75 @@ use mathlib.Core.Path.{sym, ap, ◌∙◌, subst}
 use Rattle.lists.specs.Lists.{over}
 use Rattle.study.specs.declared.Refusal.{Refusal}
 use Rattle.study.specs.Refusals.{numbered, accepted, refused, settled}
-use Rattle.study.proofs.CallLaws.{reply-refused, reply-value}
+use Rattle.study.proofs.CallLaws.{reply_refused, reply_value}
 use Rattle.metric_closure.specs.declared.Closed.{Closed}
 use Rattle.metric_closure.specs.declared.Closed.TheVariants as ClosedCase
-use Rattle.metric_closure.specs.Closure.{loweredPairs}
-use Rattle.metric_closure.specs.Call.{entry, closeReasons, closeVerdict, closedTable, closeAnswer, closeLeaves, closedOf}
-use Rattle.metric_closure.proofs.ClosureLaws.{lowered-few}
-use Rattle.metric_closure.proofs.TableLaws.{few-places}
-use Rattle.metric_closure.proofs.Proofs.{for-call}
+use Rattle.metric_closure.specs.Closure.{lowered_pairs}
+use Rattle.metric_closure.specs.Call.{entry, close_reasons, close_verdict, closed_table, close_answer, close_leaves, closed_of}
+use Rattle.metric_closure.proofs.ClosureLaws.{lowered_few}
+use Rattle.metric_closure.proofs.TableLaws.{few_places}
+use Rattle.metric_closure.proofs.Proofs.{for_call}
 use Rattle.c_records.specs.Record.{code}
-use Rattle.c_api.specs.Api.{roomFirst, mendVerdict, mendTable, mendResult}
+use Rattle.c_api.specs.Api.{room_first, mend_verdict, mend_table, mend_result}
 use Rattle.c_records.specs.Records.{Narrow}
-use Rattle.c_records.proofs.CodeLaws.{small, first-narrow}
-use Rattle.c_api.proofs.CallLaws.{lacks-yes, lacks-no}
-use Rattle.c_api.proofs.OutputLaws.{first-set}
+use Rattle.c_records.proofs.CodeLaws.{small, first_narrow}
+use Rattle.c_api.proofs.CallLaws.{lacks_yes, lacks_no}
+use Rattle.c_api.proofs.OutputLaws.{first_set}
 
 -- ---- the answer of the closure
 
-module _ (n : ℕ) (table : List ℕ) (a : Closed) (p : closedOf a ≡ closeAnswer n table) where
-  mend-why : {why : Refusal} → a ≡ ClosedCase.Refused why → closeVerdict n table ≡ refused (numbered why)
-  unfolding closeAnswer
-  mend-why e = reply-refused (closeVerdict n table) (loweredPairs n (entry n table)) (sym (ap closedOf e) ∙ p)
+module _ (n : ℕ) (table : List ℕ) (a : Closed) (p : closed_of a ≡ close_answer n table) where
+  mend_why : {why : Refusal} → a ≡ ClosedCase.Refused why → close_verdict n table ≡ refused (numbered why)
+  unfolding close_answer
+  mend_why e = reply_refused (close_verdict n table) (lowered_pairs n (entry n table)) (sym (ap closed_of e) ∙ p)
 
-  pub mend-narrow : {why : Refusal} → a ≡ ClosedCase.Refused why → Narrow (refused (numbered why))
-  unfolding closeVerdict closeReasons
-  mend-narrow e = subst Narrow (mend-why e) (first-narrow (closeReasons n table) (small tt, (small tt, (small tt, (small tt, tt)))))
+  pub mend_narrow : {why : Refusal} → a ≡ ClosedCase.Refused why → Narrow (refused (numbered why))
+  unfolding close_verdict close_reasons
+  mend_narrow e = subst Narrow (mend_why e) (first_narrow (close_reasons n table) (small tt, (small tt, (small tt, (small tt, tt)))))
 
-  mend-value : {lowered : ℕ} → a ≡ ClosedCase.Done lowered → (closeVerdict n table ≡ accepted) × (lowered ≡ loweredPairs n (entry n table))
-  unfolding closeAnswer
-  mend-value e = reply-value (closeVerdict n table) (loweredPairs n (entry n table)) (sym (ap closedOf e) ∙ p)
+  mend_value : {lowered : ℕ} → a ≡ ClosedCase.Done lowered → (close_verdict n table ≡ accepted) × (lowered ≡ lowered_pairs n (entry n table))
+  unfolding close_answer
+  mend_value e = reply_value (close_verdict n table) (lowered_pairs n (entry n table)) (sym (ap closed_of e) ∙ p)
 
-  pub pairs-fit : {lowered : ℕ} → a ≡ ClosedCase.Done lowered → lowered < 4294967296
-  pairs-fit e =
-      let y = mend-value e in
-      let few = ((for-call n table).exactly.0 y.0).few in
-      omega (arith, y.1, lowered-few n (entry n table), few-places n few)
+  pub pairs_fit : {lowered : ℕ} → a ≡ ClosedCase.Done lowered → lowered < 4294967296
+  pairs_fit e =
+      let y = mend_value e in
+      let few = ((for_call n table).exactly.0 y.0).few in
+      omega (arith, y.1, lowered_few n (entry n table), few_places n few)
 
 -- ---- the call
 
 module _ (n : ℕ) (table result : List ℕ) where
-  pub mend-too-short : length result < 1
-      → (1 ≡ code (mendVerdict n table result)) × ((table ≡ mendTable n table result) × (result ≡ mendResult n table result))
-  unfolding mendVerdict mendTable mendResult roomFirst
-  mend-too-short h = let e = lacks-yes 1 result h in (rw e, (rw e, rw e))
+  pub mend_too_short : length result < 1
+      → (1 ≡ code (mend_verdict n table result)) × ((table ≡ mend_table n table result) × (result ≡ mend_result n table result))
+  unfolding mend_verdict mend_table mend_result room_first
+  mend_too_short h = let e = lacks_yes 1 result h in (rw e, (rw e, rw e))
 
-  module _ (enough : 1 ≤ length result) (a : Closed) {new : List ℕ} (p : closedOf a ≡ closeAnswer n table) (t : new ≡ closeLeaves n table) where
+  module _ (enough : 1 ≤ length result) (a : Closed) {new : List ℕ} (p : closed_of a ≡ close_answer n table) (t : new ≡ close_leaves n table) where
     -- the pairs lowered, written
     abbrev pairs : List ℕ
-    pairs = over (loweredPairs n (entry n table) ∷ []) result
+    pairs = over (lowered_pairs n (entry n table) ∷ []) result
 
-    verdict-is : closeVerdict n table ≡ mendVerdict n table result
-    unfolding mendVerdict roomFirst
-    verdict-is = rw (lacks-no 1 result enough)
+    verdict_is : close_verdict n table ≡ mend_verdict n table result
+    unfolding mend_verdict room_first
+    verdict_is = rw (lacks_no 1 result enough)
 
-    tabled : new ≡ mendTable n table result
-    unfolding closeLeaves mendTable
-    tabled = t ∙ ap (λ v. settled v (closedTable n table) table) verdict-is
+    tabled : new ≡ mend_table n table result
+    unfolding close_leaves mend_table
+    tabled = t ∙ ap (λ v. settled v (closed_table n table) table) verdict_is
 
-    pub mend-refused : {why : Refusal} {c : ℕ} → a ≡ ClosedCase.Refused why → c ≡ code (refused (numbered why))
-        → (c ≡ code (mendVerdict n table result)) × ((new ≡ mendTable n table result) × (result ≡ mendResult n table result))
-    unfolding mendResult
-    mend-refused e f =
-        let y = sym verdict-is ∙ mend-why n table a p e in
+    pub mend_refused : {why : Refusal} {c : ℕ} → a ≡ ClosedCase.Refused why → c ≡ code (refused (numbered why))
+        → (c ≡ code (mend_verdict n table result)) × ((new ≡ mend_table n table result) × (result ≡ mend_result n table result))
+    unfolding mend_result
+    mend_refused e f =
+        let y = sym verdict_is ∙ mend_why n table a p e in
         (f ∙ ap code (sym y), (tabled, ap (λ v. settled v pairs result) (sym y)))
 
-    pub mend-done : {lowered : ℕ} → a ≡ ClosedCase.Done lowered
-        → (0 ≡ code (mendVerdict n table result)) × ((new ≡ mendTable n table result) × (set result 0 lowered ≡ mendResult n table result))
-    unfolding mendResult
-    mend-done {lowered} e =
-        let v = mend-value n table a p e in
-        let y = sym verdict-is ∙ v.0 in
-        let one = first-set lowered result enough ∙ ap (λ z. over (z ∷ []) result) v.1 in
+    pub mend_done : {lowered : ℕ} → a ≡ ClosedCase.Done lowered
+        → (0 ≡ code (mend_verdict n table result)) × ((new ≡ mend_table n table result) × (set result 0 lowered ≡ mend_result n table result))
+    unfolding mend_result
+    mend_done {lowered} e =
+        let v = mend_value n table a p e in
+        let y = sym verdict_is ∙ v.0 in
+        let one = first_set lowered result enough ∙ ap (λ z. over (z ∷ []) result) v.1 in
         (ap code (sym y), (tabled, one ∙ ap (λ v. settled v pairs result) (sym y)))

@@ -4,67 +4,67 @@ use mathlib.Core.Path.{refl, sym, ap, ap₂, ◌∙◌}
 use mathlib.Core.Logic.{inl, inr}
 use mathlib.Core.Bool.{true≢false}
 use Rattle.study.specs.declared.Dataset.{Dataset}
-use Rattle.study.specs.Refusals.{Verdict, first_of, freshReasons, heldReasons}
-use Rattle.study.proofs.LadderLaws.{ladder-accepts}
-use Rattle.validity.specs.Memory.{State, short, isDataset, contentsOf}
+use Rattle.study.specs.Refusals.{Verdict, first_of, fresh_reasons, held_reasons}
+use Rattle.study.proofs.LadderLaws.{ladder_accepts}
+use Rattle.validity.specs.Memory.{State, short, is_dataset, contents_of}
 use Rattle.access.specs.Calls.{answer, after}
-use Rattle.narrowing.specs.Narrowing.{narrowDataset, narrowState, Alike}
-use Rattle.narrowing.proofs.Proofs.{cut-or-none, source-same}
-use Rattle.merge.specs.Merge.{mergeReasons}
-use Rattle.merge.specs.Calls.{sourceReasons, mergesDatasets}
-use Rattle.c_records.specs.Record.{Lent, recordSize, datasetOf, stateIn}
-use Rattle.c_records.proofs.RecordLaws.{withRecord}
-use Rattle.c_api.specs.Api.{lacks, mergeOf}
-use Rattle.c_api.proofs.CallLaws.{lacks-yes, lacks-no, Did}
+use Rattle.narrowing.specs.Narrowing.{narrow_dataset, narrow_state, Alike}
+use Rattle.narrowing.proofs.Proofs.{cut_or_none, source_same}
+use Rattle.merge.specs.Merge.{merge_reasons}
+use Rattle.merge.specs.Calls.{source_reasons, merges_datasets}
+use Rattle.c_records.specs.Record.{Lent, record_size, dataset_of, state_in}
+use Rattle.c_records.proofs.RecordLaws.{with_record}
+use Rattle.c_api.specs.Api.{lacks, merge_of}
+use Rattle.c_api.proofs.CallLaws.{lacks_yes, lacks_no, Did}
 
 -- ---- the records of the sources
 
 module _ (a b : List ℕ) where
-  pub first-lacks : length a < recordSize → lacks recordSize a || lacks recordSize b ≡ true
-  first-lacks h = rw (lacks-yes recordSize a h)
+  pub first_lacks : length a < record_size → lacks record_size a || lacks record_size b ≡ true
+  first_lacks h = rw (lacks_yes record_size a h)
 
-  pub second-lacks : recordSize ≤ length a → length b < recordSize → lacks recordSize a || lacks recordSize b ≡ true
-  second-lacks l h = rw (lacks-no recordSize a l, lacks-yes recordSize b h)
+  pub second_lacks : record_size ≤ length a → length b < record_size → lacks record_size a || lacks record_size b ≡ true
+  second_lacks l h = rw (lacks_no record_size a l, lacks_yes record_size b h)
 
-  pub neither-lacks : recordSize ≤ length a → recordSize ≤ length b → lacks recordSize a || lacks recordSize b ≡ false
-  neither-lacks l h = rw (lacks-no recordSize a l, lacks-no recordSize b h)
+  pub neither_lacks : record_size ≤ length a → record_size ≤ length b → lacks record_size a || lacks record_size b ≡ false
+  neither_lacks l h = rw (lacks_no record_size a l, lacks_no record_size b h)
 
 -- ---- the records as the code holds them
 
 module _ (s a b : State) (firsts seconds : List ℕ) where
   -- one of them is no dataset, whichever way
-  no_source : isDataset (narrowState a) && isDataset (narrowState b) ≡ false → isDataset a && isDataset b ≡ false
-      → Alike s (mergesDatasets (narrowState a) (narrowState b) firsts seconds) (mergesDatasets a b firsts seconds)
-  unfolding mergesDatasets sourceReasons heldReasons freshReasons first_of short
+  no_source : is_dataset (narrow_state a) && is_dataset (narrow_state b) ≡ false → is_dataset a && is_dataset b ≡ false
+      → Alike s (merges_datasets (narrow_state a) (narrow_state b) firsts seconds) (merges_datasets a b firsts seconds)
+  unfolding merges_datasets source_reasons held_reasons fresh_reasons first_of short
   no_source e f =
-      source-same s _ _ (rw (e, f)) (λ q.
-      let own = mergeReasons (contentsOf a) (contentsOf b) firsts seconds in
-      absurd (true≢false (sym (ladder-accepts (short a || short b) [] (isDataset a && isDataset b) own q).tested ∙ f)))
+      source_same s _ _ (rw (e, f)) (λ q.
+      let own = merge_reasons (contents_of a) (contents_of b) firsts seconds in
+      absurd (true≢false (sym (ladder_accepts (short a || short b) [] (is_dataset a && is_dataset b) own q).tested ∙ f)))
 
-  merge-alike : Alike s (mergesDatasets (narrowState a) (narrowState b) firsts seconds) (mergesDatasets a b firsts seconds)
-  merge-alike = by (cut-or-none a) (cut-or-none b)
+  merge_alike : Alike s (merges_datasets (narrow_state a) (narrow_state b) firsts seconds) (merges_datasets a b firsts seconds)
+  merge_alike = by (cut_or_none a) (cut_or_none b)
     where
-      right-false : (x : Bool) {y : Bool} → y ≡ false → x && y ≡ false
-      right-false true e = e
-      right-false false e = refl
+      right_false : (x : Bool) {y : Bool} → y ≡ false → x && y ≡ false
+      right_false true e = e
+      right_false false e = refl
 
       left_false : {x : Bool} (y : Bool) → x ≡ false → x && y ≡ false
       left_false y e = ap (λ z. z && y) e
 
-      by : (narrowState a ≡ a) ⊎ ((isDataset (narrowState a) ≡ false) × (isDataset a ≡ false))
-          → (narrowState b ≡ b) ⊎ ((isDataset (narrowState b) ≡ false) × (isDataset b ≡ false))
-          → Alike s (mergesDatasets (narrowState a) (narrowState b) firsts seconds) (mergesDatasets a b firsts seconds)
+      by : (narrow_state a ≡ a) ⊎ ((is_dataset (narrow_state a) ≡ false) × (is_dataset a ≡ false))
+          → (narrow_state b ≡ b) ⊎ ((is_dataset (narrow_state b) ≡ false) × (is_dataset b ≡ false))
+          → Alike s (merges_datasets (narrow_state a) (narrow_state b) firsts seconds) (merges_datasets a b firsts seconds)
       by (inl p) (inl q) =
-          (ap₂ (λ x y. answer s (mergesDatasets x y firsts seconds)) p q, ap₂ (λ x y. after s (mergesDatasets x y firsts seconds)) p q)
-      by (inr n) q = no_source (left_false (isDataset (narrowState b)) n.0) (left_false (isDataset b) n.1)
-      by (inl p) (inr n) = no_source (right-false (isDataset (narrowState a)) n.0) (right-false (isDataset a) n.1)
+          (ap₂ (λ x y. answer s (merges_datasets x y firsts seconds)) p q, ap₂ (λ x y. after s (merges_datasets x y firsts seconds)) p q)
+      by (inr n) q = no_source (left_false (is_dataset (narrow_state b)) n.0) (left_false (is_dataset b) n.1)
+      by (inl p) (inr n) = no_source (right_false (is_dataset (narrow_state a)) n.0) (right_false (is_dataset a) n.1)
 
-pub merge-given : (s : State) (a b : Lent) {x y : Dataset} (firsts seconds : List ℕ) {w : Verdict} {t : State}
-    → x ≡ narrowDataset (datasetOf a.numbers) → y ≡ narrowDataset (datasetOf b.numbers)
-    → Did s w t (mergesDatasets (withRecord a x) (withRecord b y) firsts seconds) → Did s w t (mergeOf a b firsts seconds)
-unfolding stateIn
-merge-given s a b firsts seconds p q did =
-    let same = merge-alike s (stateIn a) (stateIn b) firsts seconds in (
-      did.0 ∙ ap₂ (λ x y. answer s (mergesDatasets (withRecord a x) (withRecord b y) firsts seconds)) p q ∙ same.0,
-      did.1 ∙ ap₂ (λ x y. after s (mergesDatasets (withRecord a x) (withRecord b y) firsts seconds)) p q ∙ same.1,
+pub merge_given : (s : State) (a b : Lent) {x y : Dataset} (firsts seconds : List ℕ) {w : Verdict} {t : State}
+    → x ≡ narrow_dataset (dataset_of a.numbers) → y ≡ narrow_dataset (dataset_of b.numbers)
+    → Did s w t (merges_datasets (with_record a x) (with_record b y) firsts seconds) → Did s w t (merge_of a b firsts seconds)
+unfolding state_in
+merge_given s a b firsts seconds p q did =
+    let same = merge_alike s (state_in a) (state_in b) firsts seconds in (
+      did.0 ∙ ap₂ (λ x y. answer s (merges_datasets (with_record a x) (with_record b y) firsts seconds)) p q ∙ same.0,
+      did.1 ∙ ap₂ (λ x y. after s (merges_datasets (with_record a x) (with_record b y) firsts seconds)) p q ∙ same.1,
     )

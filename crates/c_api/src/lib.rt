@@ -17,13 +17,13 @@ pub mod merging;
 pub mod tariff;
 
 ghost use Rattle.core.specs.Prelude.{◌≡◌, false};
-ghost use Rattle.access.specs.Calls.{firstList};
-ghost use Rattle.dataset.specs.Calls.{opensDataset, setsMinima, entersTide, withdrawsTide};
-ghost use Rattle.study_file.specs.Calls.{readsFile, writesFile};
-ghost use Rattle.blocking.specs.Calls.{entryLists, exitLists, allThree, findsCentres, makesBlocks, judgesList};
-ghost use Rattle.c_records.specs.Record.{entryLent, exitLent, minimaAt, code};
-ghost use Rattle.c_api.specs.Api.{lacks, cVerdict, cLeft, cOutput, cResult};
-ghost use Rattle.c_api.specs.Api.{entryPlaces, exitPlaces, blocksVerdict, blocksLeft};
+ghost use Rattle.access.specs.Calls.{first_list};
+ghost use Rattle.dataset.specs.Calls.{opens_dataset, sets_minima, enters_tide, withdraws_tide};
+ghost use Rattle.study_file.specs.Calls.{reads_file, writes_file};
+ghost use Rattle.blocking.specs.Calls.{entry_lists, exit_lists, all_three, finds_centres, makes_blocks, judges_list};
+ghost use Rattle.c_records.specs.Record.{entry_lent, exit_lent, minima_at, code};
+ghost use Rattle.c_api.specs.Api.{lacks, c_verdict, c_left, c_output, c_result};
+ghost use Rattle.c_api.specs.Api.{entry_places, exit_places, blocks_verdict, blocks_left};
 
 // Open: an empty dataset with k settings.
 #[unsafe(no_mangle)]
@@ -33,8 +33,8 @@ pub extern "C" fn tides_open(
     settings: &mut [u8],
     k: u32,
 ) -> u32
-    ensures code { result ≡ code (cVerdict (entryLent numbers distances settings) false (opensDataset k)) }
-    ensures leaves { exitLent numbers distances settings ≡ cLeft (entryLent numbers distances settings) false (opensDataset k) }
+    ensures code { result ≡ code (c_verdict (entry_lent numbers distances settings) false (opens_dataset k)) }
+    ensures leaves { exit_lent numbers distances settings ≡ c_left (entry_lent numbers distances settings) false (opens_dataset k) }
 {
     if numbers.len() < RECORD_SIZE {
         return 1;
@@ -52,9 +52,9 @@ pub extern "C" fn tides_minima(
     minima: &[u8],
 ) -> u32
     ensures code { result
-        ≡ code (cVerdict (entryLent numbers distances settings) (lacks 9 minima.now) (setsMinima (minimaAt 0 minima.now))) }
-    ensures leaves { exitLent numbers distances settings
-        ≡ cLeft (entryLent numbers distances settings) (lacks 9 minima.now) (setsMinima (minimaAt 0 minima.now)) }
+        ≡ code (c_verdict (entry_lent numbers distances settings) (lacks 9 minima.now) (sets_minima (minima_at 0 minima.now))) }
+    ensures leaves { exit_lent numbers distances settings
+        ≡ c_left (entry_lent numbers distances settings) (lacks 9 minima.now) (sets_minima (minima_at 0 minima.now)) }
 {
     if numbers.len() < RECORD_SIZE {
         return 1;
@@ -76,9 +76,9 @@ pub extern "C" fn tides_enter(
     row: &[u32],
 ) -> u32
     ensures code { result
-        ≡ code (cVerdict (entryLent numbers distances settings) false (entersTide setting row.now)) }
-    ensures leaves { exitLent numbers distances settings
-        ≡ cLeft (entryLent numbers distances settings) false (entersTide setting row.now) }
+        ≡ code (c_verdict (entry_lent numbers distances settings) false (enters_tide setting row.now)) }
+    ensures leaves { exit_lent numbers distances settings
+        ≡ c_left (entry_lent numbers distances settings) false (enters_tide setting row.now) }
 {
     if numbers.len() < RECORD_SIZE {
         return 1;
@@ -102,9 +102,9 @@ pub extern "C" fn tides_withdraw(
     user: u32,
     tide: u32,
 ) -> u32
-    ensures code { result ≡ code (cVerdict (entryLent numbers distances settings) false (withdrawsTide user tide)) }
-    ensures leaves { exitLent numbers distances settings
-        ≡ cLeft (entryLent numbers distances settings) false (withdrawsTide user tide) }
+    ensures code { result ≡ code (c_verdict (entry_lent numbers distances settings) false (withdraws_tide user tide)) }
+    ensures leaves { exit_lent numbers distances settings
+        ≡ c_left (entry_lent numbers distances settings) false (withdraws_tide user tide) }
 {
     if numbers.len() < RECORD_SIZE {
         return 1;
@@ -128,9 +128,9 @@ pub extern "C" fn tides_read(
     file: &[u8],
 ) -> u32
     ensures code { result
-        ≡ code (cVerdict (entryLent numbers distances settings) false (readsFile file.now)) }
-    ensures leaves { exitLent numbers distances settings
-        ≡ cLeft (entryLent numbers distances settings) false (readsFile file.now) }
+        ≡ code (c_verdict (entry_lent numbers distances settings) false (reads_file file.now)) }
+    ensures leaves { exit_lent numbers distances settings
+        ≡ c_left (entry_lent numbers distances settings) false (reads_file file.now) }
 {
     if numbers.len() < RECORD_SIZE {
         return 1;
@@ -153,11 +153,11 @@ pub extern "C" fn tides_centres(
     count: &mut [u16],
 ) -> u32
     ensures code { result
-        ≡ code (cVerdict (entryLent numbers distances settings) (lacks 1 count.old) (findsCentres g (entryLists list nearest away))) }
-    ensures lists { allThree (exitLists list nearest away)
-        ≡ (cOutput (entryLent numbers distances settings) (lacks 1 count.old) (findsCentres g (entryLists list nearest away))).lists }
+        ≡ code (c_verdict (entry_lent numbers distances settings) (lacks 1 count.old) (finds_centres g (entry_lists list nearest away))) }
+    ensures lists { all_three (exit_lists list nearest away)
+        ≡ (c_output (entry_lent numbers distances settings) (lacks 1 count.old) (finds_centres g (entry_lists list nearest away))).lists }
     ensures count { count.new
-        ≡ cResult 1 (entryLent numbers distances settings) (findsCentres g (entryLists list nearest away)) count.old }
+        ≡ c_result 1 (entry_lent numbers distances settings) (finds_centres g (entry_lists list nearest away)) count.old }
 {
     if numbers.len() < RECORD_SIZE {
         return 1;
@@ -195,9 +195,9 @@ pub extern "C" fn tides_block(
     res: &mut [u32],
 ) -> u32
     ensures code { result
-        ≡ code (blocksVerdict 3 (entryLent numbers distances settings) makesBlocks (entryPlaces list centres sizes diameters res)) }
-    ensures leaves { exitPlaces list centres sizes diameters res
-        ≡ blocksLeft 3 (entryLent numbers distances settings) makesBlocks (entryPlaces list centres sizes diameters res) }
+        ≡ code (blocks_verdict 3 (entry_lent numbers distances settings) makes_blocks (entry_places list centres sizes diameters res)) }
+    ensures leaves { exit_places list centres sizes diameters res
+        ≡ blocks_left 3 (entry_lent numbers distances settings) makes_blocks (entry_places list centres sizes diameters res) }
 {
     if numbers.len() < RECORD_SIZE {
         return 1;
@@ -231,9 +231,9 @@ pub extern "C" fn tides_judge(
     res: &mut [u32],
 ) -> u32
     ensures code { result
-        ≡ code (cVerdict (entryLent numbers distances settings) (lacks 2 res.old) (judgesList list.now)) }
+        ≡ code (c_verdict (entry_lent numbers distances settings) (lacks 2 res.old) (judges_list list.now)) }
     ensures res { res.new
-        ≡ cResult 2 (entryLent numbers distances settings) (judgesList list.now) res.old }
+        ≡ c_result 2 (entry_lent numbers distances settings) (judges_list list.now) res.old }
 {
     if numbers.len() < RECORD_SIZE {
         return 1;
@@ -267,11 +267,11 @@ pub extern "C" fn tides_write(
     res: &mut [u32],
 ) -> u32
     ensures code { result
-        ≡ code (cVerdict (entryLent numbers distances settings) (lacks 1 res.old) (writesFile file.old)) }
+        ≡ code (c_verdict (entry_lent numbers distances settings) (lacks 1 res.old) (writes_file file.old)) }
     ensures file { file.new
-        ≡ firstList (cOutput (entryLent numbers distances settings) (lacks 1 res.old) (writesFile file.old)).lists }
+        ≡ first_list (c_output (entry_lent numbers distances settings) (lacks 1 res.old) (writes_file file.old)).lists }
     ensures length { res.new
-        ≡ cResult 1 (entryLent numbers distances settings) (writesFile file.old) res.old }
+        ≡ c_result 1 (entry_lent numbers distances settings) (writes_file file.old) res.old }
 {
     if numbers.len() < RECORD_SIZE {
         return 1;

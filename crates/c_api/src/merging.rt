@@ -1,7 +1,7 @@
 // A merge for C. Two datasets are only read, and the third is written.
 ghost use Rattle.core.specs.Prelude.{◌≡◌};
-ghost use Rattle.c_records.specs.Record.{entryLent, exitLent, code};
-ghost use Rattle.c_api.specs.Api.{cVerdict, cLeft, lacksEither, mergeOf};
+ghost use Rattle.c_records.specs.Record.{entry_lent, exit_lent, code};
+ghost use Rattle.c_api.specs.Api.{c_verdict, c_left, lacks_either, merge_of};
 
 use c_records::numbers::{RECORD_SIZE, dataset_of, store_outcome};
 
@@ -21,11 +21,11 @@ pub extern "C" fn tides_merge(
     seconds: &[u8],
 ) -> u32
     ensures code { result
-        ≡ code (cVerdict (entryLent numbers distances settings) (lacksEither (entryLent n1 d1 s1) (entryLent n2 d2 s2))
-        (mergeOf (entryLent n1 d1 s1) (entryLent n2 d2 s2) firsts.now seconds.now)) }
-    ensures leaves { exitLent numbers distances settings
-        ≡ cLeft (entryLent numbers distances settings) (lacksEither (entryLent n1 d1 s1) (entryLent n2 d2 s2))
-        (mergeOf (entryLent n1 d1 s1) (entryLent n2 d2 s2) firsts.now seconds.now) }
+        ≡ code (c_verdict (entry_lent numbers distances settings) (lacks_either (entry_lent n1 d1 s1) (entry_lent n2 d2 s2))
+        (merge_of (entry_lent n1 d1 s1) (entry_lent n2 d2 s2) firsts.now seconds.now)) }
+    ensures leaves { exit_lent numbers distances settings
+        ≡ c_left (entry_lent numbers distances settings) (lacks_either (entry_lent n1 d1 s1) (entry_lent n2 d2 s2))
+        (merge_of (entry_lent n1 d1 s1) (entry_lent n2 d2 s2) firsts.now seconds.now) }
 {
     if numbers.len() < RECORD_SIZE {
         return 1;

@@ -1,8 +1,8 @@
 // Block with what its blocks cost, for C (document 02, 2.3: tariff for a trial).
 ghost use Rattle.core.specs.Prelude.{◌≡◌, ◌∷◌};
-ghost use Rattle.priced_blocks.specs.Calls.{pricesBlocks};
-ghost use Rattle.c_records.specs.Record.{entryLent, code};
-ghost use Rattle.c_api.specs.Api.{entryPlaces, exitPlaces, blocksVerdict, blocksLeft};
+ghost use Rattle.priced_blocks.specs.Calls.{prices_blocks};
+ghost use Rattle.c_records.specs.Record.{entry_lent, code};
+ghost use Rattle.c_api.specs.Api.{entry_places, exit_places, blocks_verdict, blocks_left};
 
 use c_records::code::refusal_code;
 use c_records::numbers::{RECORD_SIZE, dataset_of};
@@ -44,9 +44,9 @@ pub extern "C" fn tides_tariff(
     res: &mut [u32],
 ) -> u32
     ensures code { result
-        ≡ code (blocksVerdict 12 (entryLent numbers distances settings) pricesBlocks (entryPlaces list centres sizes diameters res)) }
-    ensures leaves { exitPlaces list centres sizes diameters res
-        ≡ blocksLeft 12 (entryLent numbers distances settings) pricesBlocks (entryPlaces list centres sizes diameters res) }
+        ≡ code (blocks_verdict 12 (entry_lent numbers distances settings) prices_blocks (entry_places list centres sizes diameters res)) }
+    ensures leaves { exit_places list centres sizes diameters res
+        ≡ blocks_left 12 (entry_lent numbers distances settings) prices_blocks (entry_places list centres sizes diameters res) }
 {
     if numbers.len() < RECORD_SIZE {
         return 1;

@@ -2,7 +2,7 @@
 -- that they answer. Assumes nothing.
 use Rattle.std.specs.Prelude.{ℕ, ◌+◌, ◌*◌, List, ◌∷◌, ◌++◌, get_or}
 use Rattle.lists.specs.Lists.{tabulate}
-use Rattle.study.specs.Limits.{maxSettings, maxUsers}
+use Rattle.study.specs.Limits.{max_settings, max_users}
 use Rattle.study.specs.declared.Minima.{Minima}
 use Rattle.study.specs.declared.Dataset.{Dataset}
 use Rattle.study.specs.Refusals.{number, seven, Verdict, accepted, refused}
@@ -21,32 +21,32 @@ abbrev pub lent : List ℕ → List ℕ → List ℕ → Lent
 lent n d s = record { numbers = n; distances = d; settings = s }
 
 -- as they are where the function begins
-abbrev pub entryLent : LentList → LentList → LentList → Lent
-entryLent n d s = lent n.entry.now d.entry.now s.entry.now
+abbrev pub entry_lent : LentList → LentList → LentList → Lent
+entry_lent n d s = lent n.entry.now d.entry.now s.entry.now
 
 -- as they are where the function returns
-abbrev pub exitLent : LentList → LentList → LentList → Lent
-exitLent n d s = lent n.exit.now d.exit.now s.exit.now
+abbrev pub exit_lent : LentList → LentList → LentList → Lent
+exit_lent n d s = lent n.exit.now d.exit.now s.exit.now
 
 -- minima in 9 numbers from place p on: b0, b1 .. b8
-unfoldable pub minimaAt : ℕ → List ℕ → Minima
-minimaAt p l = record { b0 = get_or l p 0; b = tabulate maxSettings (λ j. get_or l (p + 1 + j) 0) }
+unfoldable pub minima_at : ℕ → List ℕ → Minima
+minima_at p l = record { b0 = get_or l p 0; b = tabulate max_settings (λ j. get_or l (p + 1 + j) 0) }
 
 -- how many numbers a dataset's record has
-abbrev pub recordSize : ℕ
-recordSize = 15
+abbrev pub record_size : ℕ
+record_size = 15
 
 -- the record in them, each as it is given
-unfoldable pub datasetOf : List ℕ → Dataset
-datasetOf l = record { k = get_or l 0 0; n = get_or l 1 0; minima = minimaAt 2 l; withdrawn = tabulate maxUsers (λ i. get_or l (11 + i) 0) }
+unfoldable pub dataset_of : List ℕ → Dataset
+dataset_of l = record { k = get_or l 0 0; n = get_or l 1 0; minima = minima_at 2 l; withdrawn = tabulate max_users (λ i. get_or l (11 + i) 0) }
 
 -- the numbers of a record, as they are written
-unfoldable pub numbersOf : Dataset → List ℕ
-numbersOf r = r.k ∷ r.n ∷ r.minima.b0 ∷ (r.minima.b ++ r.withdrawn)
+unfoldable pub numbers_of : Dataset → List ℕ
+numbers_of r = r.k ∷ r.n ∷ r.minima.b0 ∷ (r.minima.b ++ r.withdrawn)
 
 -- what the call looks at; a number that no dataset has, such as k = 300, makes it no dataset (21)
-unfoldable pub stateIn : Lent → State
-stateIn l = state_of (datasetOf l.numbers) l.distances l.settings
+unfoldable pub state_in : Lent → State
+state_in l = state_of (dataset_of l.numbers) l.distances l.settings
 
 -- ---- the answer
 

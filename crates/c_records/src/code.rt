@@ -1,6 +1,6 @@
 // The number that a call answers.
 ghost use Rattle.std.specs.Prelude.{◌≡◌};
-ghost use Rattle.study.specs.Refusals.{seven, numbered, refused, verdictOf};
+ghost use Rattle.study.specs.Refusals.{seven, numbered, refused, verdict_of};
 ghost use Rattle.c_records.specs.Record.{code};
 ghost use Rattle.c_records.specs.Records.{Narrow};
 
@@ -29,8 +29,8 @@ pub fn refusal_code(why: Refusal) -> u32
 
 // 0, or the number of the refusal.
 pub fn answer_code(answer: Answer) -> u32
-    requires { Narrow (verdictOf answer) }
-    ensures { result ≡ code (verdictOf answer) }
+    requires { Narrow (verdict_of answer) }
+    ensures { result ≡ code (verdict_of answer) }
 {
     match answer {
         Answer::Done => 0,

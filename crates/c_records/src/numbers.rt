@@ -1,10 +1,10 @@
 // A dataset's record as 15 numbers of 16 bits, read and written.
 ghost use Rattle.std.specs.Prelude.{◌≡◌, ℕ, ◌+◌, ◌≤◌, ◌<◌, length, get_or};
 ghost use Rattle.lists.specs.Lists.{tabulate, over};
-ghost use Rattle.study.specs.Limits.{maxUsers};
-ghost use Rattle.study.specs.Refusals.{verdictOf, settled};
-ghost use Rattle.narrowing.specs.Narrowing.{narrowed, narrowDataset};
-ghost use Rattle.c_records.specs.Record.{recordSize, minimaAt, datasetOf, numbersOf, code};
+ghost use Rattle.study.specs.Limits.{max_users};
+ghost use Rattle.study.specs.Refusals.{verdict_of, settled};
+ghost use Rattle.narrowing.specs.Narrowing.{narrowed, narrow_dataset};
+ghost use Rattle.c_records.specs.Record.{record_size, minima_at, dataset_of, numbers_of, code};
 ghost use Rattle.c_records.specs.Records.{Storable};
 
 use crate::code::answer_code;
@@ -16,7 +16,7 @@ pub const RECORD_SIZE: usize = 15;
 
 // b0, b1 .. b8 of a record, each as a byte.
 fn minima_bytes(numbers: &[u16]) -> [u8; 9]
-    requires { recordSize ≤ length numbers.now }
+    requires { record_size ≤ length numbers.now }
     ensures { result ≡ tabulate 9 (λ (i : ℕ). narrowed (get_or numbers.now (2 + i) 0)) }
 {
     let mut bytes = [0u8; 9];
@@ -31,7 +31,7 @@ fn minima_bytes(numbers: &[u16]) -> [u8; 9]
 // The minima in 9 bytes: b0, b1 .. b8.
 pub fn minima_of(bytes: &[u8]) -> Minima
     requires { 9 ≤ length bytes.now }
-    ensures { result ≡ minimaAt 0 bytes.now }
+    ensures { result ≡ minima_at 0 bytes.now }
 {
     let b = [
         bytes[1], bytes[2], bytes[3], bytes[4], bytes[5], bytes[6], bytes[7], bytes[8],
@@ -41,16 +41,16 @@ pub fn minima_of(bytes: &[u8]) -> Minima
 
 // Each user's withdrawals.
 fn counts_of(numbers: &[u16]) -> [u16; MAX_USERS]
-    requires { recordSize ≤ length numbers.now }
-    ensures { result ≡ tabulate maxUsers (λ (i : ℕ). get_or numbers.now (11 + i) 0) }
+    requires { record_size ≤ length numbers.now }
+    ensures { result ≡ tabulate max_users (λ (i : ℕ). get_or numbers.now (11 + i) 0) }
 {
     [numbers[11], numbers[12], numbers[13], numbers[14]]
 }
 
 // The record as the calls take it: k and the minima as bytes.
 pub fn dataset_of(numbers: &[u16]) -> Dataset
-    requires { recordSize ≤ length numbers.now }
-    ensures { result ≡ narrowDataset (datasetOf numbers.now) }
+    requires { record_size ≤ length numbers.now }
+    ensures { result ≡ narrow_dataset (dataset_of numbers.now) }
 {
     let bytes = minima_bytes(numbers);
     let minima = minima_of(&bytes);
@@ -72,8 +72,8 @@ fn wide(x: u8) -> u16
 
 // The number at place i of a dataset's record.
 fn number_at(dataset: Dataset, i: usize) -> u16
-    requires { (i < recordSize) × (dataset.n < 65536) }
-    ensures { result ≡ get_or (numbersOf dataset) i 0 }
+    requires { (i < record_size) × (dataset.n < 65536) }
+    ensures { result ≡ get_or (numbers_of dataset) i 0 }
 {
     if i == 0 {
         return wide(dataset.k);
@@ -95,8 +95,8 @@ fn number_at(dataset: Dataset, i: usize) -> u16
 
 // A record into the front of the numbers.
 fn put_dataset(numbers: &mut [u16], dataset: Dataset)
-    requires { (recordSize ≤ length numbers.old) × (dataset.n < 65536) }
-    ensures { numbers.new ≡ over (numbersOf dataset) numbers.old }
+    requires { (record_size ≤ length numbers.old) × (dataset.n < 65536) }
+    ensures { numbers.new ≡ over (numbers_of dataset) numbers.old }
 {
     let mut i: usize = 0;
     while i < RECORD_SIZE {
@@ -107,10 +107,10 @@ fn put_dataset(numbers: &mut [u16], dataset: Dataset)
 
 // The number that a call answers. An accepted call's record is written; a refused one writes nothing.
 pub fn store_outcome(numbers: &mut [u16], outcome: Outcome) -> u32
-    requires { Storable numbers.old (verdictOf outcome.answer) outcome.dataset }
-    ensures code { result ≡ code (verdictOf outcome.answer) }
+    requires { Storable numbers.old (verdict_of outcome.answer) outcome.dataset }
+    ensures code { result ≡ code (verdict_of outcome.answer) }
     ensures numbers { numbers.new
-        ≡ settled (verdictOf outcome.answer) (over (numbersOf outcome.dataset) numbers.old) numbers.old }
+        ≡ settled (verdict_of outcome.answer) (over (numbers_of outcome.dataset) numbers.old) numbers.old }
 {
     let answer = outcome.answer;
     let Answer::Done = answer else {

@@ -1,4 +1,4 @@
--- The statements of specs/Theorems.antt: `for-closure`, `for-texts`. Assumes nothing.
+-- The statements of specs/Theorems.antt: `for_closure`, `for_texts`. Assumes nothing.
 use Prim.Native.Nat.{ℕ, ◌+◌, ◌≤◌, ◌<◌}
 use native.Mathlib.Omega.{arith}
 use mathlib.Core.Path.{◌≡◌, refl, sym, ap, ◌∙◌, subst}
@@ -8,66 +8,66 @@ use mathlib.Core.List.{List}
 use borrow.Author.Tests.{lt-ltb, le-ltb}
 use lib.ListN.{length, get_or}
 use Rattle.lists.proofs.Tests.{split}
-use Rattle.lists.proofs.Tables.{length-tabulate, get_d_tabulate, tabulate-is}
-use Rattle.study.specs.Study.{Tide, Study, size, noTide, tide, distance, TriangleInequality, Valid, MeasuredStudy}
+use Rattle.lists.proofs.Tables.{length_tabulate, get_d_tabulate, tabulate_is}
+use Rattle.study.specs.Study.{Tide, Study, size, no_tide, tide, distance, TriangleInequality, Valid, MeasuredStudy}
 use Rattle.study.specs.Refusals.{number}
-use Rattle.study.specs.Calls.{holdsDuplicate}
-use Rattle.study.proofs.StudyLaws.{distance-both-ways, distance-itself}
+use Rattle.study.specs.Calls.{holds_duplicate}
+use Rattle.study.proofs.StudyLaws.{distance_both_ways, distance_itself}
 use Rattle.metric_closure.specs.Closure.{closure}
 use Rattle.metric_closure.specs.Theorems.{ForTable}
-use Rattle.metric_closure.proofs.ClosureLaws.{lowered-few}
-use Rattle.metric_closure.proofs.TableLaws.{few-places}
-use Rattle.metric_closure.proofs.Proofs.{for-table}
+use Rattle.metric_closure.proofs.ClosureLaws.{lowered_few}
+use Rattle.metric_closure.proofs.TableLaws.{few_places}
+use Rattle.metric_closure.proofs.Proofs.{for_table}
 use Rattle.study_text.specs.declared.Rule.TheVariants as RuleCase
-use Rattle.study_text.specs.Packing.{refusedAt, ended, stopped, text_of}
-use Rattle.closure_text.specs.Text.{lowered, closedTide, closedStudy, closureText}
+use Rattle.study_text.specs.Packing.{refused_at, ended, stopped, text_of}
+use Rattle.closure_text.specs.Text.{lowered, closed_tide, closed_study, closure_text}
 use Rattle.closure_text.specs.Theorems.{fresh, EveryStudy, EveryText}
-use Rattle.closure_text.proofs.TextLaws.{text-measured}
-use Rattle.closure_text.proofs.ReadBack.{read_back, read-refused}
-use Rattle.closure_text.proofs.TextLength.{text-short}
+use Rattle.closure_text.proofs.TextLaws.{text_measured}
+use Rattle.closure_text.proofs.ReadBack.{read_back, read_refused}
+use Rattle.closure_text.proofs.TextLength.{text_short}
 
 module _ (S : Study) where
   -- the distances of any study are the same both ways
   closed : ForTable (size S) (distance S)
   closed =
-      for-table (size S) (distance S)
-      (record { both_ways = λ i j a b. distance-both-ways S i j; itself = λ i a. distance-itself S i })
+      for_table (size S) (distance S)
+      (record { both_ways = λ i j a b. distance_both_ways S i j; itself = λ i a. distance_itself S i })
 
-  none-lowered : lowered S ≡ 0 ↔ TriangleInequality S
+  none_lowered : lowered S ≡ 0 ↔ TriangleInequality S
   unfolding lowered
-  none-lowered = (
-    λ e. (closed.none-lowered.0 e).triangle,
-    λ R. closed.none-lowered.1 (record { triangle = R }),
+  none_lowered = (
+    λ e. (closed.none_lowered.0 e).triangle,
+    λ R. closed.none_lowered.1 (record { triangle = R }),
   )
 
   -- ---- the study with the closure of its distances
 
   abbrev M : Study
-  M = closedStudy S
+  M = closed_study S
 
-  closed-size : size M ≡ size S
-  unfolding closedStudy
-  closed-size = length-tabulate (size S) (closedTide S)
+  closed_size : size M ≡ size S
+  unfolding closed_study
+  closed_size = length_tabulate (size S) (closed_tide S)
 
-  tide-at : (t : ℕ) → t < size S → tide M t ≡ closedTide S t
-  unfolding closedStudy tide
-  tide-at t l = get_d_tabulate (size S) (closedTide S) t noTide l
+  tide_at : (t : ℕ) → t < size S → tide M t ≡ closed_tide S t
+  unfolding closed_study tide
+  tide_at t l = get_d_tabulate (size S) (closed_tide S) t no_tide l
 
-  setting-at : (t : ℕ) → t < size S → (tide M t).setting ≡ (tide S t).setting
-  unfolding closedTide
-  setting-at t l = ap (λ (x : Tide). x.setting) (tide-at t l)
+  setting_at : (t : ℕ) → t < size S → (tide M t).setting ≡ (tide S t).setting
+  unfolding closed_tide
+  setting_at t l = ap (λ (x : Tide). x.setting) (tide_at t l)
 
   row_at : (t u : ℕ) → t < size S → u < t → get_or (tide M t).row u 0 ≡ closure (size S) (distance S) t u
-  unfolding closedTide
-  row_at t u l k = ap (λ (x : Tide). get_or x.row u 0) (tide-at t l) ∙ get_d_tabulate t (closure (size S) (distance S) t) u 0 k
+  unfolding closed_tide
+  row_at t u l k = ap (λ (x : Tide). get_or x.row u 0) (tide_at t l) ∙ get_d_tabulate t (closure (size S) (distance S) t) u 0 k
 
-  row-long : (t : ℕ) → t < size S → length (tide M t).row ≡ t
-  unfolding closedTide
-  row-long t l = ap (λ (x : Tide). length x.row) (tide-at t l) ∙ length-tabulate t (closure (size S) (distance S) t)
+  row_long : (t : ℕ) → t < size S → length (tide M t).row ≡ t
+  unfolding closed_tide
+  row_long t l = ap (λ (x : Tide). length x.row) (tide_at t l) ∙ length_tabulate t (closure (size S) (distance S) t)
 
-  distance-at : (t u : ℕ) → t < size S → u < size S → distance M t u ≡ closure (size S) (distance S) t u
+  distance_at : (t u : ℕ) → t < size S → u < size S → distance M t u ≡ closure (size S) (distance S) t u
   unfolding distance
-  distance-at t u a b =
+  distance_at t u a b =
       ⊎_elim (λ l. rw (lt-ltb t u l) (row_at u t b l ∙ closed.symmetric.both_ways u t b a))
       (λ l. ⊎_elim (λ k. rw (le-ltb t u l, lt-ltb u t k) (row_at t u a k)) (λ k. rw (le-ltb t u l, le-ltb u t k) (same t u a (omega arith)))
       (split u t))
@@ -79,75 +79,75 @@ module _ (S : Study) where
   -- ---- of a measured study
 
   module _ (W : MeasuredStudy S) where
-    closed-valid : Valid M
-    unfolding closedStudy
-    closed-valid =
+    closed_valid : Valid M
+    unfolding closed_study
+    closed_valid =
         record {
-          k-low = W.k-low;
-          k-high = W.k-high;
-          few = omega (arith, W.few, closed-size);
+          k_low = W.k_low;
+          k_high = W.k_high;
+          few = omega (arith, W.few, closed_size);
           minima = W.minima;
-          setting-low = λ t l. omega (arith, setting-at t (omega (arith, closed-size)), W.setting-low t (omega (arith, closed-size)));
-          setting-high = λ t l. omega (arith, setting-at t (omega (arith, closed-size)), W.setting-high t (omega (arith, closed-size)));
-          row-length = λ t l. row-long t (omega (arith, closed-size));
-          distance_high = λ t u l k. high t u (omega (arith, closed-size)) (omega (arith, closed-size));
-          triangle = λ t u v a b c. obeys t u v (omega (arith, closed-size)) (omega (arith, closed-size)) (omega (arith, closed-size));
+          setting_low = λ t l. omega (arith, setting_at t (omega (arith, closed_size)), W.setting_low t (omega (arith, closed_size)));
+          setting_high = λ t l. omega (arith, setting_at t (omega (arith, closed_size)), W.setting_high t (omega (arith, closed_size)));
+          row_length = λ t l. row_long t (omega (arith, closed_size));
+          distance_high = λ t u l k. high t u (omega (arith, closed_size)) (omega (arith, closed_size));
+          triangle = λ t u v a b c. obeys t u v (omega (arith, closed_size)) (omega (arith, closed_size)) (omega (arith, closed_size));
         }
       where
         high : (t u : ℕ) → t < size S → u < size S → distance M t u ≤ 1048575
-        high t u a b = omega (arith, distance-at t u a b, closed.lower.below t u a b, W.distance_high t u a b)
+        high t u a b = omega (arith, distance_at t u a b, closed.lower.below t u a b, W.distance_high t u a b)
 
         obeys : (t u v : ℕ) → t < size S → u < size S → v < size S → distance M t v ≤ distance M t u + distance M u v
-        obeys t u v a b c = omega (arith, closed.obeys.triangle t u v a b c, distance-at t v a c, distance-at t u a b, distance-at u v b c)
+        obeys t u v a b c = omega (arith, closed.obeys.triangle t u v a b c, distance_at t v a c, distance_at t u a b, distance_at u v b c)
 
     -- ---- where the triangle inequality holds
 
     module _ (R : TriangleInequality S) where
-      own-distance : (t u : ℕ) → t < size S → u < t → closure (size S) (distance S) t u ≡ get_or (tide S t).row u 0
+      own_distance : (t u : ℕ) → t < size S → u < t → closure (size S) (distance S) t u ≡ get_or (tide S t).row u 0
       unfolding distance
-      own-distance t u a l =
+      own_distance t u a l =
           closed.own (record { triangle = R }) t u a (omega arith) ∙ rw (le-ltb t u (omega arith), lt-ltb u t l)
 
-      own-tide : (t : ℕ) → t < size S → closedTide S t ≡ tide S t
-      unfolding closedTide
-      own-tide t a =
+      own_tide : (t : ℕ) → t < size S → closed_tide S t ≡ tide S t
+      unfolding closed_tide
+      own_tide t a =
           ap (λ (r : List ℕ). record { setting = (tide S t).setting; row = r })
-          (tabulate-is t (closure (size S) (distance S) t) 0 (tide S t).row (W.row-length t a) (λ u l. own-distance t u a l))
+          (tabulate_is t (closure (size S) (distance S) t) 0 (tide S t).row (W.row_length t a) (λ u l. own_distance t u a l))
 
-      closed-own : closedStudy S ≡ S
-      unfolding closedStudy tide
-      closed-own =
+      closed_own : closed_study S ≡ S
+      unfolding closed_study tide
+      closed_own =
           ap (λ (ts : List Tide). record { k = S.k; minima = S.minima; tides = ts })
-          (tabulate-is (size S) (closedTide S) noTide S.tides refl own-tide)
+          (tabulate_is (size S) (closed_tide S) no_tide S.tides refl own_tide)
 
-    pairs-few : lowered S < 4294967296
+    pairs_few : lowered S < 4294967296
     unfolding lowered
-    pairs-few = omega (arith, lowered-few (size S) (distance S), few-places (size S) W.few)
+    pairs_few = omega (arith, lowered_few (size S) (distance S), few_places (size S) W.few)
 
-    text-read : holdsDuplicate M ≡ false → (l : ℕ) × (text_of RuleCase.Entered (closureText S) ≡ ended (fresh M) l)
-    unfolding closureText
-    text-read none = read_back (lowered S) M pairs-few closed-valid none
+    text_read : holds_duplicate M ≡ false → (l : ℕ) × (text_of RuleCase.Entered (closure_text S) ≡ ended (fresh M) l)
+    unfolding closure_text
+    text_read none = read_back (lowered S) M pairs_few closed_valid none
 
-    text-refused : holdsDuplicate M ≡ true → (l : ℕ) × (text_of RuleCase.Entered (closureText S) ≡ stopped (refusedAt l (number 15)))
-    unfolding closureText
-    text-refused one = read-refused (lowered S) M pairs-few closed-valid one
+    text_refused : holds_duplicate M ≡ true → (l : ℕ) × (text_of RuleCase.Entered (closure_text S) ≡ stopped (refused_at l (number 15)))
+    unfolding closure_text
+    text_refused one = read_refused (lowered S) M pairs_few closed_valid one
 
-    text-fits : length (closureText S) ≤ 131072
-    unfolding closureText
-    text-fits = text-short (lowered S) M pairs-few closed-valid
+    text_fits : length (closure_text S) ≤ 131072
+    unfolding closure_text
+    text_fits = text_short (lowered S) M pairs_few closed_valid
 
-pub for-closure : EveryStudy
-for-closure S W =
+pub for_closure : EveryStudy
+for_closure S W =
     record {
-      valid = closed-valid S W;
-      settings = setting-at S;
-      distances = distance-at S;
-      own = closed-own S W;
-      none-lowered = none-lowered S;
-      short = text-fits S W;
-      read_back = text-read S W;
-      read-refused = text-refused S W;
+      valid = closed_valid S W;
+      settings = setting_at S;
+      distances = distance_at S;
+      own = closed_own S W;
+      none_lowered = none_lowered S;
+      short = text_fits S W;
+      read_back = text_read S W;
+      read_refused = text_refused S W;
     }
 
-pub for-texts : EveryText
-for-texts text H l e = for-closure H.study (text-measured text H l e)
+pub for_texts : EveryText
+for_texts text H l e = for_closure H.study (text_measured text H l e)

@@ -10,46 +10,46 @@ use Rattle.study.specs.Limits.{cell}
 use Rattle.study.specs.Refusals.{value}
 use Rattle.metric_closure.specs.declared.Closed.{Closed}
 use Rattle.metric_closure.specs.declared.Closed.TheVariants as ClosedCase
-use Rattle.metric_closure.specs.Closure.{loweredPairs}
-use Rattle.metric_closure.specs.Call.{entry, closedTable, closeAnswer, closeLeaves, closedOf}
+use Rattle.metric_closure.specs.Closure.{lowered_pairs}
+use Rattle.metric_closure.specs.Call.{entry, closed_table, close_answer, close_leaves, closed_of}
 use Rattle.metric_closure.specs.Theorems.{Closable}
-use Rattle.metric_closure.proofs.ClosureLaws.{lowered-few}
-use Rattle.metric_closure.proofs.TableLaws.{few-places}
-use Rattle.metric_closure.proofs.Proofs.{for-call, leaves-closed}
+use Rattle.metric_closure.proofs.ClosureLaws.{lowered_few}
+use Rattle.metric_closure.proofs.TableLaws.{few_places}
+use Rattle.metric_closure.proofs.Proofs.{for_call, leaves_closed}
 use Rattle.study.specs.declared.Refusal.{Refusal}
-use Rattle.closure_text.specs.Rows.{lowerCell}
+use Rattle.closure_text.specs.Rows.{lower_cell}
 
 -- ---- a stored distance
 
 module _ (d : List ℕ) (i j : ℕ) where
-  pub earlier-cell : i < j → cell d j i ≡ lowerCell d i j
-  unfolding lowerCell
-  earlier-cell h = rw (lt-ltb i j h)
+  pub earlier_cell : i < j → cell d j i ≡ lower_cell d i j
+  unfolding lower_cell
+  earlier_cell h = rw (lt-ltb i j h)
 
-  pub later-cell : j < i → cell d i j ≡ lowerCell d i j
-  unfolding lowerCell
-  later-cell h = rw (le-ltb i j (omega arith), lt-ltb j i h)
+  pub later_cell : j < i → cell d i j ≡ lower_cell d i j
+  unfolding lower_cell
+  later_cell h = rw (le-ltb i j (omega arith), lt-ltb j i h)
 
-  pub own-cell : j ≤ i → i ≤ j → 0 ≡ lowerCell d i j
-  unfolding lowerCell
-  own-cell h k = rw (le-ltb i j h, le-ltb j i k)
+  pub own_cell : j ≤ i → i ≤ j → 0 ≡ lower_cell d i j
+  unfolding lower_cell
+  own_cell h k = rw (le-ltb i j h, le-ltb j i k)
 
 -- ---- the closure of a table that no reason refuses
 
-module _ {n : ℕ} {l : List ℕ} (a : Closed) (C : Closable n l) (e : closedOf a ≡ closeAnswer n l) where
+module _ {n : ℕ} {l : List ℕ} (a : Closed) (C : Closable n l) (e : closed_of a ≡ close_answer n l) where
   -- it answers a number
-  told : closedOf a ≡ value (loweredPairs n (entry n l))
-  told = e ∙ (for-call n l).answer C
+  told : closed_of a ≡ value (lowered_pairs n (entry n l))
+  told = e ∙ (for_call n l).answer C
 
-  pub told-pairs : {m : ℕ} → a ≡ ClosedCase.Done m → m ≡ loweredPairs n (entry n l)
-  told-pairs h = let t = told in cc
+  pub told_pairs : {m : ℕ} → a ≡ ClosedCase.Done m → m ≡ lowered_pairs n (entry n l)
+  told_pairs h = let t = told in cc
 
   -- of 32 bits
-  pub pairs-few : {m : ℕ} → a ≡ ClosedCase.Done m → m < 4294967296
-  pairs-few h = omega (arith, told-pairs h, lowered-few n (entry n l), few-places n C.few)
+  pub pairs_few : {m : ℕ} → a ≡ ClosedCase.Done m → m < 4294967296
+  pairs_few h = omega (arith, told_pairs h, lowered_few n (entry n l), few_places n C.few)
 
-  pub never-refused : {A : Type 0} {r : Refusal} → a ≡ ClosedCase.Refused r → A
-  never-refused h = let t = told in absurd (let z : ◌≡◌ {A = ℕ} 0 1 = cc in omega arith)
+  pub never_refused : {A : Type 0} {r : Refusal} → a ≡ ClosedCase.Refused r → A
+  never_refused h = let t = told in absurd (let z : ◌≡◌ {A = ℕ} 0 1 = cc in omega arith)
 
-  pub closed-left : {new : List ℕ} → new ≡ closeLeaves n l → new ≡ closedTable n l
-  closed-left h = h ∙ leaves-closed n l C
+  pub closed_left : {new : List ℕ} → new ≡ close_leaves n l → new ≡ closed_table n l
+  closed_left h = h ∙ leaves_closed n l C

@@ -8,16 +8,16 @@ use Rattle.metric_closure.specs.Call.{entry}
 use Rattle.metric_closure.specs.Tables.{Fits, InRange}
 
 -- the distance of two tides where only the later one's row is stored; 0 from a tide to itself
-unfoldable pub lowerCell : List ℕ → ℕ → ℕ → ℕ
-lowerCell d i j = cond (ltb i j) (cell d j i) (cond (ltb j i) (cell d i j) 0)
+unfoldable pub lower_cell : List ℕ → ℕ → ℕ → ℕ
+lower_cell d i j = cond (ltb i j) (cell d j i) (cond (ltb j i) (cell d i j) 0)
 
 -- tide t by its setting and its row of a table of n rows of n
-unfoldable pub tideAt : ℕ → List ℕ → List ℕ → ℕ → Tide
-tideAt n settings table t = record { setting = get_or settings t 0; row = tabulate t (entry n table t) }
+unfoldable pub tide_at : ℕ → List ℕ → List ℕ → ℕ → Tide
+tide_at n settings table t = record { setting = get_or settings t 0; row = tabulate t (entry n table t) }
 
 -- the study of a record, with such tides
-unfoldable pub studyAt : Dataset → List ℕ → List ℕ → Study
-studyAt r settings table = record { k = r.k; minima = r.minima; tides = tabulate r.n (tideAt r.n settings table) }
+unfoldable pub study_at : Dataset → List ℕ → List ℕ → Study
+study_at r settings table = record { k = r.k; minima = r.minima; tides = tabulate r.n (tide_at r.n settings table) }
 
 -- numbers of at most seven digits, and room for them with a byte after each
 pub record Printable (xs : List ℕ) (at : ℕ) (out : List ℕ) : Type 0 where

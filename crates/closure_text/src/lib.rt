@@ -10,14 +10,14 @@ mod lines;
 mod table;
 
 ghost use Rattle.std.specs.Prelude.{◌≡◌, ◌++◌, ◌≤◌, length};
-ghost use Rattle.study.specs.Limits.{maxSettings};
-ghost use Rattle.validity.specs.Memory.{state_of, studyOf, entryState};
+ghost use Rattle.study.specs.Limits.{max_settings};
+ghost use Rattle.validity.specs.Memory.{state_of, study_of, entry_state};
 ghost use Rattle.sheet_text.specs.Putting.{PutText};
 ghost use Rattle.study_text.specs.declared.Rule.TheVariants as RuleCase;
-ghost use Rattle.study_text.specs.Packing.{reportOf};
-ghost use Rattle.study_text.specs.Reached.{Measuring, Live, finishedOf};
-ghost use Rattle.closure_text.specs.Text.{studyText, loweredLine, closureText, textRoom, reported, printed, mendAnswer, mendLeaves};
-ghost use Rattle.closure_text.specs.Rows.{studyAt, PrintableTable};
+ghost use Rattle.study_text.specs.Packing.{report_of};
+ghost use Rattle.study_text.specs.Reached.{Measuring, Live, finished_of};
+ghost use Rattle.closure_text.specs.Text.{study_text, lowered_line, closure_text, text_room, reported, printed, mend_answer, mend_leaves};
+ghost use Rattle.closure_text.specs.Rows.{study_at, PrintableTable};
 
 // Room for the closure's text of any study.
 pub const TEXT_ROOM: usize = 131072;
@@ -25,9 +25,9 @@ pub const TEXT_ROOM: usize = 131072;
 // The comment, and the study with the distances of a table, in the front of the lent bytes; the answer is their length.
 fn put_study(out: &mut [u8], pairs: u32, dataset: Dataset, settings: &[u8], table: &[u32]) -> usize
     requires printable_table { PrintableTable dataset.n settings.now table.now }
-    requires k_le_max_settings { (dataset.k ≤ maxSettings) × (textRoom ≤ length out.old) }
+    requires k_le_max_settings { (dataset.k ≤ max_settings) × (text_room ≤ length out.old) }
     ensures { PutText out.old 0
-        (loweredLine pairs ++ studyText (studyAt dataset settings.now table.now)) result out.new }
+        (lowered_line pairs ++ study_text (study_at dataset settings.now table.now)) result out.new }
 {
     let after_comment = put_lowered(out, pairs);
     let minima = dataset.minima;
@@ -38,8 +38,8 @@ fn put_study(out: &mut [u8], pairs: u32, dataset: Dataset, settings: &[u8], tabl
 // The text of the closure of the study in memory.
 fn put_closure(out: &mut [u8], dataset: Dataset, distances: &[u32], settings: &[u8]) -> usize
     requires measuring { Measuring (state_of dataset distances.now settings.now) }
-    requires text_room_in_bounds { textRoom ≤ length out.old }
-    ensures { PutText out.old 0 (closureText (studyOf (entryState dataset distances settings))) result out.new }
+    requires text_room_in_bounds { text_room ≤ length out.old }
+    ensures { PutText out.old 0 (closure_text (study_of (entry_state dataset distances settings))) result out.new }
 {
     let n = dataset.n;
     let mut table = [0u32; TABLE_SIZE];
@@ -51,8 +51,8 @@ fn put_closure(out: &mut [u8], dataset: Dataset, distances: &[u32], settings: &[
 // The closure of the study that the text ended with.
 fn write_closure(end: Finished, distances: &[u32], settings: &[u8], out: &mut [u8]) -> Packed
     requires { Live RuleCase.Measured end distances.now settings.now }
-    ensures told { reportOf result ≡ reported (finishedOf end distances.now settings.now) (length out.old) }
-    ensures leaves { out.new ≡ printed (finishedOf end distances.now settings.now) out.old }
+    ensures told { report_of result ≡ reported (finished_of end distances.now settings.now) (length out.old) }
+    ensures leaves { out.new ≡ printed (finished_of end distances.now settings.now) out.old }
 {
     let over = end.over;
     let dataset = end.dataset;
@@ -69,8 +69,8 @@ fn write_closure(end: Finished, distances: &[u32], settings: &[u8], out: &mut [u
 
 // The closure's text over the front of the lent bytes; those past it stay, and all of them where something is wrong with the text.
 pub fn mend(text: &[u8], out: &mut [u8]) -> Packed
-    ensures told { reportOf result ≡ mendAnswer text.now (length out.old) }
-    ensures leaves { out.new ≡ mendLeaves text.now out.old }
+    ensures told { report_of result ≡ mend_answer text.now (length out.old) }
+    ensures leaves { out.new ≡ mend_leaves text.now out.old }
 {
     if TEXT_ROOM < text.len() {
         return Packed::TooLong(whole_lines(text));

@@ -1,19 +1,19 @@
 // The table of a measured study, and its closure.
 ghost use Rattle.std.specs.Prelude.{◌≡◌, ◌*◌, ◌/◌, ◌%◌, ◌≤◌, ◌<◌, length};
 ghost use Rattle.lists.specs.Lists.{overwrite};
-ghost use Rattle.study.specs.Limits.{maxTides, tableSize};
-ghost use Rattle.metric_closure.specs.Closure.{loweredPairs};
-ghost use Rattle.metric_closure.specs.Call.{entry, closedTable};
+ghost use Rattle.study.specs.Limits.{max_tides, table_size};
+ghost use Rattle.metric_closure.specs.Closure.{lowered_pairs};
+ghost use Rattle.metric_closure.specs.Call.{entry, closed_table};
 ghost use Rattle.metric_closure.specs.Theorems.{Closable};
-ghost use Rattle.closure_text.specs.Rows.{lowerCell};
+ghost use Rattle.closure_text.specs.Rows.{lower_cell};
 
 use metric_closure::{Closed, close};
 use study::MAX_TIDES;
 
 // The distance of two tides, from the later one's row.
 fn stored_distance(distances: &[u32], i: usize, j: usize) -> u32
-    requires { (tableSize ≤ length distances.now) × (i < maxTides) × (j < maxTides) }
-    ensures { result ≡ lowerCell distances.now i j }
+    requires { (table_size ≤ length distances.now) × (i < max_tides) × (j < max_tides) }
+    ensures { result ≡ lower_cell distances.now i j }
 {
     if i < j {
         return distances[j * MAX_TIDES + i];
@@ -26,9 +26,9 @@ fn stored_distance(distances: &[u32], i: usize, j: usize) -> u32
 
 // The distances of n tides in n rows of n.
 pub fn fill_table(table: &mut [u32], distances: &[u32], n: usize)
-    requires { (tableSize ≤ length distances.now) × (n ≤ maxTides) × (n * n ≤ length table.old) }
+    requires { (table_size ≤ length distances.now) × (n ≤ max_tides) × (n * n ≤ length table.old) }
     ensures { table.new
-        ≡ overwrite (n * n) (λ p. lowerCell distances.now (p / n) (p % n)) table.old }
+        ≡ overwrite (n * n) (λ p. lower_cell distances.now (p / n) (p % n)) table.old }
 {
     let size = n * n;
     let mut p: usize = 0;
@@ -41,7 +41,7 @@ pub fn fill_table(table: &mut [u32], distances: &[u32], n: usize)
 // The closure of a table that no reason refuses; the answer is how many pairs were lowered.
 pub fn close_table(table: &mut [u32], n: usize) -> u32
     requires { Closable n table.old }
-    ensures { (result ≡ loweredPairs n (entry n table.old)) × (table.new ≡ closedTable n table.old) }
+    ensures { (result ≡ lowered_pairs n (entry n table.old)) × (table.new ≡ closed_table n table.old) }
 {
     let closed = close(table, n);
     match closed {

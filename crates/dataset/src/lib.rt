@@ -1,11 +1,11 @@
 // Open, Minima, Enter, Withdraw: for any record and memory of any length, the answer and what stands afterwards.
 ghost use Rattle.std.specs.Prelude.{◌≡◌, T};
-ghost use Rattle.study.specs.Refusals.{isUser, verdictOf};
-ghost use Rattle.validity.specs.Memory.{state_of, entryState, exitState};
+ghost use Rattle.study.specs.Refusals.{is_user, verdict_of};
+ghost use Rattle.validity.specs.Memory.{state_of, entry_state, exit_state};
 ghost use Rattle.access.specs.Calls.{answer, after};
 ghost use Rattle.access.specs.Passed.{Passed};
-ghost use Rattle.dataset.specs.Calls.{opensDataset, setsMinima, entersTide, withdrawsTide};
-ghost use Rattle.dataset.specs.Accepted.{testedMinima, EnterAccepted, WithdrawAccepted};
+ghost use Rattle.dataset.specs.Calls.{opens_dataset, sets_minima, enters_tide, withdraws_tide};
+ghost use Rattle.dataset.specs.Accepted.{tested_minima, EnterAccepted, WithdrawAccepted};
 
 use duplicates::check_duplicate;
 use study::{
@@ -17,8 +17,8 @@ use validity::is_short;
 
 // The dataset becomes empty, whatever it was.
 pub fn open(dataset: Dataset, distances: &mut [u32], settings: &mut [u8], k: u8) -> Outcome
-    ensures answer { verdictOf result.answer ≡ answer (entryState dataset distances settings) (opensDataset k) }
-    ensures leaves { exitState result.dataset distances settings ≡ after (entryState dataset distances settings) (opensDataset k) }
+    ensures answer { verdict_of result.answer ≡ answer (entry_state dataset distances settings) (opens_dataset k) }
+    ensures leaves { exit_state result.dataset distances settings ≡ after (entry_state dataset distances settings) (opens_dataset k) }
 {
     if is_short(distances, settings) {
         return Outcome {
@@ -57,7 +57,7 @@ pub fn open(dataset: Dataset, distances: &mut [u32], settings: &mut [u8], k: u8)
 
 // The record as Minima understands it (document 02, 2.2). One whose b's are together above 120 stays: it is refused as it is.
 fn understood(minima: Minima) -> Minima
-    ensures { result ≡ testedMinima minima }
+    ensures { result ≡ tested_minima minima }
 {
     let b0 = minima.b0;
     let b = minima.b;
@@ -76,8 +76,8 @@ fn understood(minima: Minima) -> Minima
 
 // Replaces the minima by those understood. The memory is only read.
 pub fn set_minima(dataset: Dataset, distances: &[u32], settings: &[u8], minima: Minima) -> Outcome
-    ensures answer { verdictOf result.answer ≡ answer (entryState dataset distances settings) (setsMinima minima) }
-    ensures leaves { exitState result.dataset distances settings ≡ after (entryState dataset distances settings) (setsMinima minima) }
+    ensures answer { verdict_of result.answer ≡ answer (entry_state dataset distances settings) (sets_minima minima) }
+    ensures leaves { exit_state result.dataset distances settings ≡ after (entry_state dataset distances settings) (sets_minima minima) }
 {
     let answer = access::check(dataset, distances, settings);
     let Answer::Done = answer else {
@@ -107,7 +107,7 @@ fn enter_answer(
     row: &[u32],
 ) -> Answer
     requires { Passed (state_of dataset distances.now settings.now) }
-    ensures { verdictOf result ≡ answer (entryState dataset distances settings) (entersTide setting row.now) }
+    ensures { verdict_of result ≡ answer (entry_state dataset distances settings) (enters_tide setting row.now) }
 {
     let k = dataset.k;
     let n = dataset.n;
@@ -142,7 +142,7 @@ fn add_tide(
     row: &[u32],
 ) -> Dataset
     requires { EnterAccepted (state_of dataset distances.old settings.old) setting row.now }
-    ensures { exitState result distances settings ≡ after (entryState dataset distances settings) (entersTide setting row.now) }
+    ensures { exit_state result distances settings ≡ after (entry_state dataset distances settings) (enters_tide setting row.now) }
 {
     let n = dataset.n;
     storage::put_row(distances, row);
@@ -160,9 +160,9 @@ pub fn enter(
     setting: u8,
     row: &[u32],
 ) -> Outcome
-    ensures answer { verdictOf result.answer ≡ answer (entryState dataset distances settings) (entersTide setting row.now) }
-    ensures leaves { exitState result.dataset distances settings
-        ≡ after (entryState dataset distances settings) (entersTide setting row.now) }
+    ensures answer { verdict_of result.answer ≡ answer (entry_state dataset distances settings) (enters_tide setting row.now) }
+    ensures leaves { exit_state result.dataset distances settings
+        ≡ after (entry_state dataset distances settings) (enters_tide setting row.now) }
 {
     let first = access::check(dataset, distances, settings);
     let Answer::Done = first else {
@@ -190,8 +190,8 @@ fn withdraw_answer(
     user: u8,
     tide: u8,
 ) -> Answer
-    requires { Passed (state_of dataset distances.now settings.now) × T (isUser user) }
-    ensures { verdictOf result ≡ answer (entryState dataset distances settings) (withdrawsTide user tide) }
+    requires { Passed (state_of dataset distances.now settings.now) × T (is_user user) }
+    ensures { verdict_of result ≡ answer (entry_state dataset distances settings) (withdraws_tide user tide) }
 {
     let n = dataset.n;
     let counts = dataset.withdrawn;
@@ -217,7 +217,7 @@ fn remove_tide(
     tide: u8,
 ) -> Dataset
     requires { WithdrawAccepted (state_of dataset distances.old settings.old) user tide }
-    ensures { exitState result distances settings ≡ after (entryState dataset distances settings) (withdrawsTide user tide) }
+    ensures { exit_state result distances settings ≡ after (entry_state dataset distances settings) (withdraws_tide user tide) }
 {
     let m = tide as usize - 1;
     storage::remove_row(distances, m);
@@ -237,8 +237,8 @@ pub fn withdraw(
     user: u8,
     tide: u8,
 ) -> Outcome
-    ensures answer { verdictOf result.answer ≡ answer (entryState dataset distances settings) (withdrawsTide user tide) }
-    ensures leaves { exitState result.dataset distances settings ≡ after (entryState dataset distances settings) (withdrawsTide user tide) }
+    ensures answer { verdict_of result.answer ≡ answer (entry_state dataset distances settings) (withdraws_tide user tide) }
+    ensures leaves { exit_state result.dataset distances settings ≡ after (entry_state dataset distances settings) (withdraws_tide user tide) }
 {
     let first = access::check_user(dataset, distances, settings, user);
     let Answer::Done = first else {

@@ -4,10 +4,10 @@ use Rattle.study.specs.Refusals.{number, Verdict, accepted, refused}
 use Rattle.study.specs.Calls.{alike, duplicated}
 
 -- a new tide is a duplicate of tide i, by the settings in memory
-unfoldable pub duplicateOf : List ℕ → ℕ → List ℕ → ℕ → Bool
-duplicateOf settings setting row i = alike (get_or settings i 0) setting (get_or row i 0)
+unfoldable pub duplicate_of : List ℕ → ℕ → List ℕ → ℕ → Bool
+duplicate_of settings setting row i = alike (get_or settings i 0) setting (get_or row i 0)
 
 -- the last of Enter's reasons, by the settings in memory
-unfoldable pub duplicateAnswer : List ℕ → ℕ → List ℕ → Verdict
-duplicateAnswer settings setting row =
+unfoldable pub duplicate_answer : List ℕ → ℕ → List ℕ → Verdict
+duplicate_answer settings setting row =
     cond (duplicated (λ i. get_or settings i 0) (length row) setting (λ i. get_or row i 0)) (refused (number 15)) accepted

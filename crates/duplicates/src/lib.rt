@@ -1,14 +1,14 @@
 // The last of Enter's reasons (document 02, 2.8): a duplicate (twin), a tide at distance 0 from a tide of its setting.
 ghost use Rattle.std.specs.Prelude.{◌≡◌, ◌≤◌, ◌<◌, length};
-ghost use Rattle.study.specs.Refusals.{verdictOf};
-ghost use Rattle.duplicates.specs.Scan.{duplicateOf, duplicateAnswer};
+ghost use Rattle.study.specs.Refusals.{verdict_of};
+ghost use Rattle.duplicates.specs.Scan.{duplicate_of, duplicate_answer};
 
 use study::{Answer, Refusal};
 
 // Whether tide i is at distance 0 from the new one and of its setting.
 fn is_duplicate_of(settings: &[u8], setting: u8, row: &[u32], i: usize) -> bool
     requires { (i < length settings.now) × (i < length row.now) }
-    ensures { result ≡ duplicateOf settings.now setting row.now i }
+    ensures { result ≡ duplicate_of settings.now setting row.now i }
 {
     if row[i] != 0 {
         return false;
@@ -19,7 +19,7 @@ fn is_duplicate_of(settings: &[u8], setting: u8, row: &[u32], i: usize) -> bool
 // Refused where one of the tides is, to which the row has the distances.
 pub fn check_duplicate(settings: &[u8], setting: u8, row: &[u32]) -> Answer
     requires { length row.now ≤ length settings.now }
-    ensures { verdictOf result ≡ duplicateAnswer settings.now setting row.now }
+    ensures { verdict_of result ≡ duplicate_answer settings.now setting row.now }
 {
     let n = row.len();
     let mut i: usize = 0;

@@ -12,12 +12,12 @@ use Rattle.file_fields.specs.Advance.{ReadTo}
 pub same_place : {p q : Place} → ProgressCase.To p ≡ ProgressCase.To q → p ≡ q
 same_place e = cc
 
-pub never-refused : {p : Place} {why : Refusal} → ProgressCase.To p ≡ ProgressCase.Refused why → ⊥
-never-refused e = let z : ◌≡◌ {A = ℕ} 0 1 = cc in omega arith
+pub never_refused : {p : Place} {why : Refusal} → ProgressCase.To p ≡ ProgressCase.Refused why → ⊥
+never_refused e = let z : ◌≡◌ {A = ℕ} 0 1 = cc in omega arith
 
 module _ {n : ℕ} {r : Progress} (R : ReadTo n r) where
   pub read_at : {p : Place} → r ≡ ProgressCase.To p → BitsRead p n
   read_at e = subst (λ q. BitsRead q n) (same_place (sym R.is ∙ e)) R.here
 
-  pub read-on : {why : Refusal} → r ≡ ProgressCase.Refused why → ⊥
-  read-on e = never-refused (sym R.is ∙ e)
+  pub read_on : {why : Refusal} → r ≡ ProgressCase.Refused why → ⊥
+  read_on e = never_refused (sym R.is ∙ e)

@@ -16,86 +16,86 @@ use Rattle.study.specs.declared.Dataset.{Dataset}
 use Rattle.study.specs.declared.Refusal.{Refusal}
 use Rattle.study.specs.declared.Refusal.TheVariants as RefusalCase
 use Rattle.study.specs.declared.Answer.TheVariants.{Done, Refused}
-use Rattle.study.specs.Study.{size, validMinima}
-use Rattle.study.specs.Refusals.{number, Verdict, accepted, refused, verdictOf, numbered, first_of}
+use Rattle.study.specs.Study.{size, valid_minima}
+use Rattle.study.specs.Refusals.{number, Verdict, accepted, refused, verdict_of, numbered, first_of}
 use Rattle.file_format.specs.Bits.{bits_at}
-use Rattle.file_format.specs.File.{newMark, oldMark, countsEnd, bitLength, byteLength, countsUnder, mark_of, countsIn, countsAt}
-use Rattle.file_format.specs.File.{minimaAt, decoded, headReasons}
-use Rattle.file_format.proofs.DecodedLaws.{counts-few, decoded-size}
+use Rattle.file_format.specs.File.{new_mark, old_mark, counts_end, bit_length, byte_length, counts_under, mark_of, counts_in, counts_at}
+use Rattle.file_format.specs.File.{minima_at, decoded, head_reasons}
+use Rattle.file_format.proofs.DecodedLaws.{counts_few, decoded_size}
 use Rattle.file_format.proofs.ReadLaws.{either-T, unless-T}
 use Rattle.bit_reader.specs.declared.Place.{Place}
 use Rattle.bit_reader.specs.Fields.{BitsRead, FieldGot}
-use Rattle.bit_reader.proofs.FieldLaws.{bits-same}
-use Rattle.validity.specs.Memory.{setK, setSize, setMinima, setCounts, recordOf}
+use Rattle.bit_reader.proofs.FieldLaws.{bits_same}
+use Rattle.validity.specs.Memory.{set_k, set_size, set_minima, set_counts, record_of}
 use Rattle.lists.proofs.Scans.{between_in}
-use Rattle.file_fields.proofs.Lengths.{length-sum}
+use Rattle.file_fields.proofs.Lengths.{length_sum}
 use Rattle.file_fields.specs.declared.head.Start.TheVariants as StartCase
 use Rattle.file_fields.specs.declared.head.HeadRead.{HeadRead}
-use Rattle.file_fields.specs.Heading.{MarkRead, Marked, Begun, StartGot, countAt, minimumAt, RecordBegins, HeadRecord, HeadGot}
+use Rattle.file_fields.specs.Heading.{MarkRead, Marked, Begun, StartGot, count_at, minimum_at, RecordBegins, HeadRecord, HeadGot}
 
 -- ---- the minima and the record
 
-drop-replicate : (x k n : ℕ) → drop k (replicate n x) ≡ replicate (n - k) x
-drop-replicate x zero n = let e : n ≡ n - 0 = omega arith in ap (λ m. replicate m x) e
-drop-replicate x (suc k) zero = let e : 0 ≡ 0 - suc k = omega arith in ap (λ m. replicate m x) e
-drop-replicate x (suc k) (suc n) = let e : n - k ≡ suc n - suc k = omega arith in drop-replicate x k n ∙ ap (λ m. replicate m x) e
+drop_replicate : (x k n : ℕ) → drop k (replicate n x) ≡ replicate (n - k) x
+drop_replicate x zero n = let e : n ≡ n - 0 = omega arith in ap (λ m. replicate m x) e
+drop_replicate x (suc k) zero = let e : 0 ≡ 0 - suc k = omega arith in ap (λ m. replicate m x) e
+drop_replicate x (suc k) (suc n) = let e : n - k ≡ suc n - suc k = omega arith in drop_replicate x k n ∙ ap (λ m. replicate m x) e
 
-pub minima-read : (s : List ℕ) (k : ℕ) {b0 : ℕ} {b : List ℕ} → b0 ≡ bits_at s 19 7 → b ≡ overwrite k (minimumAt s) (replicate 8 0)
-    → ◌≡◌ {A = Minima} (record { b0 = b0; b = b }) (minimaAt s k)
-unfolding minimaAt overwrite
-minima-read s k {b0} {b} e f =
-    ap₂ (λ (x : ℕ) (y : List ℕ). record { b0 = x; b = y }) e (f ∙ ap (λ ys. tabulate k (minimumAt s) ++ ys) (drop-replicate 0 k 8))
+pub minima_read : (s : List ℕ) (k : ℕ) {b0 : ℕ} {b : List ℕ} → b0 ≡ bits_at s 19 7 → b ≡ overwrite k (minimum_at s) (replicate 8 0)
+    → ◌≡◌ {A = Minima} (record { b0 = b0; b = b }) (minima_at s k)
+unfolding minima_at overwrite
+minima_read s k {b0} {b} e f =
+    ap₂ (λ (x : ℕ) (y : List ℕ). record { b0 = x; b = y }) e (f ∙ ap (λ ys. tabulate k (minimum_at s) ++ ys) (drop_replicate 0 k 8))
 
-pub counts-read : (s : List ℕ) {c : ℕ} {ws : List ℕ} → c ≡ countsIn s → ws ≡ overwrite c (countAt s) (replicate 4 0) → ws ≡ countsAt s
-unfolding countsAt overwrite
-counts-read s {c} e f =
-    f ∙ ap (λ ys. tabulate c (countAt s) ++ ys) (drop-replicate 0 c 4) ∙ ap (λ x. tabulate x (countAt s) ++ replicate (4 - x) 0) e
+pub counts_read : (s : List ℕ) {c : ℕ} {ws : List ℕ} → c ≡ counts_in s → ws ≡ overwrite c (count_at s) (replicate 4 0) → ws ≡ counts_at s
+unfolding counts_at overwrite
+counts_read s {c} e f =
+    f ∙ ap (λ ys. tabulate c (count_at s) ++ ys) (drop_replicate 0 c 4) ∙ ap (λ x. tabulate x (count_at s) ++ replicate (4 - x) 0) e
 
-pub record-read : {s : List ℕ} {c k n : ℕ} {p : Place} → RecordBegins s c k n p → (r : Dataset) {ws : List ℕ} {M : Minima} {q : Place}
-    → ws ≡ countsAt s → M ≡ minimaAt s k → BitsRead q (countsEnd (countsIn s) + 7 * k)
-    → HeadRecord s r (setK k (setSize n (setMinima M (setCounts ws r)))) q
-unfolding recordOf decoded bitLength
-record-read {s} {c} {k} {n} R r {ws} {M} counts e here =
+pub record_read : {s : List ℕ} {c k n : ℕ} {p : Place} → RecordBegins s c k n p → (r : Dataset) {ws : List ℕ} {M : Minima} {q : Place}
+    → ws ≡ counts_at s → M ≡ minima_at s k → BitsRead q (counts_end (counts_in s) + 7 * k)
+    → HeadRecord s r (set_k k (set_size n (set_minima M (set_counts ws r)))) q
+unfolding record_of decoded bit_length
+record_read {s} {c} {k} {n} R r {ws} {M} counts e here =
     let B = R.begun in
-    let f : M ≡ minimaAt s (bits_at s 15 4) = e ∙ ap (minimaAt s) B.k-is in
-    let tides : n ≡ size (decoded s).study = B.tides ∙ sym (decoded-size s) in
+    let f : M ≡ minima_at s (bits_at s 15 4) = e ∙ ap (minima_at s) B.k_is in
+    let tides : n ≡ size (decoded s).study = B.tides ∙ sym (decoded_size s) in
     record {
-      is = λ i. setK (B.k-is i) (setSize (tides i) (setMinima (f i) (setCounts (counts i) r)));
-      first = bits-same here (omega (arith, B.k-is));
+      is = λ i. set_k (B.k_is i) (set_size (tides i) (set_minima (f i) (set_counts (counts i) r)));
+      first = bits_same here (omega (arith, B.k_is));
     }
 
 -- ---- the reasons, in order
 
 -- the tests of these reasons, where they have passed
-past-8 : (s : List ℕ) → 6 ≤ length s → ltb (length s) 6 ≡ false
-past-8 s h = T_false (ltb (length s) 6) (le→nltb (length s) 6 h)
+past_8 : (s : List ℕ) → 6 ≤ length s → ltb (length s) 6 ≡ false
+past_8 s h = T_false (ltb (length s) 6) (le→nltb (length s) 6 h)
 
-past-9 : {s : List ℕ} {c : ℕ} → MarkRead s c → (eqb (mark_of s) newMark || eqb (mark_of s) oldMark) ≡ true
-past-9 {s} M = T_true _ ((either-T (mark_of s) newMark oldMark).1 M.mark)
+past_9 : {s : List ℕ} {c : ℕ} → MarkRead s c → (eqb (mark_of s) new_mark || eqb (mark_of s) old_mark) ≡ true
+past_9 {s} M = T_true _ ((either-T (mark_of s) new_mark old_mark).1 M.mark)
 
-past-12 : {s : List ℕ} {c : ℕ} → MarkRead s c → (eqb (mark_of s) newMark && ltb (length s) 12) ≡ false
-past-12 {s} M = T_false _ ((unless-T (mark_of s) newMark (length s) 12).1 M.twelve)
+past_12 : {s : List ℕ} {c : ℕ} → MarkRead s c → (eqb (mark_of s) new_mark && ltb (length s) 12) ≡ false
+past_12 {s} M = T_false _ ((unless-T (mark_of s) new_mark (length s) 12).1 M.twelve)
 
-past-10 : (s : List ℕ) {n : ℕ} → n ≡ bits_at s 8 7 → n ≤ 120 → ltb 120 (bits_at s 8 7) ≡ false
-past-10 s e h = T_false (ltb 120 (bits_at s 8 7)) (le→nltb 120 (bits_at s 8 7) (subst (λ z. z ≤ 120) e h))
+past_10 : (s : List ℕ) {n : ℕ} → n ≡ bits_at s 8 7 → n ≤ 120 → ltb 120 (bits_at s 8 7) ≡ false
+past_10 s e h = T_false (ltb 120 (bits_at s 8 7)) (le→nltb 120 (bits_at s 8 7) (subst (λ z. z ≤ 120) e h))
 
 -- before the first bit none is read
-pub first-place : BitsRead (record { byte = 0; bit = 0 }) 0
-first-place = record { below = lit< tt; count = refl }
+pub first_place : BitsRead (record { byte = 0; bit = 0 }) 0
+first_place = record { below = lit< tt; count = refl }
 
 -- the start is refused, or read
 module _ {s : List ℕ} where
-  start-stops : {why : Refusal} → refused (numbered why) ≡ first_of (headReasons s) → StartGot s (StartCase.Refused why)
-  start-stops {why} e = record { goes = λ q. absurd (never q); stops = λ q. same q }
+  start_stops : {why : Refusal} → refused (numbered why) ≡ first_of (head_reasons s) → StartGot s (StartCase.Refused why)
+  start_stops {why} e = record { goes = λ q. absurd (never q); stops = λ q. same q }
     where
       never : {c n k : ℕ} {p : Place} → StartCase.Refused why ≡ StartCase.Fields c n k p → ⊥
       never q = let z : ◌≡◌ {A = ℕ} 0 1 = cc in omega arith
 
-      same : {x : Refusal} → StartCase.Refused why ≡ StartCase.Refused x → refused (numbered x) ≡ first_of (headReasons s)
+      same : {x : Refusal} → StartCase.Refused why ≡ StartCase.Refused x → refused (numbered x) ≡ first_of (head_reasons s)
       same {x} q = let i : x ≡ why = cc in ap (λ r. refused (numbered r)) i ∙ e
 
-  start-goes : {c n k : ℕ} {p : Place} → Begun s c k n → BitsRead p 19 → StartGot s (StartCase.Fields c n k p)
-  start-goes {c} {n} {k} {p} B here = record { goes = λ q. same q; stops = λ q. absurd (never q) }
+  start_goes : {c n k : ℕ} {p : Place} → Begun s c k n → BitsRead p 19 → StartGot s (StartCase.Fields c n k p)
+  start_goes {c} {n} {k} {p} B here = record { goes = λ q. same q; stops = λ q. absurd (never q) }
     where
       never : {why : Refusal} → StartCase.Fields c n k p ≡ StartCase.Refused why → ⊥
       never q = let z : ◌≡◌ {A = ℕ} 0 1 = cc in omega arith
@@ -110,72 +110,72 @@ module _ {s : List ℕ} where
             subst (λ y. BitsRead y 19) place here,
           )
 
-pub start-short : (s : List ℕ) → length s < 6 → StartGot s (StartCase.Refused RefusalCase.FileLength)
-unfolding headReasons first_of
-start-short s l = start-stops (rw (T_true (ltb (length s) 6) (lt→ltb (length s) 6 l)))
+pub start_short : (s : List ℕ) → length s < 6 → StartGot s (StartCase.Refused RefusalCase.FileLength)
+unfolding head_reasons first_of
+start_short s l = start_stops (rw (T_true (ltb (length s) 6) (lt→ltb (length s) 6 l)))
 
 module _ {s : List ℕ} {m : ℕ} {p : Place} (six : 6 ≤ length s) (g : FieldGot s 0 8 m p) where
   -- one count
-  pub marked-old : m ≡ oldMark → Marked s 1 p
-  unfolding countsUnder
-  marked-old e =
-      let old : mark_of s ≡ oldMark = sym g.is ∙ e in
+  pub marked_old : m ≡ old_mark → Marked s 1 p
+  unfolding counts_under
+  marked_old e =
+      let old : mark_of s ≡ old_mark = sym g.is ∙ e in
       record {
-        marked = record { six = six; mark = inr old; twelve = λ new. omega arith; counts = sym (ap countsUnder old) };
+        marked = record { six = six; mark = inr old; twelve = λ new. omega arith; counts = sym (ap counts_under old) };
         here = g.past;
       }
 
-  pub start-mark : (m ≡ oldMark → ⊥) → (m ≡ newMark → ⊥) → StartGot s (StartCase.Refused RefusalCase.Mark)
-  unfolding headReasons first_of
-  start-mark f h =
-      start-stops (rw (past-8 s six, ne_eqb (mark_of s) newMark (λ e. h (g.is ∙ e)), ne_eqb (mark_of s) oldMark (λ e. f (g.is ∙ e))))
+  pub start_mark : (m ≡ old_mark → ⊥) → (m ≡ new_mark → ⊥) → StartGot s (StartCase.Refused RefusalCase.Mark)
+  unfolding head_reasons first_of
+  start_mark f h =
+      start_stops (rw (past_8 s six, ne_eqb (mark_of s) new_mark (λ e. h (g.is ∙ e)), ne_eqb (mark_of s) old_mark (λ e. f (g.is ∙ e))))
 
-  module _ (e : m ≡ newMark) where
-    new : mark_of s ≡ newMark
+  module _ (e : m ≡ new_mark) where
+    new : mark_of s ≡ new_mark
     new = sym g.is ∙ e
 
-    pub start-twelve : length s < 12 → StartGot s (StartCase.Refused RefusalCase.FileLength)
-    unfolding headReasons first_of
-    start-twelve l = start-stops (rw (past-8 s six, eq-eqb (mark_of s) newMark new, T_true (ltb (length s) 12) (lt→ltb (length s) 12 l)))
+    pub start_twelve : length s < 12 → StartGot s (StartCase.Refused RefusalCase.FileLength)
+    unfolding head_reasons first_of
+    start_twelve l = start_stops (rw (past_8 s six, eq-eqb (mark_of s) new_mark new, T_true (ltb (length s) 12) (lt→ltb (length s) 12 l)))
 
     -- a count for each user
-    pub marked-new : 12 ≤ length s → Marked s 4 p
-    unfolding countsUnder
-    marked-new l =
-        record { marked = record { six = six; mark = inl new; twelve = λ _. l; counts = sym (ap countsUnder new) }; here = g.past }
+    pub marked_new : 12 ≤ length s → Marked s 4 p
+    unfolding counts_under
+    marked_new l =
+        record { marked = record { six = six; mark = inl new; twelve = λ _. l; counts = sym (ap counts_under new) }; here = g.past }
 
 module _ {s : List ℕ} {c : ℕ} {p : Place} (M : Marked s c p) {n : ℕ} {q : Place} (g : FieldGot s 8 7 n q) where
   abbrev R : MarkRead s c
   R = M.marked
 
-  pub start-count : 120 < n → StartGot s (StartCase.Refused RefusalCase.TideCount)
-  unfolding headReasons first_of
-  start-count l =
+  pub start_count : 120 < n → StartGot s (StartCase.Refused RefusalCase.TideCount)
+  unfolding head_reasons first_of
+  start_count l =
       let many : ltb 120 (bits_at s 8 7) ≡ true = T_true _ (lt→ltb 120 (bits_at s 8 7) (subst (λ z. 120 < z) g.is l)) in
-      start-stops (rw (past-8 s R.six, past-9 R, past-12 R, many))
+      start_stops (rw (past_8 s R.six, past_9 R, past_12 R, many))
 
   module _ (few : n ≤ 120) {k : ℕ} {r : Place} (h : FieldGot s 15 4 k r) where
-    pub start-k : between 1 8 k ≡ false → StartGot s (StartCase.Refused RefusalCase.SettingCount)
-    unfolding headReasons first_of
-    start-k f = start-stops (rw (past-8 s R.six, past-9 R, past-12 R, past-10 s g.is few, ap (between 1 8) (sym h.is) ∙ f))
+    pub start_k : between 1 8 k ≡ false → StartGot s (StartCase.Refused RefusalCase.SettingCount)
+    unfolding head_reasons first_of
+    start_k f = start_stops (rw (past_8 s R.six, past_9 R, past_12 R, past_10 s g.is few, ap (between 1 8) (sym h.is) ∙ f))
 
     pub begun : 1 ≤ k → k ≤ 8 → StartGot s (StartCase.Fields c n k r)
-    begun l u = start-goes record { marked = R; tides = g.is; few = few; k-is = h.is; low = l; high = u } h.past
+    begun l u = start_goes record { marked = R; tides = g.is; few = few; k_is = h.is; low = l; high = u } h.past
 
 -- ---- the length, the minima and the last byte
 
-pub few-counts : {s : List ℕ} {c : ℕ} → MarkRead s c → c ≤ 4
-few-counts {s} M = omega (arith, M.counts, counts-few s)
+pub few_counts : {s : List ℕ} {c : ℕ} → MarkRead s c → c ≤ 4
+few_counts {s} M = omega (arith, M.counts, counts_few s)
 
 -- the file has the length that c, k and n say
 pub record Whole (s : List ℕ) (c k n : ℕ) : Type 0 where
   pub begun : Begun s c k n
-  pub long : length s ≡ byteLength c k n
+  pub long : length s ≡ byte_length c k n
 
 -- and its minima are valid
 pub record HeadSound (s : List ℕ) (c k n : ℕ) : Type 0 where
   pub whole : Whole s c k n
-  pub minima : validMinima k (minimaAt s k) ≡ true
+  pub minima : valid_minima k (minima_at s k) ≡ true
 
 -- what the last three tests answer
 abbrev left : Bool → Bool → Bool → Verdict
@@ -183,89 +183,89 @@ left long good fill =
     cond (not long) (refused (number 8)) (cond (not good) (refused (number 3)) (cond (not fill) (refused (number 11)) accepted))
 
 module _ {s : List ℕ} {c k n : ℕ} where
-  by_tests : Begun s c k n → (long good fill : Bool) → eqb (length s) (byteLength c k n) ≡ long → validMinima k (minimaAt s k) ≡ good
-      → eqb (bits_at s (bitLength c k n) (8 * length s - bitLength c k n)) 0 ≡ fill → left long good fill ≡ first_of (headReasons s)
-  unfolding headReasons first_of
+  by_tests : Begun s c k n → (long good fill : Bool) → eqb (length s) (byte_length c k n) ≡ long → valid_minima k (minima_at s k) ≡ good
+      → eqb (bits_at s (bit_length c k n) (8 * length s - bit_length c k n)) 0 ≡ fill → left long good fill ≡ first_of (head_reasons s)
+  unfolding head_reasons first_of
   by_tests B long good fill a b e =
       let M = B.marked in
       rw (
-        past-8 s M.six,
-        past-9 M,
-        past-12 M,
-        past-10 s B.tides B.few,
-        subst (λ z. between 1 8 z ≡ true) B.k-is (between_in 1 8 k B.low B.high),
-        numbers (λ x y z. eqb (length s) (byteLength x y z)) ∙ a,
-        ap (λ x. validMinima x (minimaAt s x)) (sym B.k-is) ∙ b,
-        numbers (λ x y z. eqb (bits_at s (bitLength x y z) (8 * length s - bitLength x y z)) 0) ∙ e,
+        past_8 s M.six,
+        past_9 M,
+        past_12 M,
+        past_10 s B.tides B.few,
+        subst (λ z. between 1 8 z ≡ true) B.k_is (between_in 1 8 k B.low B.high),
+        numbers (λ x y z. eqb (length s) (byte_length x y z)) ∙ a,
+        ap (λ x. valid_minima x (minima_at s x)) (sym B.k_is) ∙ b,
+        numbers (λ x y z. eqb (bits_at s (bit_length x y z) (8 * length s - bit_length x y z)) 0) ∙ e,
       )
     where
       -- what is said of the file's numbers is said of c, k and n
-      numbers : {A : Type 0} (f : ℕ → ℕ → ℕ → A) → f (countsIn s) (bits_at s 15 4) (bits_at s 8 7) ≡ f c k n
-      numbers f = λ i. f (sym B.marked.counts i) (sym B.k-is i) (sym B.tides i)
+      numbers : {A : Type 0} (f : ℕ → ℕ → ℕ → A) → f (counts_in s) (bits_at s 15 4) (bits_at s 8 7) ≡ f c k n
+      numbers f = λ i. f (sym B.marked.counts i) (sym B.k_is i) (sym B.tides i)
 
-  module _ (B : Begun s c k n) {bits : ℕ} (e : bits ≡ bitLength c k n) {v : Bool} (tested : v ≡ eqb (length s) ((bits + 7) / 8)) where
-    long-test : {b : Bool} → v ≡ b → eqb (length s) (byteLength c k n) ≡ b
-    unfolding byteLength
-    long-test q = ap (λ x. eqb (length s) ((x + 7) / 8)) (sym e) ∙ sym tested ∙ q
+  module _ (B : Begun s c k n) {bits : ℕ} (e : bits ≡ bit_length c k n) {v : Bool} (tested : v ≡ eqb (length s) ((bits + 7) / 8)) where
+    long_test : {b : Bool} → v ≡ b → eqb (length s) (byte_length c k n) ≡ b
+    unfolding byte_length
+    long_test q = ap (λ x. eqb (length s) ((x + 7) / 8)) (sym e) ∙ sym tested ∙ q
 
-    pub head-length : not v ≡ true → refused (number 8) ≡ first_of (headReasons s)
-    head-length q = by_tests B false _ _ (long-test (not-true v q)) refl refl
+    pub head_length : not v ≡ true → refused (number 8) ≡ first_of (head_reasons s)
+    head_length q = by_tests B false _ _ (long_test (not-true v q)) refl refl
 
     pub whole : not v ≡ false → Whole s c k n
-    whole q = record { begun = B; long = eqb-true (length s) (byteLength c k n) (long-test (not-false v q)) }
+    whole q = record { begun = B; long = eqb-true (length s) (byte_length c k n) (long_test (not-false v q)) }
 
   module _ (W : Whole s c k n) where
     abbrev B : Begun s c k n
     B = W.begun
 
-    is-long : eqb (length s) (byteLength c k n) ≡ true
-    is-long = eq-eqb (length s) (byteLength c k n) W.long
+    is_long : eqb (length s) (byte_length c k n) ≡ true
+    is_long = eq-eqb (length s) (byte_length c k n) W.long
 
     -- the fields before the tides are inside, and the last byte begins before the end
-    pub record-begins : {p : Place} → BitsRead p 19 → RecordBegins s c k n p
-    unfolding byteLength
-    record-begins here =
-        let t = length-sum c k n (few-counts B.marked) B.high B.few in
+    pub record_begins : {p : Place} → BitsRead p 19 → RecordBegins s c k n p
+    unfolding byte_length
+    record_begins here =
+        let t = length_sum c k n (few_counts B.marked) B.high B.few in
         record { begun = B; here = here; inside = omega (arith, W.long, t.first) }
 
-    pub fill-inside : {end : ℕ} → end ≡ bitLength c k n → (end ≤ 8 * length s) × (8 * length s < end + 8) × (end ≤ 143306)
-    unfolding byteLength
-    fill-inside q =
-        let t = length-sum c k n (few-counts B.marked) B.high B.few in
+    pub fill_inside : {end : ℕ} → end ≡ bit_length c k n → (end ≤ 8 * length s) × (8 * length s < end + 8) × (end ≤ 143306)
+    unfolding byte_length
+    fill_inside q =
+        let t = length_sum c k n (few_counts B.marked) B.high B.few in
         (omega (arith, W.long), omega (arith, W.long), omega (arith, t.most))
 
-    module _ {old next : Dataset} {p : Place} (H : HeadRecord s old next p) {v : Bool} (tested : v ≡ validMinima next.k next.minima) where
-      good : {b : Bool} → v ≡ b → validMinima k (minimaAt s k) ≡ b
-      unfolding recordOf decoded
+    module _ {old next : Dataset} {p : Place} (H : HeadRecord s old next p) {v : Bool} (tested : v ≡ valid_minima next.k next.minima) where
+      good : {b : Bool} → v ≡ b → valid_minima k (minima_at s k) ≡ b
+      unfolding record_of decoded
       good q =
-          ap (λ x. validMinima x (minimaAt s x)) B.k-is
-          ∙ sym (ap (λ (r : Dataset). validMinima r.k r.minima) H.is)
+          ap (λ x. valid_minima x (minima_at s x)) B.k_is
+          ∙ sym (ap (λ (r : Dataset). valid_minima r.k r.minima) H.is)
           ∙ sym tested ∙ q
 
-      pub head-minima : not v ≡ true → refused (number 3) ≡ first_of (headReasons s)
-      head-minima q = by_tests B true false _ is-long (good (not-true v q)) refl
+      pub head_minima : not v ≡ true → refused (number 3) ≡ first_of (head_reasons s)
+      head_minima q = by_tests B true false _ is_long (good (not-true v q)) refl
 
       pub sound : not v ≡ false → HeadSound s c k n
       sound q = record { whole = W; minima = good (not-false v q) }
 
-  module _ (G : HeadSound s c k n) {end : ℕ} (ends : end ≡ bitLength c k n) {w : Bool} (fill : w ≡ eqb (bits_at s end (8 * length s - end)) 0) where
-    filled : {b : Bool} → w ≡ b → eqb (bits_at s (bitLength c k n) (8 * length s - bitLength c k n)) 0 ≡ b
+  module _ (G : HeadSound s c k n) {end : ℕ} (ends : end ≡ bit_length c k n) {w : Bool} (fill : w ≡ eqb (bits_at s end (8 * length s - end)) 0) where
+    filled : {b : Bool} → w ≡ b → eqb (bits_at s (bit_length c k n) (8 * length s - bit_length c k n)) 0 ≡ b
     filled q = ap (λ p. eqb (bits_at s p (8 * length s - p)) 0) (sym ends) ∙ sym fill ∙ q
 
-    pub head-fill : not w ≡ true → refused (number 11) ≡ first_of (headReasons s)
-    head-fill q = by_tests G.whole.begun true true false (is-long G.whole) G.minima (filled (not-true w q))
+    pub head_fill : not w ≡ true → refused (number 11) ≡ first_of (head_reasons s)
+    head_fill q = by_tests G.whole.begun true true false (is_long G.whole) G.minima (filled (not-true w q))
 
-    pub head_done : not w ≡ false → accepted ≡ first_of (headReasons s)
-    head_done q = by_tests G.whole.begun true true true (is-long G.whole) G.minima (filled (not-false w q))
+    pub head_done : not w ≡ false → accepted ≡ first_of (head_reasons s)
+    head_done q = by_tests G.whole.begun true true true (is_long G.whole) G.minima (filled (not-false w q))
 
 -- ---- what the code answers
 
 module _ {s : List ℕ} {old : Dataset} {r : HeadRead} where
-  pub head-stops : {why : Refusal} → r.answer ≡ Refused why → refused (numbered why) ≡ first_of (headReasons s) → HeadGot s old r
-  head-stops {why} e f = record { verdict = ap verdictOf e ∙ f; goes = λ q. absurd (never (sym q ∙ e)) }
+  pub head_stops : {why : Refusal} → r.answer ≡ Refused why → refused (numbered why) ≡ first_of (head_reasons s) → HeadGot s old r
+  head_stops {why} e f = record { verdict = ap verdict_of e ∙ f; goes = λ q. absurd (never (sym q ∙ e)) }
     where
       never : Done ≡ Refused why → ⊥
       never q = let z : ◌≡◌ {A = ℕ} 0 1 = cc in omega arith
 
-  pub head-goes : r.answer ≡ Done → accepted ≡ first_of (headReasons s) → HeadRecord s old r.dataset r.place → HeadGot s old r
-  head-goes e f H = record { verdict = ap verdictOf e ∙ f; goes = λ _. H }
+  pub head_goes : r.answer ≡ Done → accepted ≡ first_of (head_reasons s) → HeadRecord s old r.dataset r.place → HeadGot s old r
+  head_goes e f H = record { verdict = ap verdict_of e ∙ f; goes = λ _. H }

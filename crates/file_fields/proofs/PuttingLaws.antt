@@ -8,71 +8,71 @@ use lib.Dec.{lit≤}
 use lib.ListN.{length, get_or, take}
 use lib.Seq.{length-take-le, get_or-take}
 use Rattle.lists.specs.Lists.{tabulate, over}
-use Rattle.lists.proofs.Tables.{length-tabulate, get_d_tabulate, tabulate-suc, tabulate-is}
-use Rattle.lists.proofs.Members.{flatMap-append, flatMap-one}
+use Rattle.lists.proofs.Tables.{length_tabulate, get_d_tabulate, tabulate_suc, tabulate_is}
+use Rattle.lists.proofs.Members.{flat_map_append, flat_map_one}
 use Rattle.study.specs.Limits.{cell}
 use Rattle.study.specs.declared.Dataset.{Dataset}
-use Rattle.study.specs.Study.{Contents, noTide}
-use Rattle.file_format.specs.Bits.{Field, field, bits_of, allBits, pack, packed}
-use Rattle.file_format.specs.File.{newMark, tideFields, fields, fileWith, fileOf, bitLength}
-use Rattle.file_format.proofs.BitLaws.{total, length-allBits}
-use Rattle.file_format.proofs.RunLaws.{runs-total, values-total}
-use Rattle.file_format.proofs.FileLaws.{bitLength-suc}
-use Rattle.validity.specs.Memory.{State, tideOf, contentsOf, studyOf}
-use Rattle.file_fields.proofs.Lengths.{Sum, length-sum, bitLength-up}
+use Rattle.study.specs.Study.{Contents, no_tide}
+use Rattle.file_format.specs.Bits.{Field, field, bits_of, all_bits, pack, packed}
+use Rattle.file_format.specs.File.{new_mark, tide_fields, fields, file_with, file_of, bit_length}
+use Rattle.file_format.proofs.BitLaws.{total, length_all_bits}
+use Rattle.file_format.proofs.RunLaws.{runs_total, values_total}
+use Rattle.file_format.proofs.FileLaws.{bit_length_suc}
+use Rattle.validity.specs.Memory.{State, tide_of, contents_of, study_of}
+use Rattle.file_fields.proofs.Lengths.{Sum, length_sum, bit_length_up}
 use Rattle.file_fields.specs.Writing.{Adds}
 use Rattle.file_fields.proofs.WritingLaws.{adds_none, adds_then}
-use Rattle.file_fields.specs.Putting.{Writable, TideInside, PutFields, headFields, fileFields}
+use Rattle.file_fields.specs.Putting.{Writable, TideInside, PutFields, head_fields, file_fields}
 
 -- ---- room
 
 module _ {σ : State} {file : List ℕ} (W : Writable σ file) where
   sum : (t : ℕ) → t ≤ 120 → Sum 4 σ.dataset.k t
-  sum t l = length-sum 4 σ.dataset.k t (lit≤ tt) W.study.k-high l
+  sum t l = length_sum 4 σ.dataset.k t (lit≤ tt) W.study.k_high l
 
-  pub head-room : (12 ≤ length file) × (σ.dataset.n ≤ 120)
-  head-room = let s = sum σ.dataset.n W.study.few in (omega (arith, s.first, W.room, W.study.k-low), W.study.few)
+  pub head_room : (12 ≤ length file) × (σ.dataset.n ≤ 120)
+  head_room = let s = sum σ.dataset.n W.study.few in (omega (arith, s.first, W.room, W.study.k_low), W.study.few)
 
   -- in what the file has become
   module _ {at : ℕ} {bs new : List ℕ} (a : Adds file at bs new) where
-    pub counts-room : 12 ≤ length new
-    counts-room = omega (arith, head-room.0, a.same)
+    pub counts_room : 12 ≤ length new
+    counts_room = omega (arith, head_room.0, a.same)
 
-    pub minima-room : {p : ℕ} {cs next : List ℕ} → Adds new p cs next → (σ.dataset.k ≤ 8) × (90 + 7 * σ.dataset.k ≤ 8 * length next)
-    minima-room b = let s = sum σ.dataset.n W.study.few in (W.study.k-high, omega (arith, s.first, W.room, a.same, b.same))
+    pub minima_room : {p : ℕ} {cs next : List ℕ} → Adds new p cs next → (σ.dataset.k ≤ 8) × (90 + 7 * σ.dataset.k ≤ 8 * length next)
+    minima_room b = let s = sum σ.dataset.n W.study.few in (W.study.k_high, omega (arith, s.first, W.room, a.same, b.same))
 
-    pub tide-room : (t : ℕ) {start : ℕ} → t < σ.dataset.n → start ≡ bitLength 4 σ.dataset.k t
+    pub tide_room : (t : ℕ) {start : ℕ} → t < σ.dataset.n → start ≡ bit_length 4 σ.dataset.k t
         → TideInside new σ.distances σ.settings start t
-    tide-room t {start} l e =
+    tide_room t {start} l e =
         let few = W.study.few in
         let s = sum t (omega arith) in
         record {
           few = omega arith;
           long = W.long.distances;
           held = omega (arith, W.long.settings);
-          set = W.study.setting-low t l;
-          inside = omega (arith, bitLength-up 4 σ.dataset.k t σ.dataset.n l, W.room, a.same);
+          set = W.study.setting_low t l;
+          inside = omega (arith, bit_length_up 4 σ.dataset.k t σ.dataset.n l, W.room, a.same);
           low = omega (arith, s.most);
         }
 
 -- ---- fields
 
-allBits-append : (fs gs : List Field) → allBits (fs ++ gs) ≡ allBits fs ++ allBits gs
-unfolding allBits
-allBits-append fs gs = flatMap-append (λ (f : Field). bits_of f.width f.value) fs gs
+all_bits_append : (fs gs : List Field) → all_bits (fs ++ gs) ≡ all_bits fs ++ all_bits gs
+unfolding all_bits
+all_bits_append fs gs = flat_map_append (λ (f : Field). bits_of f.width f.value) fs gs
 
 pub puts_none : {s : List ℕ} {at : ℕ} → PutFields s at [] s
-unfolding allBits flat_map
+unfolding all_bits flat_map
 puts_none = adds_none
 
 pub puts_one : {s : List ℕ} {at : ℕ} (w v : ℕ) {t : List ℕ} → Adds s at (bits_of w v) t → PutFields s at (field w v ∷ []) t
-unfolding allBits
-puts_one {s} {at} w v {t} a = subst (λ bs. Adds s at bs t) (sym (flatMap-one (λ (f : Field). bits_of f.width f.value) (field w v))) a
+unfolding all_bits
+puts_one {s} {at} w v {t} a = subst (λ bs. Adds s at bs t) (sym (flat_map_one (λ (f : Field). bits_of f.width f.value) (field w v))) a
 
 puts_then : {s : List ℕ} {at : ℕ} (fs : List Field) {p : ℕ} (gs : List Field) {t u : List ℕ} → PutFields s at fs t → p ≡ at + total fs
     → PutFields t p gs u → PutFields s at (fs ++ gs) u
 puts_then {s} {at} fs gs {u = u} a e b =
-    subst (λ bs. Adds s at bs u) (sym (allBits-append fs gs)) (adds_then a (e ∙ ap (λ n. at + n) (sym (length-allBits fs))) b)
+    subst (λ bs. Adds s at bs u) (sym (all_bits_append fs gs)) (adds_then a (e ∙ ap (λ n. at + n) (sym (length_all_bits fs))) b)
 
 -- ---- a run of one width: f 0, f 1, ..
 
@@ -86,83 +86,83 @@ run_more {s} {at} w f i {v} {t} {u} a e b =
     subst (λ fs. PutFields s at fs u) more (puts_then (map (field w) (tabulate i f)) (field w v ∷ []) a place b)
   where
     place : at + w * i ≡ at + total (map (field w) (tabulate i f))
-    place = ap (λ x. at + x) (ap (λ x. w * x) (sym (length-tabulate i f)) ∙ sym (values-total w (tabulate i f)))
+    place = ap (λ x. at + x) (ap (λ x. w * x) (sym (length_tabulate i f)) ∙ sym (values_total w (tabulate i f)))
 
     more : map (field w) (tabulate i f) ++ (field w v ∷ []) ≡ map (field w) (tabulate (i + 1) f)
     more =
         ap (λ x. map (field w) (tabulate i f) ++ (field w x ∷ [])) e
         ∙ sym (map-append (field w) (tabulate i f) (f i ∷ []))
-        ∙ ap (map (field w)) (sym (tabulate-suc i f) ∙ ap (λ n. tabulate n f) (sym (add-one i)))
+        ∙ ap (map (field w)) (sym (tabulate_suc i f) ∙ ap (λ n. tabulate n f) (sym (add-one i)))
 
-pub run-done : {s : List ℕ} {at : ℕ} (w : ℕ) (f : ℕ → ℕ) {i n : ℕ} {t : List ℕ} → i ≡ n → PutFields s at (map (field w) (tabulate i f)) t
+pub run_done : {s : List ℕ} {at : ℕ} (w : ℕ) (f : ℕ → ℕ) {i n : ℕ} {t : List ℕ} → i ≡ n → PutFields s at (map (field w) (tabulate i f)) t
     → PutFields s at (map (field w) (tabulate n f)) t
-run-done {s} {at} w f {t = t} e a = subst (λ k. PutFields s at (map (field w) (tabulate k f)) t) e a
+run_done {s} {at} w f {t = t} e a = subst (λ k. PutFields s at (map (field w) (tabulate k f)) t) e a
 
 -- ---- the tides of a dataset
 
 module _ (σ : State) where
   -- a setting and a row
-  pub tide-put : {s : List ℕ} {p : ℕ} (t : ℕ) {v : ℕ} {u w : List ℕ} → v ≡ get_or σ.settings t 0 → PutFields s p (field 3 (v - 1) ∷ []) u
-      → PutFields u (p + 3) (map (field 20) (tabulate t (cell σ.distances t))) w → PutFields s p (tideFields (tideOf σ t)) w
-  unfolding tideFields tideOf
-  tide-put {s} {p} t {v} {u} {w} e a b =
+  pub tide_put : {s : List ℕ} {p : ℕ} (t : ℕ) {v : ℕ} {u w : List ℕ} → v ≡ get_or σ.settings t 0 → PutFields s p (field 3 (v - 1) ∷ []) u
+      → PutFields u (p + 3) (map (field 20) (tabulate t (cell σ.distances t))) w → PutFields s p (tide_fields (tide_of σ t)) w
+  unfolding tide_fields tide_of
+  tide_put {s} {p} t {v} {u} {w} e a b =
       subst (λ x. PutFields s p (field 3 (x - 1) ∷ map (field 20) (tabulate t (cell σ.distances t))) w) e
       (puts_then (field 3 (v - 1) ∷ []) (map (field 20) (tabulate t (cell σ.distances t))) a refl b)
 
   -- the fields of the first t tides
   abbrev up_to : ℕ → List Field
-  up_to t = flat_map tideFields (tabulate t (tideOf σ))
+  up_to t = flat_map tide_fields (tabulate t (tide_of σ))
 
-  tide-total : (t : ℕ) → total (tideFields (tideOf σ t)) ≡ 3 + 20 * t
-  unfolding tideFields tideOf
-  tide-total t = omega (arith, values-total 20 (tabulate t (cell σ.distances t)), length-tabulate t (cell σ.distances t))
+  tide_total : (t : ℕ) → total (tide_fields (tide_of σ t)) ≡ 3 + 20 * t
+  unfolding tide_fields tide_of
+  tide_total t = omega (arith, values_total 20 (tabulate t (cell σ.distances t)), length_tabulate t (cell σ.distances t))
 
-  tides-total : (c k t : ℕ) → bitLength c k t ≡ bitLength c k 0 + total (up_to t)
-  tides-total c k t =
-      ap (bitLength c k) (sym (length-tabulate t (tideOf σ))) ∙ sym (runs-total tideFields noTide (bitLength c k) (tabulate t (tideOf σ)) (λ i l.
-      let h : i < t = omega (arith, length-tabulate t (tideOf σ)) in
-      bitLength-suc c k i ∙ ap (λ x. bitLength c k i + x) (sym (ap (λ y. total (tideFields y)) (get_d_tabulate t (tideOf σ) i noTide h) ∙ tide-total i))))
+  tides_total : (c k t : ℕ) → bit_length c k t ≡ bit_length c k 0 + total (up_to t)
+  tides_total c k t =
+      ap (bit_length c k) (sym (length_tabulate t (tide_of σ))) ∙ sym (runs_total tide_fields no_tide (bit_length c k) (tabulate t (tide_of σ)) (λ i l.
+      let h : i < t = omega (arith, length_tabulate t (tide_of σ)) in
+      bit_length_suc c k i ∙ ap (λ x. bit_length c k i + x) (sym (ap (λ y. total (tide_fields y)) (get_d_tabulate t (tide_of σ) i no_tide h) ∙ tide_total i))))
 
-  pub tides-none : {s : List ℕ} {p : ℕ} → PutFields s p (flat_map tideFields (tabulate 0 (tideOf σ))) s
+  pub tides_none : {s : List ℕ} {p : ℕ} → PutFields s p (flat_map tide_fields (tabulate 0 (tide_of σ))) s
   unfolding tabulate flat_map
-  tides-none = puts_none
+  tides_none = puts_none
 
-  pub tides-more : {s : List ℕ} (c k t : ℕ) {p : ℕ} {u w : List ℕ} → PutFields s (bitLength c k 0) (flat_map tideFields (tabulate t (tideOf σ))) u
-      → p ≡ bitLength c k t → PutFields u p (tideFields (tideOf σ t)) w
-      → PutFields s (bitLength c k 0) (flat_map tideFields (tabulate (t + 1) (tideOf σ))) w
-  tides-more {s} c k t {w = w} a e b =
-      subst (λ fs. PutFields s (bitLength c k 0) fs w) more (puts_then (up_to t) (tideFields (tideOf σ t)) a (e ∙ tides-total c k t) b)
+  pub tides_more : {s : List ℕ} (c k t : ℕ) {p : ℕ} {u w : List ℕ} → PutFields s (bit_length c k 0) (flat_map tide_fields (tabulate t (tide_of σ))) u
+      → p ≡ bit_length c k t → PutFields u p (tide_fields (tide_of σ t)) w
+      → PutFields s (bit_length c k 0) (flat_map tide_fields (tabulate (t + 1) (tide_of σ))) w
+  tides_more {s} c k t {w = w} a e b =
+      subst (λ fs. PutFields s (bit_length c k 0) fs w) more (puts_then (up_to t) (tide_fields (tide_of σ t)) a (e ∙ tides_total c k t) b)
     where
-      more : up_to t ++ tideFields (tideOf σ t) ≡ up_to (t + 1)
+      more : up_to t ++ tide_fields (tide_of σ t) ≡ up_to (t + 1)
       more =
-          ap (λ fs. up_to t ++ fs) (sym (flatMap-one tideFields (tideOf σ t)))
-          ∙ sym (flatMap-append tideFields (tabulate t (tideOf σ)) (tideOf σ t ∷ []))
-          ∙ ap (flat_map tideFields) (sym (tabulate-suc t (tideOf σ)) ∙ ap (λ n. tabulate n (tideOf σ)) (sym (add-one t)))
+          ap (λ fs. up_to t ++ fs) (sym (flat_map_one tide_fields (tide_of σ t)))
+          ∙ sym (flat_map_append tide_fields (tabulate t (tide_of σ)) (tide_of σ t ∷ []))
+          ∙ ap (flat_map tide_fields) (sym (tabulate_suc t (tide_of σ)) ∙ ap (λ n. tabulate n (tide_of σ)) (sym (add-one t)))
 
-  pub tides-done : {s : List ℕ} {p t n : ℕ} {u : List ℕ} → t ≡ n → PutFields s p (flat_map tideFields (tabulate t (tideOf σ))) u
-      → PutFields s p (flat_map tideFields (tabulate n (tideOf σ))) u
-  tides-done {s} {p} {u = u} e a = subst (λ k. PutFields s p (up_to k) u) e a
+  pub tides_done : {s : List ℕ} {p t n : ℕ} {u : List ℕ} → t ≡ n → PutFields s p (flat_map tide_fields (tabulate t (tide_of σ))) u
+      → PutFields s p (flat_map tide_fields (tabulate n (tide_of σ))) u
+  tides_done {s} {p} {u = u} e a = subst (λ k. PutFields s p (up_to k) u) e a
 
 -- ---- the whole file
 
-pub head-put : (r : Dataset) {s a b c d : List ℕ} → PutFields s 0 (field 8 newMark ∷ []) a → PutFields a 8 (field 7 r.n ∷ []) b
-    → PutFields b 15 (field 4 r.k ∷ []) c → PutFields c 19 (field 7 r.minima.b0 ∷ []) d → PutFields s 0 (headFields r) d
-unfolding headFields
-head-put r p q u v =
-    puts_then (field 8 newMark ∷ field 7 r.n ∷ field 4 r.k ∷ []) (field 7 r.minima.b0 ∷ [])
-    (puts_then (field 8 newMark ∷ field 7 r.n ∷ []) (field 4 r.k ∷ [])
-    (puts_then (field 8 newMark ∷ []) (field 7 r.n ∷ []) p refl q) refl u) refl v
+pub head_put : (r : Dataset) {s a b c d : List ℕ} → PutFields s 0 (field 8 new_mark ∷ []) a → PutFields a 8 (field 7 r.n ∷ []) b
+    → PutFields b 15 (field 4 r.k ∷ []) c → PutFields c 19 (field 7 r.minima.b0 ∷ []) d → PutFields s 0 (head_fields r) d
+unfolding head_fields
+head_put r p q u v =
+    puts_then (field 8 new_mark ∷ field 7 r.n ∷ field 4 r.k ∷ []) (field 7 r.minima.b0 ∷ [])
+    (puts_then (field 8 new_mark ∷ field 7 r.n ∷ []) (field 4 r.k ∷ [])
+    (puts_then (field 8 new_mark ∷ []) (field 7 r.n ∷ []) p refl q) refl u) refl v
 
 -- head, counts, minima and tides, one after the other
-pub parts-put : {σ : State} {s t u v w : List ℕ} → Writable σ s → length σ.dataset.withdrawn ≡ 4 → PutFields s 0 (headFields σ.dataset) t
+pub parts_put : {σ : State} {s t u v w : List ℕ} → Writable σ s → length σ.dataset.withdrawn ≡ 4 → PutFields s 0 (head_fields σ.dataset) t
     → PutFields t 26 (map (field 16) (tabulate 4 (λ i. get_or σ.dataset.withdrawn i 0))) u
     → PutFields u 90 (map (field 7) (tabulate σ.dataset.k (λ j. get_or σ.dataset.minima.b j 0))) v
-    → PutFields v (bitLength 4 σ.dataset.k 0) (flat_map tideFields (tabulate σ.dataset.n (tideOf σ))) w → PutFields s 0 (fileFields (contentsOf σ)) w
-unfolding fields contentsOf studyOf headFields bitLength
-parts-put {σ} {s} {w = w} W four a b c d =
+    → PutFields v (bit_length 4 σ.dataset.k 0) (flat_map tide_fields (tabulate σ.dataset.n (tide_of σ))) w → PutFields s 0 (file_fields (contents_of σ)) w
+unfolding fields contents_of study_of head_fields bit_length
+parts_put {σ} {s} {w = w} W four a b c d =
     subst (λ fs. PutFields s 0 fs w) all
-    (puts_then (headFields r) (counts ++ (small ++ tides)) a refl
-    (puts_then counts (small ++ tides) b minima-place (puts_then small tides c tides-place d)))
+    (puts_then (head_fields r) (counts ++ (small ++ tides)) a refl
+    (puts_then counts (small ++ tides) b minima_place (puts_then small tides c tides_place d)))
   where
     r : Dataset
     r = σ.dataset
@@ -174,33 +174,33 @@ parts-put {σ} {s} {w = w} W four a b c d =
     small = map (field 7) (tabulate σ.dataset.k (λ j. get_or σ.dataset.minima.b j 0))
 
     tides : List Field
-    tides = flat_map tideFields (tabulate σ.dataset.n (tideOf σ))
+    tides = flat_map tide_fields (tabulate σ.dataset.n (tide_of σ))
 
-    minima-place : 90 ≡ 26 + total counts
-    minima-place =
-        omega (arith, values-total 16 (tabulate 4 (λ i. get_or r.withdrawn i 0)), length-tabulate 4 (λ i. get_or r.withdrawn i 0))
+    minima_place : 90 ≡ 26 + total counts
+    minima_place =
+        omega (arith, values_total 16 (tabulate 4 (λ i. get_or r.withdrawn i 0)), length_tabulate 4 (λ i. get_or r.withdrawn i 0))
 
-    tides-place : bitLength 4 r.k 0 ≡ 90 + total small
-    tides-place = omega (arith, values-total 7 (tabulate r.k (λ j. get_or r.minima.b j 0)), length-tabulate r.k (λ j. get_or r.minima.b j 0))
+    tides_place : bit_length 4 r.k 0 ≡ 90 + total small
+    tides_place = omega (arith, values_total 7 (tabulate r.k (λ j. get_or r.minima.b j 0)), length_tabulate r.k (λ j. get_or r.minima.b j 0))
 
-    each-count : tabulate 4 (λ i. get_or r.withdrawn i 0) ≡ r.withdrawn
-    each-count = tabulate-is 4 (λ i. get_or r.withdrawn i 0) 0 r.withdrawn four (λ i l. refl)
+    each_count : tabulate 4 (λ i. get_or r.withdrawn i 0) ≡ r.withdrawn
+    each_count = tabulate_is 4 (λ i. get_or r.withdrawn i 0) 0 r.withdrawn four (λ i l. refl)
 
     held : tabulate r.k (λ j. get_or r.minima.b j 0) ≡ take r.k r.minima.b
     held =
-        let eight : r.k ≤ length r.minima.b = omega (arith, W.study.minima.eight, W.study.k-high) in
-        tabulate-is r.k (λ j. get_or r.minima.b j 0) 0 (take r.k r.minima.b) (length-take-le r.k r.minima.b eight)
+        let eight : r.k ≤ length r.minima.b = omega (arith, W.study.minima.eight, W.study.k_high) in
+        tabulate_is r.k (λ j. get_or r.minima.b j 0) 0 (take r.k r.minima.b) (length-take-le r.k r.minima.b eight)
         (λ j m. sym (get_or-take r.k r.minima.b j 0 m))
 
-    all : headFields r ++ (counts ++ (small ++ tides)) ≡ fileFields (contentsOf σ)
+    all : head_fields r ++ (counts ++ (small ++ tides)) ≡ file_fields (contents_of σ)
     all = λ i.
-        field 8 newMark ∷ field 7 (sym (length-tabulate r.n (tideOf σ)) i) ∷ field 4 r.k ∷ field 7 r.minima.b0
-        ∷ (map (field 16) (each-count i) ++ (map (field 7) (held i) ++ tides))
+        field 8 new_mark ∷ field 7 (sym (length_tabulate r.n (tide_of σ)) i) ∷ field 4 r.k ∷ field 7 r.minima.b0
+        ∷ (map (field 16) (each_count i) ++ (map (field 7) (held i) ++ tides))
 
 over_none : (s : List ℕ) → s ≡ over (packed []) s
 unfolding packed pack tabulate
 over_none s = refl
 
-pub file-written : (H : Contents) {s t : List ℕ} → PutFields s 0 (fileFields H) t → t ≡ over (fileOf H) s
-unfolding fileOf fileWith
-file-written H {s} a = (a.next s [] (record { is = over_none s; place = refl; bits = λ p. lit≤ tt; room = omega arith })).is
+pub file_written : (H : Contents) {s t : List ℕ} → PutFields s 0 (file_fields H) t → t ≡ over (file_of H) s
+unfolding file_of file_with
+file_written H {s} a = (a.next s [] (record { is = over_none s; place = refl; bits = λ p. lit≤ tt; room = omega arith })).is

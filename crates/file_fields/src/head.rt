@@ -3,10 +3,10 @@ ghost use Rattle.std.specs.Prelude.{◌≡◌, ◌+◌, ◌-◌, ◌*◌, ◌≤
 ghost use Rattle.lists.specs.Lists.{overwrite};
 ghost use Rattle.study.specs.declared.Answer.TheVariants.{Done, Refused};
 ghost use Rattle.file_format.specs.Bits.{bits_at};
-ghost use Rattle.file_format.specs.File.{countsEnd};
+ghost use Rattle.file_format.specs.File.{counts_end};
 ghost use Rattle.bit_reader.specs.Fields.{BitsRead};
 ghost use Rattle.file_fields.specs.Advance.{ReadTo};
-ghost use Rattle.file_fields.specs.Heading.{Marked, Begun, StartGot, CountsBegin, countAt, minimaStart, MinimaBegin, minimumAt, RecordBegins};
+ghost use Rattle.file_fields.specs.Heading.{Marked, Begun, StartGot, CountsBegin, count_at, minima_start, MinimaBegin, minimum_at, RecordBegins};
 ghost use Rattle.file_fields.specs.Heading.{HeadRecord, HeadGot};
 
 use crate::length::{bit_length, has_length};
@@ -84,7 +84,7 @@ fn read_start(file: &[u8]) -> Start
 // The counts of withdrawals, into memory of their own.
 fn take_counts(file: &[u8], place: Place, withdrawn: &mut [u16], counts: usize) -> Progress
     requires { CountsBegin file.now withdrawn.old counts place }
-    ensures { ReadTo (countsEnd counts) result × (withdrawn.new ≡ overwrite counts (countAt file.now) withdrawn.old) }
+    ensures { ReadTo (counts_end counts) result × (withdrawn.new ≡ overwrite counts (count_at file.now) withdrawn.old) }
 {
     let mut next = place;
     let mut i: usize = 0;
@@ -102,7 +102,7 @@ fn take_counts(file: &[u8], place: Place, withdrawn: &mut [u16], counts: usize) 
 // The k minima, into memory of their own.
 fn take_minima(file: &[u8], place: Place, b: &mut [u8], k: usize) -> Progress
     requires { MinimaBegin file.now b.old k place }
-    ensures { ReadTo (minimaStart file.now + 7 * k) result × (b.new ≡ overwrite k (minimumAt file.now) b.old) }
+    ensures { ReadTo (minima_start file.now + 7 * k) result × (b.new ≡ overwrite k (minimum_at file.now) b.old) }
 {
     let mut next = place;
     let mut j: usize = 0;

@@ -1,15 +1,15 @@
 // The length of a file.
 ghost use Rattle.std.specs.Prelude.{◌≡◌, ◌+◌, ◌/◌, ◌≤◌, eqb};
-ghost use Rattle.study.specs.Limits.{maxTides, maxSettings, maxUsers};
-ghost use Rattle.file_format.specs.File.{bitLength};
+ghost use Rattle.study.specs.Limits.{max_tides, max_settings, max_users};
+ghost use Rattle.file_format.specs.File.{bit_length};
 
 // The bytes of the longest file.
 const MAX_FILE: usize = 17914;
 
 // The bits of a file of n tides without the fill bits; tide n would begin there.
 pub fn bit_length(counts: usize, k: usize, n: usize) -> usize
-    requires { (counts ≤ maxUsers) × (k ≤ maxSettings) × (n ≤ maxTides) }
-    ensures { (result ≡ bitLength counts k n) × (result ≤ 143306) }
+    requires { (counts ≤ max_users) × (k ≤ max_settings) × (n ≤ max_tides) }
+    ensures { (result ≡ bit_length counts k n) × (result ≤ 143306) }
 {
     26 + 16 * counts + 7 * k + 10 * (n * n) - 7 * n
 }

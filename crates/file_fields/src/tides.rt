@@ -1,11 +1,11 @@
 // The tides of a file, one by one, into memory of Read's own: for each its setting (5) and its row (7). A refusal met there ends the reading.
 ghost use Rattle.std.specs.Prelude.{◌≡◌, ◌+◌, ◌*◌, ◌≤◌, ◌<◌, length};
-ghost use Rattle.study.specs.Limits.{maxTides, tableSize};
+ghost use Rattle.study.specs.Limits.{max_tides, table_size};
 ghost use Rattle.file_format.specs.Bits.{bits_at};
 ghost use Rattle.storage.specs.Places.{with_row};
 ghost use Rattle.file_fields.specs.Advance.{ReadTo};
 ghost use Rattle.file_fields.specs.Loading.{TidesRead, TideRead, Reading};
-ghost use Rattle.file_fields.specs.Rows.{rowAt, rowStart, RowBegins, RowChecked};
+ghost use Rattle.file_fields.specs.Rows.{row_record, row_start, RowBegins, RowChecked};
 
 use crate::progress::{Progress, answer_of};
 use bit_reader::{FieldValue, Place, read_field};
@@ -15,8 +15,8 @@ use triangle::{Violation, first_violation};
 // The distances of tide t to the earlier tides: into its row and its column.
 fn take_row(file: &[u8], place: Place, matrix: &mut [u32], t: usize) -> Progress
     requires { RowBegins file.now matrix.old t place }
-    ensures reads { ReadTo (rowStart file.now t + 20 * t) result }
-    ensures row { matrix.new ≡ with_row (rowAt file.now (rowStart file.now t) t) t matrix.old }
+    ensures reads { ReadTo (row_start file.now t + 20 * t) result }
+    ensures row { matrix.new ≡ with_row (row_record file.now (row_start file.now t) t) t matrix.old }
 {
     let mut next = place;
     let mut i: usize = 0;
@@ -35,7 +35,7 @@ fn take_row(file: &[u8], place: Place, matrix: &mut [u32], t: usize) -> Progress
 // Tide t's row in memory: on to `past` where it obeys the triangle inequality with every pair of earlier tides, else the first pair with which
 // it does not.
 fn check_row(matrix: &[u32], t: usize, past: Place) -> Progress
-    requires { (t < maxTides) × (tableSize ≤ length matrix.now) }
+    requires { (t < max_tides) × (table_size ≤ length matrix.now) }
     ensures { RowChecked matrix.now t past result }
 {
     let line = t * MAX_TIDES;

@@ -2,13 +2,13 @@
 ghost use Rattle.std.specs.Prelude.{◌≡◌, cond, ℕ, ◌+◌, ◌*◌, ◌%◌, ◌^◌, ◌≤◌, ◌<◌, eqb, length, get_or};
 ghost use mathlib.Core.List.{[], ◌∷◌, map, flat_map};
 ghost use Rattle.lists.specs.Lists.{tabulate};
-ghost use Rattle.study.specs.Limits.{maxTides, cell, maxSettings, maxUsers};
+ghost use Rattle.study.specs.Limits.{max_tides, cell, max_settings, max_users};
 ghost use Rattle.file_format.specs.Bits.{field, bits_of};
-ghost use Rattle.file_format.specs.File.{tideFields, countsEnd, bitLength, byteLength};
-ghost use Rattle.validity.specs.Memory.{state_of, entryState, tideOf, contentsOf};
+ghost use Rattle.file_format.specs.File.{tide_fields, counts_end, bit_length, byte_length};
+ghost use Rattle.validity.specs.Memory.{state_of, entry_state, tide_of, contents_of};
 ghost use Rattle.file_fields.specs.Writing.{InByte, Adds};
 ghost use Rattle.file_fields.specs.Rows.{RowInside};
-ghost use Rattle.file_fields.specs.Putting.{PutFields, Writable, TideInside, headFields, fileFields};
+ghost use Rattle.file_fields.specs.Putting.{PutFields, Writable, TideInside, head_fields, file_fields};
 
 use crate::length::bit_length;
 use bit_reader::wide;
@@ -16,8 +16,8 @@ use study::{Dataset, MAX_SETTINGS, MAX_TIDES, MAX_USERS};
 
 // The bytes of a file of n tides, the last one filled with zero bits.
 pub fn byte_length(k: usize, n: usize) -> usize
-    requires { (k ≤ maxSettings) × (n ≤ maxTides) }
-    ensures { (result ≡ byteLength maxUsers k n) × (result ≤ 17914) }
+    requires { (k ≤ max_settings) × (n ≤ max_tides) }
+    ensures { (result ≡ byte_length max_users k n) × (result ≤ 17914) }
 {
     (bit_length(MAX_USERS, k, n) + 7) / 8
 }
@@ -74,8 +74,8 @@ fn put_field(file: &mut [u8], at: usize, width: usize, value: u32)
 
 // The fields before the counts.
 fn put_head(file: &mut [u8], dataset: Dataset)
-    requires { (12 ≤ length file.old) × (dataset.n ≤ maxTides) }
-    ensures { PutFields file.old 0 (headFields dataset) file.new }
+    requires { (12 ≤ length file.old) × (dataset.n ≤ max_tides) }
+    ensures { PutFields file.old 0 (head_fields dataset) file.new }
 {
     let minima = dataset.minima;
     put_field(file, 0, 8, 0x55);
@@ -94,7 +94,7 @@ fn wide_count(x: u16) -> u32
 // The count of each user.
 fn put_counts(file: &mut [u8], withdrawn: [u16; MAX_USERS])
     requires { 12 ≤ length file.old }
-    ensures { PutFields file.old 26 (map (field 16) (tabulate maxUsers (λ (i : ℕ). get_or withdrawn i 0))) file.new }
+    ensures { PutFields file.old 26 (map (field 16) (tabulate max_users (λ (i : ℕ). get_or withdrawn i 0))) file.new }
 {
     let mut i: usize = 0;
     while i < MAX_USERS {
@@ -105,8 +105,8 @@ fn put_counts(file: &mut [u8], withdrawn: [u16; MAX_USERS])
 
 // The b's of the settings 1 to k.
 fn put_minima(file: &mut [u8], k: usize, b: [u8; MAX_SETTINGS])
-    requires { (k ≤ maxSettings) × (countsEnd maxUsers + 7 * k ≤ 8 * length file.old) }
-    ensures { PutFields file.old (countsEnd maxUsers) (map (field 7) (tabulate k (λ (j : ℕ). get_or b j 0))) file.new }
+    requires { (k ≤ max_settings) × (counts_end max_users + 7 * k ≤ 8 * length file.old) }
+    ensures { PutFields file.old (counts_end max_users) (map (field 7) (tabulate k (λ (j : ℕ). get_or b j 0))) file.new }
 {
     let mut j: usize = 0;
     while j < k {
@@ -137,7 +137,7 @@ fn put_tide(
     t: usize,
 )
     requires { TideInside file.old distances.now settings.now start t }
-    ensures { PutFields file.old start (tideFields (tideOf (entryState dataset distances settings) t)) file.new }
+    ensures { PutFields file.old start (tide_fields (tide_of (entry_state dataset distances settings) t)) file.new }
 {
     put_field(file, start, 3, wide(settings[t]) - 1);
     put_row(file, start + 3, distances, t);
@@ -146,8 +146,8 @@ fn put_tide(
 // All tides.
 fn put_tides(file: &mut [u8], dataset: Dataset, distances: &[u32], settings: &[u8])
     requires { Writable (state_of dataset distances.now settings.now) file.old }
-    ensures { PutFields file.old (bitLength maxUsers dataset.k 0)
-        (flat_map tideFields (tabulate dataset.n (tideOf (entryState dataset distances settings)))) file.new }
+    ensures { PutFields file.old (bit_length max_users dataset.k 0)
+        (flat_map tide_fields (tabulate dataset.n (tide_of (entry_state dataset distances settings)))) file.new }
 {
     let k = dataset.k as usize;
     let n = dataset.n;
@@ -162,7 +162,7 @@ fn put_tides(file: &mut [u8], dataset: Dataset, distances: &[u32], settings: &[u
 // All fields of the file.
 pub fn put_fields(file: &mut [u8], dataset: Dataset, distances: &[u32], settings: &[u8])
     requires { Writable (state_of dataset distances.now settings.now) file.old }
-    ensures { PutFields file.old 0 (fileFields (contentsOf (entryState dataset distances settings))) file.new }
+    ensures { PutFields file.old 0 (file_fields (contents_of (entry_state dataset distances settings))) file.new }
 {
     let k = dataset.k as usize;
     let minima = dataset.minima;

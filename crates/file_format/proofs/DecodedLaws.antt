@@ -10,11 +10,11 @@ use lib.ListN.{length, get_or, replicate, length-append, length-replicate, get_o
 use lib.Seq.{get_or-append-add}
 use Rattle.lists.specs.Lists.{tabulate}
 use Rattle.lists.proofs.Tests.{split}
-use Rattle.lists.proofs.Tables.{length-tabulate, get_d_tabulate}
-use Rattle.study.specs.Study.{Tide, ValidCounts, size, noTide, tide}
+use Rattle.lists.proofs.Tables.{length_tabulate, get_d_tabulate}
+use Rattle.study.specs.Study.{Tide, ValidCounts, size, no_tide, tide}
 use Rattle.file_format.specs.Bits.{bits_at}
-use Rattle.file_format.specs.File.{newMark, countsEnd, bitLength, countsUnder, mark_of, countsIn, countsAt, tideAt, minimaAt, decoded}
-use Rattle.file_format.proofs.BitLaws.{bitsAt-small}
+use Rattle.file_format.specs.File.{new_mark, counts_end, bit_length, counts_under, mark_of, counts_in, counts_at, tide_at, minima_at, decoded}
+use Rattle.file_format.proofs.BitLaws.{bits_at_small}
 
 module _ (s : List ℕ) where
   abbrev k : ℕ
@@ -22,65 +22,65 @@ module _ (s : List ℕ) where
 
   -- a number of the front of a list that goes on
   front_at : (n : ℕ) (f : ℕ → ℕ) (past : List ℕ) (j : ℕ) → j < n → get_or (tabulate n f ++ past) j 0 ≡ f j
-  front_at n f past j l = get_or-append (tabulate n f) past 0 j (omega (arith, length-tabulate n f)) ∙ get_d_tabulate n f j 0 l
+  front_at n f past j l = get_or-append (tabulate n f) past 0 j (omega (arith, length_tabulate n f)) ∙ get_d_tabulate n f j 0 l
 
-  pub decoded-minimum : (j : ℕ) → j < bits_at s 15 4 → get_or (decoded s).study.minima.b j 0 ≡ bits_at s (countsEnd (countsIn s) + 7 * j) 7
-  unfolding decoded minimaAt
-  decoded-minimum j l = front_at k (λ j. bits_at s (countsEnd (countsIn s) + 7 * j) 7) _ j l
+  pub decoded_minimum : (j : ℕ) → j < bits_at s 15 4 → get_or (decoded s).study.minima.b j 0 ≡ bits_at s (counts_end (counts_in s) + 7 * j) 7
+  unfolding decoded minima_at
+  decoded_minimum j l = front_at k (λ j. bits_at s (counts_end (counts_in s) + 7 * j) 7) _ j l
 
   -- one count, or four
-  pub counts-few : (1 ≤ countsIn s) × (countsIn s ≤ 4)
-  unfolding countsUnder
-  counts-few = by (eqb (mark_of s) newMark)
+  pub counts_few : (1 ≤ counts_in s) × (counts_in s ≤ 4)
+  unfolding counts_under
+  counts_few = by (eqb (mark_of s) new_mark)
     where
       by : (b : Bool) → (1 ≤ cond b 4 1) × (cond b 4 1 ≤ 4)
       by true = (lit≤ tt, lit≤ tt)
       by false = (lit≤ tt, lit≤ tt)
 
-  pub counts-valid : ValidCounts (countsAt s)
-  unfolding countsAt
-  counts-valid =
-      let few = counts-few.1 in
+  pub counts_valid : ValidCounts (counts_at s)
+  unfolding counts_at
+  counts_valid =
+      let few = counts_few.1 in
       record {
-        four = length-append held zeros ∙ omega (arith, length-tabulate c count, length-replicate {A = ℕ} (4 - c) 0);
-        high = λ i l. ⊎_elim (λ h. omega (arith, front_at c count zeros i h, bitsAt-small s (countsEnd i) 16)) (λ h. omega (arith, past i l h)) (split i c);
+        four = length-append held zeros ∙ omega (arith, length_tabulate c count, length-replicate {A = ℕ} (4 - c) 0);
+        high = λ i l. ⊎_elim (λ h. omega (arith, front_at c count zeros i h, bits_at_small s (counts_end i) 16)) (λ h. omega (arith, past i l h)) (split i c);
       }
     where
       c : ℕ
-      c = countsIn s
+      c = counts_in s
 
       count : ℕ → ℕ
-      count i = bits_at s (countsEnd i) 16
+      count i = bits_at s (counts_end i) 16
 
       held : List ℕ
-      held = tabulate (countsIn s) (λ i. bits_at s (countsEnd i) 16)
+      held = tabulate (counts_in s) (λ i. bits_at s (counts_end i) 16)
 
       zeros : List ℕ
-      zeros = replicate (4 - countsIn s) 0
+      zeros = replicate (4 - counts_in s) 0
 
       past : (i : ℕ) → i < 4 → c ≤ i → get_or (held ++ zeros) i 0 ≡ 0
       past i l h =
-          let e : length held + (i - c) ≡ i = omega (arith, length-tabulate c count) in
+          let e : length held + (i - c) ≡ i = omega (arith, length_tabulate c count) in
           ap (λ x. get_or (held ++ zeros) x 0) (sym e) ∙ get_or-append-add held zeros (i - c) 0 ∙ get_or-replicate (4 - c) (i - c) 0 0 (omega arith)
 
-  pub decoded-size : size (decoded s).study ≡ bits_at s 8 7
+  pub decoded_size : size (decoded s).study ≡ bits_at s 8 7
   unfolding decoded
-  decoded-size = length-tabulate (bits_at s 8 7) (tideAt s k)
+  decoded_size = length_tabulate (bits_at s 8 7) (tide_at s k)
 
   -- tide t
   module _ (t : ℕ) (held : t < size (decoded s).study) where
-    pub decoded-tide : tide (decoded s).study t ≡ tideAt s (bits_at s 15 4) t
+    pub decoded_tide : tide (decoded s).study t ≡ tide_at s (bits_at s 15 4) t
     unfolding tide decoded
-    decoded-tide = get_d_tabulate (bits_at s 8 7) (tideAt s k) t noTide (omega (arith, decoded-size))
+    decoded_tide = get_d_tabulate (bits_at s 8 7) (tide_at s k) t no_tide (omega (arith, decoded_size))
 
-    pub decoded-setting : (tide (decoded s).study t).setting ≡ bits_at s (bitLength (countsIn s) (bits_at s 15 4) t) 3 + 1
-    unfolding tideAt
-    decoded-setting = ap (λ (x : Tide). x.setting) decoded-tide
+    pub decoded_setting : (tide (decoded s).study t).setting ≡ bits_at s (bit_length (counts_in s) (bits_at s 15 4) t) 3 + 1
+    unfolding tide_at
+    decoded_setting = ap (λ (x : Tide). x.setting) decoded_tide
 
-    pub decoded-length : length (tide (decoded s).study t).row ≡ t
-    unfolding tideAt
-    decoded-length = ap (λ (x : Tide). length x.row) decoded-tide ∙ length-tabulate t _
+    pub decoded_length : length (tide (decoded s).study t).row ≡ t
+    unfolding tide_at
+    decoded_length = ap (λ (x : Tide). length x.row) decoded_tide ∙ length_tabulate t _
 
-    pub decoded-row : (i : ℕ) → i < t → get_or (tide (decoded s).study t).row i 0 ≡ bits_at s (bitLength (countsIn s) (bits_at s 15 4) t + 3 + 20 * i) 20
-    unfolding tideAt
-    decoded-row i l = ap (λ (x : Tide). get_or x.row i 0) decoded-tide ∙ get_d_tabulate t _ i 0 l
+    pub decoded_row : (i : ℕ) → i < t → get_or (tide (decoded s).study t).row i 0 ≡ bits_at s (bit_length (counts_in s) (bits_at s 15 4) t + 3 + 20 * i) 20
+    unfolding tide_at
+    decoded_row i l = ap (λ (x : Tide). get_or x.row i 0) decoded_tide ∙ get_d_tabulate t _ i 0 l

@@ -7,11 +7,11 @@ use mathlib.Core.Logic.{◌↔◌}
 use mathlib.Core.List.{List, ◌++◌, map, flat_map}
 use lib.ListN.{length, get_or, take}
 use lib.Seq.{length-take-le, get_or-take}
-use Rattle.study.specs.Study.{Tide, Study, size, noTide, tide}
+use Rattle.study.specs.Study.{Tide, Study, size, no_tide, tide}
 use Rattle.file_format.specs.Bits.{Field, field}
-use Rattle.file_format.specs.File.{tideFields, fields, countsEnd, bitLength}
+use Rattle.file_format.specs.File.{tide_fields, fields, counts_end, bit_length}
 use Rattle.file_format.proofs.BitLaws.{Agrees, total}
-use Rattle.file_format.proofs.RunLaws.{total-append, agrees-append, StartsWith, runs-total, runs-agree, values-total, values_agree}
+use Rattle.file_format.proofs.RunLaws.{total_append, agrees_append, StartsWith, runs_total, runs_agree, values_total, values_agree}
 
 -- the lists of the study are as long as the fields ask
 pub record Shaped (S : Study) : Type 0 where
@@ -24,10 +24,10 @@ pub record Laid (g : ℕ → ℕ → ℕ) (m : ℕ) (ws : List ℕ) (S : Study) 
   pub tides : g 8 7 ≡ size S
   pub k : g 15 4 ≡ S.k
   pub b0 : g 19 7 ≡ S.minima.b0
-  pub counts : (i : ℕ) → i < length ws → g (countsEnd i) 16 ≡ get_or ws i 0
-  pub minima : (j : ℕ) → j < S.k → g (countsEnd (length ws) + 7 * j) 7 ≡ get_or S.minima.b j 0
-  pub settings : (t : ℕ) → t < size S → g (bitLength (length ws) S.k t) 3 ≡ (tide S t).setting - 1
-  pub rows : (t i : ℕ) → t < size S → i < t → g (bitLength (length ws) S.k t + 3 + 20 * i) 20 ≡ get_or (tide S t).row i 0
+  pub counts : (i : ℕ) → i < length ws → g (counts_end i) 16 ≡ get_or ws i 0
+  pub minima : (j : ℕ) → j < S.k → g (counts_end (length ws) + 7 * j) 7 ≡ get_or S.minima.b j 0
+  pub settings : (t : ℕ) → t < size S → g (bit_length (length ws) S.k t) 3 ≡ (tide S t).setting - 1
+  pub rows : (t i : ℕ) → t < size S → i < t → g (bit_length (length ws) S.k t + 3 + 20 * i) 20 ≡ get_or (tide S t).row i 0
 
 square : (m : ℕ) → suc m * (suc m - 1) ≡ m * (m - 1) + 2 * m
 square zero = refl
@@ -37,17 +37,17 @@ square (suc m) =
     rw (e, d) (omega (arith, suc-mul (suc m) (suc m), mul-suc (suc m) m))
 
 -- one tide more
-pub bitLength-suc : (c k t : ℕ) → bitLength c k (suc t) ≡ bitLength c k t + (3 + 20 * t)
-unfolding bitLength
-bitLength-suc c k t = omega (arith, square t)
+pub bit_length_suc : (c k t : ℕ) → bit_length c k (suc t) ≡ bit_length c k t + (3 + 20 * t)
+unfolding bit_length
+bit_length_suc c k t = omega (arith, square t)
 
-tide-total : (x : Tide) → total (tideFields x) ≡ 3 + 20 * length x.row
-unfolding tideFields
-tide-total x = omega (arith, values-total 20 x.row)
+tide_total : (x : Tide) → total (tide_fields x) ≡ 3 + 20 * length x.row
+unfolding tide_fields
+tide_total x = omega (arith, values_total 20 x.row)
 
 module _ (m : ℕ) (ws : List ℕ) (S : Study) (shaped : Shaped S) where
   abbrev start : ℕ → ℕ
-  start t = bitLength (length ws) S.k t
+  start t = bit_length (length ws) S.k t
 
   abbrev first : List ℕ
   first = take S.k S.minima.b
@@ -59,39 +59,39 @@ module _ (m : ℕ) (ws : List ℕ) (S : Study) (shaped : Shaped S) where
   abbrev small : List Field
   small = map (field 7) (take S.k S.minima.b)
 
-  abbrev of-tides : List Field
-  of-tides = flat_map tideFields S.tides
+  abbrev of_tides : List Field
+  of_tides = flat_map tide_fields S.tides
 
-  first-length : length first ≡ S.k
-  first-length = length-take-le S.k S.minima.b shaped.minima
+  first_length : length first ≡ S.k
+  first_length = length-take-le S.k S.minima.b shaped.minima
 
-  begins : StartsWith tideFields noTide start S.tides
+  begins : StartsWith tide_fields no_tide start S.tides
   unfolding tide
-  begins t l = bitLength-suc (length ws) S.k t ∙ ap (λ x. start t + x) (sym (tide-total (tide S t) ∙ ap (λ x. 3 + 20 * x) (shaped.rows t l)))
+  begins t l = bit_length_suc (length ws) S.k t ∙ ap (λ x. start t + x) (sym (tide_total (tide S t) ∙ ap (λ x. 3 + 20 * x) (shaped.rows t l)))
 
   -- the minima begin where the counts end, the tides where the minima end
-  minima-begin : 26 + total counted ≡ countsEnd (length ws)
-  minima-begin = omega (arith, values-total 16 ws)
+  minima_begin : 26 + total counted ≡ counts_end (length ws)
+  minima_begin = omega (arith, values_total 16 ws)
 
-  tides-begin : countsEnd (length ws) + total small ≡ start 0
-  unfolding bitLength
-  tides-begin = omega (arith, values-total 7 first, first-length)
+  tides_begin : counts_end (length ws) + total small ≡ start 0
+  unfolding bit_length
+  tides_begin = omega (arith, values_total 7 first, first_length)
 
   -- the bits of all fields
-  pub fields-total : total (fields m ws S) ≡ bitLength (length ws) S.k (size S)
+  pub fields_total : total (fields m ws S) ≡ bit_length (length ws) S.k (size S)
   unfolding fields
-  fields-total =
-      let last = runs-total tideFields noTide start S.tides begins in
-      omega (arith, total-append counted (small ++ of-tides), total-append small of-tides, minima-begin, tides-begin, last)
+  fields_total =
+      let last = runs_total tide_fields no_tide start S.tides begins in
+      omega (arith, total_append counted (small ++ of_tides), total_append small of_tides, minima_begin, tides_begin, last)
 
-  counts : (g : ℕ → ℕ → ℕ) → Agrees g 26 counted ↔ ((i : ℕ) → i < length ws → g (countsEnd i) 16 ≡ get_or ws i 0)
+  counts : (g : ℕ → ℕ → ℕ) → Agrees g 26 counted ↔ ((i : ℕ) → i < length ws → g (counts_end i) 16 ≡ get_or ws i 0)
   counts g = values_agree 16 ws g 26
 
   minima : (g : ℕ → ℕ → ℕ)
-      → Agrees g (countsEnd (length ws)) small ↔ ((j : ℕ) → j < S.k → g (countsEnd (length ws) + 7 * j) 7 ≡ get_or S.minima.b j 0)
+      → Agrees g (counts_end (length ws)) small ↔ ((j : ℕ) → j < S.k → g (counts_end (length ws) + 7 * j) 7 ≡ get_or S.minima.b j 0)
   minima g =
-      let r = values_agree 7 first g (countsEnd (length ws)) in
-      let n = first-length in (
+      let r = values_agree 7 first g (counts_end (length ws)) in
+      let n = first_length in (
         λ a j l. r.0 a j (omega arith) ∙ get_or-take S.k S.minima.b j 0 l,
         λ f. r.1 (λ j l. let h : j < S.k = omega arith in f j h ∙ sym (get_or-take S.k S.minima.b j 0 h)),
       )
@@ -104,32 +104,32 @@ module _ (m : ℕ) (ws : List ℕ) (S : Study) (shaped : Shaped S) where
 
   -- the fields from the counts on
   record After (g : ℕ → ℕ → ℕ) : Type 0 where
-    of-counts : Agrees g 26 counted
-    of-minima : Agrees g (countsEnd (length ws)) small
-    each : (t : ℕ) → t < size S → Agrees g (start t) (tideFields (tide S t))
+    of_counts : Agrees g 26 counted
+    of_minima : Agrees g (counts_end (length ws)) small
+    each : (t : ℕ) → t < size S → Agrees g (start t) (tide_fields (tide S t))
 
-  after-T : (g : ℕ → ℕ → ℕ) → Agrees g 26 (counted ++ (small ++ of-tides)) ↔ After g
+  after-T : (g : ℕ → ℕ → ℕ) → Agrees g 26 (counted ++ (small ++ of_tides)) ↔ After g
   unfolding tide
   after-T g =
-      let three = agrees-append g 26 counted (small ++ of-tides) in
-      let two = agrees-append g (countsEnd (length ws)) small of-tides in
-      let runs = runs-agree tideFields noTide g start S.tides begins in (
+      let three = agrees_append g 26 counted (small ++ of_tides) in
+      let two = agrees_append g (counts_end (length ws)) small of_tides in
+      let runs = runs_agree tide_fields no_tide g start S.tides begins in (
         λ a. let split = three.0 a in
-            let rest = two.0 (subst (λ p. Agrees g p (small ++ of-tides)) minima-begin split.1) in
+            let rest = two.0 (subst (λ p. Agrees g p (small ++ of_tides)) minima_begin split.1) in
             record {
-              of-counts = split.0;
-              of-minima = rest.0;
-              each = runs.0 (subst (λ p. Agrees g p of-tides) tides-begin rest.1);
+              of_counts = split.0;
+              of_minima = rest.0;
+              each = runs.0 (subst (λ p. Agrees g p of_tides) tides_begin rest.1);
             },
         λ A. three.1 (
-          A.of-counts,
-          subst (λ p. Agrees g p (small ++ of-tides)) (sym minima-begin)
-              (two.1 (A.of-minima, subst (λ p. Agrees g p of-tides) (sym tides-begin) (runs.1 A.each))),
+          A.of_counts,
+          subst (λ p. Agrees g p (small ++ of_tides)) (sym minima_begin)
+              (two.1 (A.of_minima, subst (λ p. Agrees g p of_tides) (sym tides_begin) (runs.1 A.each))),
         ),
       )
 
   pub laid-T : (g : ℕ → ℕ → ℕ) → Agrees g 0 (fields m ws S) ↔ Laid g m ws S
-  unfolding fields tideFields
+  unfolding fields tide_fields
   laid-T g = (
     λ a. let A = (after-T g).0 a.1.1.1.1 in
         record {
@@ -137,14 +137,14 @@ module _ (m : ℕ) (ws : List ℕ) (S : Study) (shaped : Shaped S) where
           tides = a.1.0;
           k = a.1.1.0;
           b0 = a.1.1.1.0;
-          counts = (counts g).0 A.of-counts;
-          minima = (minima g).0 A.of-minima;
+          counts = (counts g).0 A.of_counts;
+          minima = (minima g).0 A.of_minima;
           settings = λ t l. (A.each t l).0;
           rows = λ t i l. (row g t l).0 (A.each t l).1 i;
         },
     λ h. let A = (after-T g).1 record {
-      of-counts = (counts g).1 h.counts;
-      of-minima = (minima g).1 h.minima;
+      of_counts = (counts g).1 h.counts;
+      of_minima = (minima g).1 h.minima;
       each = λ t l. (h.settings t l, (row g t l).1 (λ i. h.rows t i l));
     } in (h.mark, (h.tides, (h.k, (h.b0, A)))),
   )

@@ -1,23 +1,23 @@
 -- The theorems of Theorems.antt. Assumes nothing.
 use mathlib.Core.Path.{refl}
-use Rattle.file_format.specs.File.{bitLength, byteLength}
+use Rattle.file_format.specs.File.{bit_length, byte_length}
 use Rattle.file_format.specs.Theorems.{Files}
-use Rattle.file_format.proofs.WrittenLaws.{file-bytes, file-length, file-accepted, decoded-file, old-accepted, old-decoded}
-use Rattle.file_format.proofs.AcceptedLaws.{accepted-valid, accepted-mark, accepted-new, accepted-old}
+use Rattle.file_format.proofs.WrittenLaws.{file_bytes, file_length, file_accepted, decoded_file, old_accepted, old_decoded}
+use Rattle.file_format.proofs.AcceptedLaws.{accepted_valid, accepted_mark, accepted_new, accepted_old}
 
 pub files : Files
-unfolding bitLength byteLength
+unfolding bit_length byte_length
 files =
     record {
-      bytes = file-bytes;
-      file-length = file-length;
+      bytes = file_bytes;
+      file_length = file_length;
       greatest = refl;
-      accepts = file-accepted;
-      gives = decoded-file;
-      valid = accepted-valid;
-      marked = accepted-mark;
-      only = λ s b e. accepted-new s e b;
-      old-only = λ s b e. accepted-old s e b;
-      old-accepts = old-accepted;
-      old-gives = old-decoded;
+      accepts = file_accepted;
+      gives = decoded_file;
+      valid = accepted_valid;
+      marked = accepted_mark;
+      only = λ s b e. accepted_new s e b;
+      old_only = λ s b e. accepted_old s e b;
+      old_accepts = old_accepted;
+      old_gives = old_decoded;
     }

@@ -35,8 +35,8 @@ bits_of zero v = []
 bits_of (suc w) v = bits_of w (v / 2) ++ (v % 2 ∷ [])
 
 -- the bits of fields, one field after the other
-unfoldable pub allBits : List Field → List ℕ
-allBits fs = flat_map (λ (f : Field). bits_of f.width f.value) fs
+unfoldable pub all_bits : List Field → List ℕ
+all_bits fs = flat_map (λ (f : Field). bits_of f.width f.value) fs
 
 -- m bytes, where bit p is f p
 unfoldable pub pack : ℕ → (ℕ → ℕ) → List ℕ

@@ -1,23 +1,23 @@
 -- Document 01's "Tides on a line", the cases marked P, as one list of questions and replies; cases of document 02, 2.6, 2.7 and 2.8; and the
--- order of Read's reasons. The questions ask the definitions that the contracts of the calls cite. There are no proofs here: `worked-cases`,
--- `nearest-first`, `old-read`, `by-file`, `valid-studies` and `in_order` of CasesProof.antt prove the statements. Assumes nothing.
+-- order of Read's reasons. The questions ask the definitions that the contracts of the calls cite. There are no proofs here: `worked_cases`,
+-- `nearest_first`, `old_read`, `by_file`, `valid_studies` and `in_order` of CasesProof.antt prove the statements. Assumes nothing.
 use Rattle.std.specs.Prelude.{ℕ, ◌+◌, ◌-◌, ◌≡◌, Bool, true, false, length, get_or, take, replicate}
 use mathlib.Core.List.{List, [], ◌∷◌, ◌++◌, map, flat_map}
 use Rattle.lists.specs.Lists.{◌among◌, tabulate}
-use Rattle.study.specs.Limits.{maxUsers}
+use Rattle.study.specs.Limits.{max_users}
 use Rattle.study.specs.declared.BlockRecord.{BlockRecord}
 use Rattle.study.specs.Problem.{assignable, blocking}
 use Rattle.study.specs.Study.{Tide, Study, Contents, size, problem, Valid}
 use Rattle.study.specs.Refusals.{number, seven, Reply, value, refusal, replied, first_of}
-use Rattle.study.specs.Calls.{opened, opening, enterReasons, entering, blockReasons, Figures, figures, blockRecord}
-use Rattle.study.specs.Calls.{judgeReasons, Judgement, approval, judgement}
-use Rattle.file_format.specs.File.{fileOf, decoded, readReasons}
+use Rattle.study.specs.Calls.{opened, opening, enter_reasons, entering, block_reasons, Figures, figures, block_record}
+use Rattle.study.specs.Calls.{judge_reasons, Judgement, approval, judgement}
+use Rattle.file_format.specs.File.{file_of, decoded, read_reasons}
 
 -- ---- studies
 
 -- tide t of those at these positions, with these settings (1 where the list ends): distance is the difference of positions
-unfoldable pub tideOn : List ℕ → List ℕ → ℕ → Tide
-tideOn settings positions t =
+unfoldable pub tide_on : List ℕ → List ℕ → ℕ → Tide
+tide_on settings positions t =
     let p = get_or positions t 0 in
     record { setting = get_or settings t 1; row = map (λ q. (q - p) + (p - q)) (take t positions) }
 
@@ -27,7 +27,7 @@ line k b0 b settings positions =
     record {
       k = k;
       minima = record { b0 = b0; b = tabulate 8 (λ j. get_or b j 0) };
-      tides = tabulate (length positions) (tideOn settings positions);
+      tides = tabulate (length positions) (tide_on settings positions);
     }
 
 -- where not given, k = 1 and each b is 0
@@ -36,7 +36,7 @@ plain b0 positions = line 1 b0 [] [] positions
 
 -- nothing withdrawn
 abbrev pub fresh : Study → Contents
-fresh S = record { study = S; withdrawals = replicate maxUsers 0 }
+fresh S = record { study = S; withdrawals = replicate max_users 0 }
 
 -- ---- questions and replies
 
@@ -45,7 +45,7 @@ pub data Question : Type 0 where
   -- Block, lent a list and records of n places
   block_of : Study → Question
   -- whether there is an assignment (document 01: filling) at g
-  assignable-at : Study → ℕ → Question
+  assignable_at : Study → ℕ → Question
   -- Judge, given a list
   judge : Study → List ℕ → Question
   -- Enter, given a setting and a row
@@ -67,13 +67,13 @@ pub data CaseValue : Type 0 where
 -- the first reason of the call that holds, or what the call answers and leaves
 unfoldable pub reply : Question → Reply CaseValue
 reply (block_of S) =
-    replied (first_of (blockReasons S (size S) (size S)))
-    (blocked (figures S) (blocking (problem S)) (tabulate (figures S).blocks (blockRecord S)))
-reply (assignable-at S g) = value (is (assignable (problem S) g))
-reply (judge S list) = replied (first_of (judgeReasons S list)) (judged (judgement S list))
-reply (enter S setting row) = replied (first_of (enterReasons S setting row)) (holds (entering setting row (fresh S)))
-reply (write H) = value (file (fileOf H))
-reply (read s) = replied (first_of (readReasons s)) (holds (decoded s))
+    replied (first_of (block_reasons S (size S) (size S)))
+    (blocked (figures S) (blocking (problem S)) (tabulate (figures S).blocks (block_record S)))
+reply (assignable_at S g) = value (is (assignable (problem S) g))
+reply (judge S list) = replied (first_of (judge_reasons S list)) (judged (judgement S list))
+reply (enter S setting row) = replied (first_of (enter_reasons S setting row)) (holds (entering setting row (fresh S)))
+reply (write H) = value (file (file_of H))
+reply (read s) = replied (first_of (read_reasons s)) (holds (decoded s))
 
 -- a question with the reply that document 01 gives
 pub record WorkedCase : Type 0 where
@@ -90,12 +90,12 @@ abbrev pub AsGiven : List WorkedCase → Type 0
 AsGiven cs = map (λ (c : WorkedCase). reply c.asked) cs ≡ map (λ (c : WorkedCase). c.given) cs
 
 -- block count, radius (document 01: reach), greatest diameter (widest)
-abbrev pub figuresOf : ℕ → ℕ → ℕ → Figures
-figuresOf c r w = record { blocks = c; radius = r; widest = w }
+abbrev pub figures_of : ℕ → ℕ → ℕ → Figures
+figures_of c r w = record { blocks = c; radius = r; widest = w }
 
 -- centre, tides, diameter
-abbrev pub recordOf : ℕ → ℕ → ℕ → BlockRecord
-recordOf c t d = record { centre = c; tides = t; diameter = d }
+abbrev pub record_of : ℕ → ℕ → ℕ → BlockRecord
+record_of c t d = record { centre = c; tides = t; diameter = d }
 
 -- ---- the worked cases
 
@@ -124,29 +124,29 @@ unfoldable pub case7 : Study
 case7 = plain 1 (0 ∷ 3 ∷ [])
 
 -- the printed sheet's: one tide, k = 1, b0 = 1
-unfoldable pub one-tide : Study
-one-tide = plain 1 (0 ∷ [])
+unfoldable pub one_tide : Study
+one_tide = plain 1 (0 ∷ [])
 
 -- the worked cases of document 01, in its order
 unfoldable pub cases : List WorkedCase
 cases =
     -- 1: at 3 there is no filling; at 4 there is one again
-    (block_of case1 gives value (blocked (figuresOf 2 2 4) (1 ∷ 2 ∷ 1 ∷ 1 ∷ 2 ∷ 2 ∷ []) (recordOf 1 3 2 ∷ recordOf 2 3 4 ∷ [])))
-    ∷ (assignable-at case1 3 gives value (is false))
-    ∷ (assignable-at case1 4 gives value (is true))
+    (block_of case1 gives value (blocked (figures_of 2 2 4) (1 ∷ 2 ∷ 1 ∷ 1 ∷ 2 ∷ 2 ∷ []) (record_of 1 3 2 ∷ record_of 2 3 4 ∷ [])))
+    ∷ (assignable_at case1 3 gives value (is false))
+    ∷ (assignable_at case1 4 gives value (is true))
     -- 2
-    ∷ (block_of case2 gives value (blocked (figuresOf 2 1 1) (1 ∷ 1 ∷ 2 ∷ 2 ∷ []) (recordOf 1 2 1 ∷ recordOf 3 2 1 ∷ [])))
+    ∷ (block_of case2 gives value (blocked (figures_of 2 1 1) (1 ∷ 1 ∷ 2 ∷ 2 ∷ []) (record_of 1 2 1 ∷ record_of 3 2 1 ∷ [])))
     -- 3: a division of widest 2 exists
-    ∷ (block_of case3 gives value (blocked (figuresOf 1 2 4) (1 ∷ 1 ∷ 1 ∷ 1 ∷ []) (recordOf 1 4 4 ∷ [])))
+    ∷ (block_of case3 gives value (blocked (figures_of 1 2 4) (1 ∷ 1 ∷ 1 ∷ 1 ∷ []) (record_of 1 4 4 ∷ [])))
     ∷ (judge case3 (1 ∷ 1 ∷ 2 ∷ 2 ∷ []) gives value (judged (approval 2)))
     -- 4
-    ∷ (block_of case4 gives value (blocked (figuresOf 2 5 5) (1 ∷ 2 ∷ 1 ∷ 1 ∷ 2 ∷ []) (recordOf 1 3 5 ∷ recordOf 2 2 5 ∷ [])))
+    ∷ (block_of case4 gives value (blocked (figures_of 2 5 5) (1 ∷ 2 ∷ 1 ∷ 1 ∷ 2 ∷ []) (record_of 1 3 5 ∷ record_of 2 2 5 ∷ [])))
     -- 5
-    ∷ (block_of case5 gives value (blocked (figuresOf 1 0 0) (1 ∷ 1 ∷ 1 ∷ []) (recordOf 1 3 0 ∷ [])))
-    ∷ (block_of (plain 1 (0 ∷ 5 ∷ [])) gives value (blocked (figuresOf 2 0 0) (1 ∷ 2 ∷ []) (recordOf 1 1 0 ∷ recordOf 2 1 0 ∷ [])))
+    ∷ (block_of case5 gives value (blocked (figures_of 1 0 0) (1 ∷ 1 ∷ 1 ∷ []) (record_of 1 3 0 ∷ [])))
+    ∷ (block_of (plain 1 (0 ∷ 5 ∷ [])) gives value (blocked (figures_of 2 0 0) (1 ∷ 2 ∷ []) (record_of 1 1 0 ∷ record_of 2 1 0 ∷ [])))
     -- 6
     ∷ (block_of (plain 3 (0 ∷ 5 ∷ [])) gives refusal (number 25))
-    ∷ (block_of (plain 2 (0 ∷ 5 ∷ [])) gives value (blocked (figuresOf 1 5 5) (1 ∷ 1 ∷ []) (recordOf 1 2 5 ∷ [])))
+    ∷ (block_of (plain 2 (0 ∷ 5 ∷ [])) gives value (blocked (figures_of 1 5 5) (1 ∷ 1 ∷ []) (record_of 1 2 5 ∷ [])))
     -- 7: a third tide
     ∷ (enter case7 1 (1 ∷ 2 ∷ []) gives value (holds (fresh (plain 1 (0 ∷ 3 ∷ 1 ∷ [])))))
     ∷ (enter case7 1 (1 ∷ 4 ∷ []) gives value (holds (fresh (plain 1 (1 ∷ 4 ∷ 0 ∷ [])))))
@@ -158,7 +158,7 @@ cases =
     ∷ (read (0x55 ∷ 0x00 ∷ 0x20 ∷ 0x40 ∷ (replicate 8 0 ++ (0x01 ∷ []))) gives refusal (number 11))
     ∷ (read (0x55 ∷ 0x00 ∷ 0x20 ∷ 0x40 ∷ 0x00 ∷ 0x00 ∷ []) gives refusal (number 8))
     -- the file of the printed sheet, anew
-    ∷ (write (fresh one-tide) gives value (file (0x55 ∷ 0x02 ∷ 0x20 ∷ 0x40 ∷ replicate 9 0)))
+    ∷ (write (fresh one_tide) gives value (file (0x55 ∷ 0x02 ∷ 0x20 ∷ 0x40 ∷ replicate 9 0)))
     ∷ []
 
 -- the definitions give what document 01 gives
@@ -172,10 +172,10 @@ unfoldable pub nearest : List WorkedCase
 nearest =
     -- tide 3 is at 1 from block 2's centre and at 40 from block 1's; by number alone it would be in block 1
     (block_of (plain 2 (0 ∷ 41 ∷ 40 ∷ 40 ∷ []))
-    gives value (blocked (figuresOf 2 40 40) (1 ∷ 2 ∷ 2 ∷ 1 ∷ []) (recordOf 1 2 40 ∷ recordOf 2 2 1 ∷ [])))
+    gives value (blocked (figures_of 2 40 40) (1 ∷ 2 ∷ 2 ∷ 1 ∷ []) (record_of 1 2 40 ∷ record_of 2 2 1 ∷ [])))
     -- of the three tides at 40 the last one goes to block 1, which lacks a tide; the one at 1 stays there
     ∷ (block_of (plain 3 (0 ∷ 41 ∷ 40 ∷ 1 ∷ 40 ∷ 40 ∷ []))
-    gives value (blocked (figuresOf 2 40 40) (1 ∷ 2 ∷ 2 ∷ 1 ∷ 2 ∷ 1 ∷ []) (recordOf 1 3 40 ∷ recordOf 2 3 1 ∷ [])))
+    gives value (blocked (figures_of 2 40 40) (1 ∷ 2 ∷ 2 ∷ 1 ∷ 2 ∷ 1 ∷ []) (record_of 1 3 40 ∷ record_of 2 3 1 ∷ [])))
     ∷ []
 
 -- the definitions give these lists
@@ -190,7 +190,7 @@ old =
     (read (0x54 ∷ 0x00 ∷ 0x20 ∷ 0x40 ∷ 0x00 ∷ 0x00 ∷ 0x00 ∷ []) gives value (holds (opening 1)))
     ∷ (read (0x54 ∷ 0x00 ∷ 0x20 ∷ 0x40 ∷ 0x00 ∷ 0x00 ∷ 0x01 ∷ []) gives refusal (number 11))
     ∷ (read (0x54 ∷ 0x00 ∷ 0x20 ∷ 0x40 ∷ 0x00 ∷ 0x00 ∷ []) gives refusal (number 8))
-    ∷ (read (0x54 ∷ 0x02 ∷ 0x20 ∷ 0x40 ∷ 0x00 ∷ 0x00 ∷ 0x00 ∷ []) gives value (holds (fresh one-tide)))
+    ∷ (read (0x54 ∷ 0x02 ∷ 0x20 ∷ 0x40 ∷ 0x00 ∷ 0x00 ∷ 0x00 ∷ []) gives value (holds (fresh one_tide)))
     ∷ (read (0x54 ∷ 0x00 ∷ 0x20 ∷ 0x7f ∷ 0xff ∷ 0xc0 ∷ 0x00 ∷ [])
     gives value (holds (record { study = opened 1; withdrawals = 65535 ∷ 0 ∷ 0 ∷ 0 ∷ [] })))
     -- and the same of mark 55: 65,535, 1, 2 and 3
@@ -209,10 +209,10 @@ unfoldable pub stored : List WorkedCase
 stored =
     (enter (plain 2 (2 ∷ 0 ∷ [])) 1 (0 ∷ 2 ∷ []) gives refusal (number 15))
     ∷ (enter (plain 2 (0 ∷ 10 ∷ 5 ∷ [])) 1 (5 ∷ 5 ∷ 0 ∷ []) gives refusal (number 15))
-    ∷ (enter one-tide 1 (0 ∷ []) gives refusal (number 15))
-    ∷ (read (fileOf (fresh case3)) gives value (holds (fresh case3)))
-    ∷ (read (fileOf (fresh case4)) gives value (holds (fresh case4)))
-    ∷ (read (fileOf (fresh case5)) gives value (holds (fresh case5)))
+    ∷ (enter one_tide 1 (0 ∷ []) gives refusal (number 15))
+    ∷ (read (file_of (fresh case3)) gives value (holds (fresh case3)))
+    ∷ (read (file_of (fresh case4)) gives value (holds (fresh case4)))
+    ∷ (read (file_of (fresh case5)) gives value (holds (fresh case5)))
     ∷ (enter (line 2 1 [] (1 ∷ []) (0 ∷ [])) 2 (0 ∷ []) gives value (holds (fresh (line 2 1 [] (1 ∷ 2 ∷ []) (0 ∷ 0 ∷ [])))))
     ∷ []
 
@@ -223,17 +223,17 @@ ByFile = AsGiven stored
 -- ---- every study asked about is valid; so its minima have all eight b's and pass reason 3
 
 -- the study that a question asks about
-unfoldable pub studyIn : Question → List Study
-studyIn (block_of S) = S ∷ []
-studyIn (assignable-at S g) = S ∷ []
-studyIn (judge S list) = S ∷ []
-studyIn (enter S setting row) = S ∷ []
-studyIn (write H) = H.study ∷ []
-studyIn (read s) = []
+unfoldable pub study_in : Question → List Study
+study_in (block_of S) = S ∷ []
+study_in (assignable_at S g) = S ∷ []
+study_in (judge S list) = S ∷ []
+study_in (enter S setting row) = S ∷ []
+study_in (write H) = H.study ∷ []
+study_in (read s) = []
 
 -- the studies of all worked cases
 unfoldable pub studies : List Study
-studies = flat_map (λ (c : WorkedCase). studyIn c.asked) (cases ++ nearest)
+studies = flat_map (λ (c : WorkedCase). study_in c.asked) (cases ++ nearest)
 
 -- each of them is valid
 abbrev pub ValidStudies : Type 0

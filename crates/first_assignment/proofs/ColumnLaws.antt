@@ -11,12 +11,12 @@ use lib.ListN.{length, set, length-set}
 use lib.Seq.{get_or-set_same, get_or-set_other}
 use Rattle.lists.specs.Lists.{bit}
 use Rattle.lists.proofs.Tests.{split, eq→eqb}
-use Rattle.study.specs.Limits.{maxTides, tableSize, cell}
+use Rattle.study.specs.Limits.{max_tides, table_size, cell}
 use Rattle.promise.specs.Promise.{Test, allows, Assigned}
 use Rattle.first_assignment.specs.Column.{Column, Narrowed}
 
-pub column-none : (t : ℕ) (May : ℕ → Type 0) (old : List ℕ) → Column 0 t May old old
-column-none t May old = record { same_length = refl; here = λ m l. absurd (omega arith); other = λ x m l e. (λ h. h, λ h. h) }
+pub column_none : (t : ℕ) (May : ℕ → Type 0) (old : List ℕ) → Column 0 t May old old
+column_none t May old = record { same_length = refl; here = λ m l. absurd (omega arith); other = λ x m l e. (λ h. h, λ h. h) }
 
 -- one after the other
 both : {A B C : Type 0} → A ↔ B → B ↔ C → A ↔ C
@@ -27,34 +27,34 @@ abbrev Allowing : ℕ → Type 0
 Allowing v = T (not (eqb v 0))
 
 -- row i is written
-column-more : {i t : ℕ} {May : ℕ → Type 0} {old new : List ℕ} (v : ℕ) → t < maxTides → i < maxTides → tableSize ≤ length old
-    → Column i t May old new → Allowing v ↔ May i → Column (i + 1) t May old (set new (i * maxTides + t) v)
+column_more : {i t : ℕ} {May : ℕ → Type 0} {old new : List ℕ} (v : ℕ) → t < max_tides → i < max_tides → table_size ≤ length old
+    → Column i t May old new → Allowing v ↔ May i → Column (i + 1) t May old (set new (i * max_tides + t) v)
 unfolding allows
-column-more {i} {t} {May} {old} {new} v tl il long C e =
+column_more {i} {t} {May} {old} {new} v tl il long C e =
     record {
       same_length = simp length-set C.same_length;
       here = λ m l.
           ⊎_elim
           (λ k. both (elsewhere t m tl (λ z. omega arith)) (C.here m k))
-          (λ k. subst (λ z. T (allows (set new (i * maxTides + t) v) t z) ↔ May z) (omega arith) written)
+          (λ k. subst (λ z. T (allows (set new (i * max_tides + t) v) t z) ↔ May z) (omega arith) written)
           (split m i);
       other = λ x m l f.
           both (elsewhere x m l (λ z. let k = f z.0 in omega arith)) (C.other x m l (λ z. let k = f z in omega arith));
     }
   where
-    written : T (allows (set new (i * maxTides + t) v) t i) ↔ May i
+    written : T (allows (set new (i * max_tides + t) v) t i) ↔ May i
     written =
-        let q = get_or-set_same new (i * maxTides + t) v 0 (omega (arith, C.same_length)) in
+        let q = get_or-set_same new (i * max_tides + t) v 0 (omega (arith, C.same_length)) in
         (λ h. e.0 (subst Allowing q h), λ h. subst Allowing (sym q) (e.1 h))
 
-    elsewhere : (x m : ℕ) → x < maxTides → ((x ≡ t) × (m ≡ i) → ⊥)
-        → T (allows (set new (i * maxTides + t) v) x m) ↔ T (allows new x m)
+    elsewhere : (x m : ℕ) → x < max_tides → ((x ≡ t) × (m ≡ i) → ⊥)
+        → T (allows (set new (i * max_tides + t) v) x m) ↔ T (allows new x m)
     elsewhere x m k n =
-        let q = get_or-set_other new (i * maxTides + t) (m * maxTides + x) v 0 (λ z. n (omega arith, omega arith)) in
+        let q = get_or-set_other new (i * max_tides + t) (m * max_tides + x) v 0 (λ z. n (omega arith, omega arith)) in
         (λ h. subst Allowing q h, λ h. subst Allowing (sym q) h)
 
-pub column-done : {i blocks t : ℕ} {May : ℕ → Type 0} {old new : List ℕ} → i ≡ blocks → Column i t May old new → Column blocks t May old new
-column-done {t = t} {May = May} {old = old} {new = new} e C = subst (λ z. Column z t May old new) e C
+pub column_done : {i blocks t : ℕ} {May : ℕ → Type 0} {old new : List ℕ} → i ≡ blocks → Column i t May old new → Column blocks t May old new
+column_done {t = t} {May = May} {old = old} {new = new} e C = subst (λ z. Column z t May old new) e C
 
 -- rewritten twice, the second time whatever stood there
 pub column_again : {i t : ℕ} {May Then : ℕ → Type 0} {a b c : List ℕ} → Column i t May a b → Column i t Then b c → Column i t Then a c
@@ -67,51 +67,51 @@ column_again C D =
 
 -- ---- the two ways in which it is rewritten
 
-kept-or-none : (b : Bool) (x : ℕ) → Allowing (cond b x 0) ↔ (Allowing x × T b)
-kept-or-none true x = (λ h. (h, tt), λ h. h.0)
-kept-or-none false x = (λ h. absurd h, λ h. absurd h.1)
+kept_or_none : (b : Bool) (x : ℕ) → Allowing (cond b x 0) ↔ (Allowing x × T b)
+kept_or_none true x = (λ h. (h, tt), λ h. h.0)
+kept_or_none false x = (λ h. absurd h, λ h. absurd h.1)
 
 -- an entry stays where the block's rank is below a limit, and goes otherwise
-pub restrict-more : {i t limit : ℕ} {rank : ℕ → ℕ} {old new : List ℕ} (v : ℕ) → t < maxTides → i < maxTides → tableSize ≤ length old
+pub restrict_more : {i t limit : ℕ} {rank : ℕ → ℕ} {old new : List ℕ} (v : ℕ) → t < max_tides → i < max_tides → table_size ≤ length old
     → Narrowed i t (λ m. rank m < limit) old new → v ≡ cond (ltb (rank i) limit) (cell new i t) 0
-    → Narrowed (i + 1) t (λ m. rank m < limit) old (set new (i * maxTides + t) v)
+    → Narrowed (i + 1) t (λ m. rank m < limit) old (set new (i * max_tides + t) v)
 unfolding allows
-restrict-more {i} {t} {limit} {rank} {new = new} v tl il long C e =
+restrict_more {i} {t} {limit} {rank} {new = new} v tl il long C e =
     let o = C.other t i tl (λ q. omega arith) in
-    let k = kept-or-none (ltb (rank i) limit) (cell new i t) in
-    column-more v tl il long C (
+    let k = kept_or_none (ltb (rank i) limit) (cell new i t) in
+    column_more v tl il long C (
       λ h. let q = k.0 (subst Allowing e h) in (o.0 q.0, ltb→lt (rank i) limit q.1),
       λ h. subst Allowing (sym e) (k.1 (o.1 h.0, lt→ltb (rank i) limit h.1)),
     )
 
-allowing-bit : (b : Bool) → Allowing (bit b) ↔ T b
-allowing-bit true = (λ h. h, λ h. h)
-allowing-bit false = (λ h. h, λ h. h)
+allowing_bit : (b : Bool) → Allowing (bit b) ↔ T b
+allowing_bit true = (λ h. h, λ h. h)
+allowing_bit false = (λ h. h, λ h. h)
 
 -- no entry is left but v's
-pub fix-more : {i t v : ℕ} {old new : List ℕ} (w : ℕ) → t < maxTides → i < maxTides → tableSize ≤ length old
-    → Column i t (λ m. m ≡ v) old new → w ≡ bit (eqb i v) → Column (i + 1) t (λ m. m ≡ v) old (set new (i * maxTides + t) w)
-fix-more {i} {v = v} w tl il long C e =
-    let k = allowing-bit (eqb i v) in
-    column-more w tl il long C (λ h. eqb→eq i v (k.0 (subst Allowing e h)), λ h. subst Allowing (sym e) (k.1 (eq→eqb i v h)))
+pub fix_more : {i t v : ℕ} {old new : List ℕ} (w : ℕ) → t < max_tides → i < max_tides → table_size ≤ length old
+    → Column i t (λ m. m ≡ v) old new → w ≡ bit (eqb i v) → Column (i + 1) t (λ m. m ≡ v) old (set new (i * max_tides + t) w)
+fix_more {i} {v = v} w tl il long C e =
+    let k = allowing_bit (eqb i v) in
+    column_more w tl il long C (λ h. eqb→eq i v (k.0 (subst Allowing e h)), λ h. subst Allowing (sym e) (k.1 (eq→eqb i v h)))
 
 -- ---- the assignments of such a table
 
-module _ {n blocks : ℕ} {E : Test} {old new : List ℕ} {t : ℕ} {May : ℕ → Type 0} (small : n ≤ maxTides) (tl : t < n)
+module _ {n blocks : ℕ} {E : Test} {old new : List ℕ} {t : ℕ} {May : ℕ → Type 0} (small : n ≤ max_tides) (tl : t < n)
     (C : Column blocks t May old new) where
-  pub column-may : (D : ℕ → ℕ) → Assigned n blocks E new D → May (D t)
-  column-may D A = (C.here (D t) (A.below t tl)).0 (A.may t tl)
+  pub column_may : (D : ℕ → ℕ) → Assigned n blocks E new D → May (D t)
+  column_may D A = (C.here (D t) (A.below t tl)).0 (A.may t tl)
 
   -- those of the table before, where what t may do now it might do then
-  pub column-sound : ((m : ℕ) → m < blocks → May m → T (allows old t m)) → (D : ℕ → ℕ) → Assigned n blocks E new D → Assigned n blocks E old D
-  column-sound f D A = record { below = A.below; may = λ x l. row x l (ℕ_discrete x t); enough = A.enough }
+  pub column_sound : ((m : ℕ) → m < blocks → May m → T (allows old t m)) → (D : ℕ → ℕ) → Assigned n blocks E new D → Assigned n blocks E old D
+  column_sound f D A = record { below = A.below; may = λ x l. row x l (ℕ_discrete x t); enough = A.enough }
     where
       row : (x : ℕ) → x < n → Dec (x ≡ t) → T (allows old x (D x))
-      row x l (yes e) = subst (λ z. T (allows old z (D z))) (sym e) (f (D t) (A.below t tl) (column-may D A))
+      row x l (yes e) = subst (λ z. T (allows old z (D z))) (sym e) (f (D t) (A.below t tl) (column_may D A))
       row x l (no e) = (C.other x (D x) (omega arith) (λ q. absurd (e q))).0 (A.may x l)
 
-  pub column-complete : (D : ℕ → ℕ) → Assigned n blocks E old D → May (D t) → Assigned n blocks E new D
-  column-complete D A k = record { below = A.below; may = λ x l. row x l (ℕ_discrete x t); enough = A.enough }
+  pub column_complete : (D : ℕ → ℕ) → Assigned n blocks E old D → May (D t) → Assigned n blocks E new D
+  column_complete D A k = record { below = A.below; may = λ x l. row x l (ℕ_discrete x t); enough = A.enough }
     where
       row : (x : ℕ) → x < n → Dec (x ≡ t) → T (allows new x (D x))
       row x l (yes e) = subst (λ z. T (allows new z (D z))) (sym e) ((C.here (D t) (A.below t tl)).1 k)

@@ -10,49 +10,49 @@ use lib.Dec.{T}
 use lib.ListN.{length, get_or, drop}
 use Rattle.lists.specs.Lists.{at, overwrite, TailKept}
 use Rattle.lists.proofs.Tests.{split}
-use Rattle.lists.proofs.Tables.{getD-overwrite, length-overwrite, drop-overwrite, tail-same, tail-trans}
-use Rattle.study.specs.Limits.{maxTides}
+use Rattle.lists.proofs.Tables.{getD_overwrite, length_overwrite, drop_overwrite, tail_same, tail_trans}
+use Rattle.study.specs.Limits.{max_tides}
 use Rattle.study.specs.Problem.{labels}
 use Rattle.promise.specs.Promise.{Test, allows, Nowhere, Assigned, Promise, Upward}
-use Rattle.promise.proofs.Enough.{assigning-same}
+use Rattle.promise.proofs.Enough.{assigning_same}
 use Rattle.first_assignment.specs.Column.{Column, Narrowed}
-use Rattle.first_assignment.proofs.ColumnLaws.{column_again, column-may, column-sound, column-complete}
+use Rattle.first_assignment.proofs.ColumnLaws.{column_again, column_may, column_sound, column_complete}
 use Rattle.first_assignment.specs.First.{Agree, First, SearchTried, Chosen}
 
 -- ---- a search that keeps the list on no
 
 -- from the search on a copy, which is then copied back
-pub tried-found : {n blocks : ℕ} {E : Test} {allowed old new trial copy : List ℕ} {r : Bool} → Upward n E → n ≤ length old
+pub tried_found : {n blocks : ℕ} {E : Test} {allowed old new trial copy : List ℕ} {r : Bool} → Upward n E → n ≤ length old
     → Promise n blocks E allowed copy trial r → r ≡ true → new ≡ overwrite n (labels trial) old → SearchTried n blocks E allowed old new true
 unfolding labels
-tried-found {n} {old = old} {new = new} {trial = trial} up long P e q =
+tried_found {n} {old = old} {new = new} {trial = trial} up long P e q =
     record {
       found = λ _.
-          assigning-same up (labels trial) (labels new)
-          (λ t l. sym (ap (λ x. get_or x t 0) q ∙ getD-overwrite (labels trial) old n t 0 l))
+          assigning_same up (labels trial) (labels new)
+          (λ t l. sym (ap (λ x. get_or x t 0) q ∙ getD_overwrite (labels trial) old n t 0 l))
           (P.found e);
       none = λ f. absurd (true≢false f);
       same = λ f. absurd (true≢false f);
       kept = record {
-        same_length = ap length q ∙ length-overwrite (labels trial) old n long;
-        rest = ap (drop n) q ∙ drop-overwrite (labels trial) old n;
+        same_length = ap length q ∙ length_overwrite (labels trial) old n long;
+        rest = ap (drop n) q ∙ drop_overwrite (labels trial) old n;
       };
     }
 
-pub tried-none : {n blocks : ℕ} {E : Test} {allowed trial copy : List ℕ} {r : Bool} (old : List ℕ) → Promise n blocks E allowed copy trial r
+pub tried_none : {n blocks : ℕ} {E : Test} {allowed trial copy : List ℕ} {r : Bool} (old : List ℕ) → Promise n blocks E allowed copy trial r
     → r ≡ false → SearchTried n blocks E allowed old old false
-tried-none {n} old P e =
-    record { found = λ f. absurd (false≢true f); none = λ _. P.none e; same = λ _. refl; kept = tail-same n old }
+tried_none {n} old P e =
+    record { found = λ f. absurd (false≢true f); none = λ _. P.none e; same = λ _. refl; kept = tail_same n old }
 
 -- no search is needed where tide t may go to no block
-pub tried-nowhere : {n blocks : ℕ} {E : Test} {allowed : List ℕ} {t : ℕ} (list : List ℕ) → t < n → Nowhere allowed t blocks
+pub tried_nowhere : {n blocks : ℕ} {E : Test} {allowed : List ℕ} {t : ℕ} (list : List ℕ) → t < n → Nowhere allowed t blocks
     → SearchTried n blocks E allowed list list false
-tried-nowhere {n} {t = t} list tl nowhere =
+tried_nowhere {n} {t = t} list tl nowhere =
     record {
       found = λ f. absurd (false≢true f);
       none = λ _ D A. nowhere (D t) (A.below t tl) (A.may t tl);
       same = λ _. refl;
-      kept = tail-same n list;
+      kept = tail_same n list;
     }
 
 -- ---- one tide
@@ -60,28 +60,28 @@ tried-nowhere {n} {t = t} list tl nowhere =
 -- list is an assignment that gives t the block v, and t has lost no block that ranks before v
 pub record Choosing (rank : ℕ → ℕ) (n blocks : ℕ) (E : Test) (t v : ℕ) (old new list₀ list : List ℕ) : Type 0 where
   pub same_length : length new ≡ length old
-  pub other : (x m : ℕ) → x < maxTides → (x ≡ t → blocks ≤ m) → T (allows new x m) ↔ T (allows old x m)
+  pub other : (x m : ℕ) → x < max_tides → (x ≡ t → blocks ≤ m) → T (allows new x m) ↔ T (allows old x m)
   pub low : (m : ℕ) → m < blocks → rank m < rank v → T (allows new t m) ↔ T (allows old t m)
   pub assigned : Assigned n blocks E old (labels list)
   pub here : labels list t ≡ v
   pub kept : TailKept n list₀ list
 
-pub choosing-start : {rank : ℕ → ℕ} {n blocks : ℕ} {E : Test} {old list : List ℕ} (t v : ℕ) → Assigned n blocks E old (labels list)
+pub choosing_start : {rank : ℕ → ℕ} {n blocks : ℕ} {E : Test} {old list : List ℕ} (t v : ℕ) → Assigned n blocks E old (labels list)
     → v ≡ labels list t → Choosing rank n blocks E t v old old list list
-choosing-start {n = n} {list = list} t v A e =
+choosing_start {n = n} {list = list} t v A e =
     record {
       same_length = refl;
       other = λ x m k q. (λ h. h, λ h. h);
       low = λ m k l. (λ h. h, λ h. h);
       assigned = A;
       here = sym e;
-      kept = tail-same n list;
+      kept = tail_same n list;
     }
 
-module _ {rank : ℕ → ℕ} {n blocks : ℕ} {E : Test} {t v : ℕ} {old new list₀ list : List ℕ} (small : n ≤ maxTides) (tl : t < n)
+module _ {rank : ℕ → ℕ} {n blocks : ℕ} {E : Test} {t v : ℕ} {old new list₀ list : List ℕ} (small : n ≤ max_tides) (tl : t < n)
     (S : Choosing rank n blocks E t v old new list₀ list) where
-  pub choosing-lt : v < blocks
-  choosing-lt = omega (arith, S.assigned.below t tl, S.here)
+  pub choosing_lt : v < blocks
+  choosing_lt = omega (arith, S.assigned.below t tl, S.here)
 
   module _ {restricted : List ℕ} (C : Narrowed blocks t (λ m. rank m < rank v) new restricted) where
     -- of the table at the start, too
@@ -96,49 +96,49 @@ module _ {rank : ℕ → ℕ} {n blocks : ℕ} {E : Test} {t v : ℕ} {old new l
         }
 
     module _ {tried : List ℕ} {r : Bool} (A : SearchTried n blocks E restricted list tried r) where
-      pub choosing-less : r ≡ true → rank (labels tried t) < rank v
-      choosing-less e = (column-may small tl whole (labels tried) (A.found e)).1
+      pub choosing_less : r ≡ true → rank (labels tried t) < rank v
+      choosing_less e = (column_may small tl whole (labels tried) (A.found e)).1
 
-      pub choosing-more : r ≡ true → (w : ℕ) → w ≡ labels tried t → Choosing rank n blocks E t w old restricted list₀ tried
-      choosing-more e w q =
+      pub choosing_more : r ≡ true → (w : ℕ) → w ≡ labels tried t → Choosing rank n blocks E t w old restricted list₀ tried
+      choosing_more e w q =
           record {
             same_length = whole.same_length;
             other = whole.other;
             low = λ m l k.
                 let p = whole.here m l in
-                let b : rank w < rank v = subst (λ z. rank z < rank v) (sym q) (choosing-less e) in
+                let b : rank w < rank v = subst (λ z. rank z < rank v) (sym q) (choosing_less e) in
                 (λ h. (p.0 h).0, λ h. p.1 (h, omega arith));
-            assigned = column-sound small tl whole (λ m l h. h.0) (labels tried) (A.found e);
+            assigned = column_sound small tl whole (λ m l h. h.0) (labels tried) (A.found e);
             here = sym q;
-            kept = tail-trans S.kept A.kept;
+            kept = tail_trans S.kept A.kept;
           }
 
       -- none ranks before v, and t is left v alone
-      pub choosing-end : {left : List ℕ} → r ≡ false → Column blocks t (λ m. m ≡ v) restricted left → Chosen rank n blocks E t old left tried
-      choosing-end {left} e N =
+      pub choosing_end : {left : List ℕ} → r ≡ false → Column blocks t (λ m. m ≡ v) restricted left → Chosen rank n blocks E t old left tried
+      choosing_end {left} e N =
           let p : Column blocks t (λ m. m ≡ v) old left = column_again whole N in
           let had : T (allows old t v) = subst (λ z. T (allows old t z)) S.here (S.assigned.may t tl) in
           subst (λ l. Chosen rank n blocks E t old left l) (sym (A.same e))
           (record {
             same_length = p.same_length;
-            assigned = column-complete small tl p (labels list) S.assigned S.here;
-            sound = column-sound small tl p (λ m l q. subst (λ z. T (allows old t z)) (sym q) had);
-            fixed = λ G B. column-may small tl p G B ∙ sym S.here;
-            complete = λ G B q. column-complete small tl p G B (q ∙ S.here);
+            assigned = column_complete small tl p (labels list) S.assigned S.here;
+            sound = column_sound small tl p (λ m l q. subst (λ z. T (allows old t z)) (sym q) had);
+            fixed = λ G B. column_may small tl p G B ∙ sym S.here;
+            complete = λ G B q. column_complete small tl p G B (q ∙ S.here);
             least = λ G B. subst (λ z. rank z ≤ rank (G t)) (sym S.here) (none_before G B);
           })
         where
           none_before : (G : ℕ → ℕ) → Assigned n blocks E old G → rank v ≤ rank (G t)
           none_before G B =
-              ⊎_elim (λ l. absurd (A.none e G (column-complete small tl whole G B (B.may t tl, l)))) (λ l. l) (split (rank (G t)) (rank v))
+              ⊎_elim (λ l. absurd (A.none e G (column_complete small tl whole G B (B.may t tl, l)))) (λ l. l) (split (rank (G t)) (rank v))
 
-      pub choosing-kept : TailKept n list₀ tried
-      choosing-kept = tail-trans S.kept A.kept
+      pub choosing_kept : TailKept n list₀ tried
+      choosing_kept = tail_trans S.kept A.kept
 
 -- the ranks stand in a list
-pub chosen-ranked : {rank : ℕ → ℕ} {n blocks : ℕ} {E : Test} {t : ℕ} {old new list ranks : List ℕ} (ranks₀ : List ℕ) → t < n
+pub chosen_ranked : {rank : ℕ → ℕ} {n blocks : ℕ} {E : Test} {t : ℕ} {old new list ranks : List ℕ} (ranks₀ : List ℕ) → t < n
     → ranks ≡ overwrite blocks rank ranks₀ → Chosen (at ranks) n blocks E t old new list → Chosen rank n blocks E t old new list
-chosen-ranked {rank} {blocks = blocks} {t = t} {list = list} {ranks = ranks} ranks₀ tl made S =
+chosen_ranked {rank} {blocks = blocks} {t = t} {list = list} {ranks = ranks} ranks₀ tl made S =
     record {
       same_length = S.same_length;
       assigned = S.assigned;
@@ -149,7 +149,7 @@ chosen-ranked {rank} {blocks = blocks} {t = t} {list = list} {ranks = ranks} ran
     }
   where
     ranked : (m : ℕ) → m < blocks → at ranks m ≡ rank m
-    ranked m l = ap (λ z. at z m) made ∙ getD-overwrite rank ranks₀ blocks m 0 l
+    ranked m l = ap (λ z. at z m) made ∙ getD_overwrite rank ranks₀ blocks m 0 l
 
 -- ---- the tides below t
 
@@ -162,9 +162,9 @@ pub record Fixed (rank : ℕ → ℕ → ℕ) (n blocks : ℕ) (E : Test) (t : �
   pub complete : (G : ℕ → ℕ) → Assigned n blocks E first G → Agree t (labels list) G → Assigned n blocks E table G
   pub least : (G : ℕ → ℕ) → Assigned n blocks E first G → (x : ℕ) → x < t → Agree x (labels list) G → rank x (labels list x) ≤ rank x (G x)
 
-pub fixed-start : {rank : ℕ → ℕ → ℕ} {n blocks : ℕ} {E : Test} {table list : List ℕ} → Assigned n blocks E table (labels list)
+pub fixed_start : {rank : ℕ → ℕ → ℕ} {n blocks : ℕ} {E : Test} {table list : List ℕ} → Assigned n blocks E table (labels list)
     → Fixed rank n blocks E 0 table table list
-fixed-start A =
+fixed_start A =
     record {
       same_length = refl;
       assigned = A;
@@ -202,6 +202,6 @@ module _ {rank : ℕ → ℕ → ℕ} {n blocks : ℕ} {E : Test} {t : ℕ} {fir
             (λ g. S.least G (F.complete G h (before G (omega arith) g)));
       }
 
-pub fixed-end : {rank : ℕ → ℕ → ℕ} {n blocks : ℕ} {E : Test} {t : ℕ} {first table list : List ℕ}
+pub fixed_end : {rank : ℕ → ℕ → ℕ} {n blocks : ℕ} {E : Test} {t : ℕ} {first table list : List ℕ}
     → Fixed rank n blocks E t first table list → n ≤ t → First rank n blocks E first list
-fixed-end F h = record { assigned = F.sound _ F.assigned; least = λ G B x l g. F.least G B x (omega arith) g }
+fixed_end F h = record { assigned = F.sound _ F.assigned; least = λ G B x l g. F.least G B x (omega arith) g }

@@ -2,7 +2,7 @@
 -- assignment gives it that agrees on the tides before, and keeps that block alone. Assumes nothing.
 use Rattle.std.specs.Prelude.{ℕ, ◌+◌, ◌*◌, ◌≤◌, ◌<◌, ◌≡◌, Bool, true, false, List, length}
 use Rattle.lists.specs.Lists.{at, TailKept}
-use Rattle.study.specs.Limits.{maxTides, cell}
+use Rattle.study.specs.Limits.{max_tides, cell}
 use Rattle.study.specs.Problem.{labels}
 use Rattle.promise.specs.Promise.{Test, Assigned}
 use Rattle.radius_theory.specs.Arrays.{DistanceRows, TidesIn}
@@ -13,7 +13,7 @@ Agree t D G = (x : ℕ) → x < t → D x ≡ G x
 
 -- what tide t ranks the blocks by, the one of least rank first: how far their centres are, equally far ones by number (document 02, 2.6)
 unfoldable pub rank : (d cs : List ℕ) → ℕ → ℕ → ℕ
-rank d cs t m = cell d (at cs m) t * maxTides + m
+rank d cs t m = cell d (at cs m) t * max_tides + m
 
 -- what ranks are made of: the distances of n tides, and the tides that are the blocks' centres
 pub record Ranking (d cs : List ℕ) (n blocks : ℕ) : Type 0 where

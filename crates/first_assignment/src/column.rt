@@ -1,7 +1,7 @@
 // The blocks that one tide may go to: its column of the table of allowed pairs, which has a row for each block.
 ghost use Rattle.std.specs.Prelude.{◌≡◌, cond, ℕ, ◌<◌, ◌≤◌, eqb, ltb, length};
 ghost use Rattle.lists.specs.Lists.{bit};
-ghost use Rattle.study.specs.Limits.{maxTides, tableSize};
+ghost use Rattle.study.specs.Limits.{max_tides, table_size};
 ghost use Rattle.first_assignment.specs.Column.{Column, Restricted};
 
 use study::MAX_TIDES;
@@ -18,7 +18,7 @@ fn entry_kept(x: u8, rank: u64, limit: u64) -> u8
 
 // Leaves tide t those of its blocks that rank before block v.
 pub fn restrict(allowed: &mut [u8], blocks: usize, ranks: &[u64; MAX_TIDES], t: usize, v: usize)
-    requires blocks_le_max_tides { (blocks ≤ maxTides) × (t < maxTides) × (tableSize ≤ length allowed.old) }
+    requires blocks_le_max_tides { (blocks ≤ max_tides) × (t < max_tides) × (table_size ≤ length allowed.old) }
     requires v_lt_blocks { v < blocks }
     ensures { Restricted ranks.now blocks t v allowed.old allowed.new }
 {
@@ -42,7 +42,7 @@ fn entry_fixed(m: usize, v: usize) -> u8
 
 // Leaves tide t block v alone, whether it might go there or not.
 pub fn fix(allowed: &mut [u8], blocks: usize, t: usize, v: usize)
-    requires { (blocks ≤ maxTides) × (t < maxTides) × (tableSize ≤ length allowed.old) }
+    requires { (blocks ≤ max_tides) × (t < max_tides) × (table_size ≤ length allowed.old) }
     ensures { Column blocks t (λ (m : ℕ). m ≡ v) allowed.old allowed.new }
 {
     let mut m = 0;

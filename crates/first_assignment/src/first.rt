@@ -1,7 +1,7 @@
 // The first assignment by the order in which each tide ranks the blocks, through the promise of the matching search alone.
 ghost use Rattle.std.specs.Prelude.{◌≡◌, ◌<◌, ◌≤◌, length};
 ghost use Rattle.lists.specs.Lists.{at, overwrite, TailKept};
-ghost use Rattle.study.specs.Limits.{maxTides, tableSize};
+ghost use Rattle.study.specs.Limits.{max_tides, table_size};
 ghost use Rattle.study.specs.Problem.{labels};
 ghost use Rattle.promise.specs.Promise.{Assigned, Asked, meeting, Able};
 ghost use Rattle.first_assignment.specs.Column.{Restricted};
@@ -38,7 +38,7 @@ fn try_search(
     v: usize,
 ) -> bool
     requires asked { Asked (Able minima n settings.now) n blocks allowed.now list.old }
-    requires t_lt_n { (t < n) × (v < maxTides) }
+    requires t_lt_n { (t < n) × (v < max_tides) }
     ensures { SearchTried n blocks (meeting minima n settings.now) allowed.now
         list.old list.new result }
 {
@@ -63,9 +63,9 @@ fn begin_at(
     t: usize,
     v: usize,
 ) -> usize
-    requires blocks_le_max_tides { (blocks ≤ maxTides) × (t < maxTides) × (tableSize ≤ length allowed.now) }
-    requires v_lt_max_tides { v < maxTides }
-    ensures { result < maxTides }
+    requires blocks_le_max_tides { (blocks ≤ max_tides) × (t < max_tides) × (table_size ≤ length allowed.now) }
+    requires v_lt_max_tides { v < max_tides }
+    ensures { result < max_tides }
 {
     if n <= blocks * wide(b0) {
         return v;

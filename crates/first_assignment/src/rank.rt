@@ -1,15 +1,15 @@
 // What a tide ranks the blocks by, the one of least rank first.
 ghost use Rattle.std.specs.Prelude.{◌≡◌, ◌+◌, ◌*◌, ◌<◌, ◌≤◌, length};
 ghost use Rattle.lists.specs.Lists.{overwrite};
-ghost use Rattle.study.specs.Limits.{maxTides, tableSize};
+ghost use Rattle.study.specs.Limits.{max_tides, table_size};
 ghost use Rattle.first_assignment.specs.First.{rank, Ranking};
 
 use study::MAX_TIDES;
 
 // A block's rank, by how far its centre is and by its number.
 fn rank_of(distance: u32, m: usize) -> u64
-    requires { m < maxTides }
-    ensures { result ≡ distance * maxTides + m }
+    requires { m < max_tides }
+    ensures { result ≡ distance * max_tides + m }
 {
     (distance as u64) * (MAX_TIDES as u64) + (m as u64)
 }
@@ -24,7 +24,7 @@ pub fn rank_blocks(
     ranks: &mut [u64; MAX_TIDES],
 )
     requires ranking { Ranking distances.now centres.now n blocks }
-    requires t_lt_n { (t < n) × (length ranks.old ≡ maxTides) }
+    requires t_lt_n { (t < n) × (length ranks.old ≡ max_tides) }
     ensures { ranks.new ≡ overwrite blocks (rank distances.now centres.now t) ranks.old }
 {
     let mut m = 0;
@@ -36,8 +36,8 @@ pub fn rank_blocks(
 
 // Of blocks m and v the one of lower rank; v where the entry says that the tide may not go to m.
 fn lower_rank(entry: u8, ranks: &[u64; MAX_TIDES], m: usize, v: usize) -> usize
-    requires { (m < maxTides) × (v < maxTides) }
-    ensures { result < maxTides }
+    requires { (m < max_tides) × (v < max_tides) }
+    ensures { result < max_tides }
 {
     if entry == 0 {
         return v;
@@ -56,9 +56,9 @@ pub fn least_ranked(
     t: usize,
     v: usize,
 ) -> usize
-    requires blocks_le_max_tides { (blocks ≤ maxTides) × (t < maxTides) × (tableSize ≤ length allowed.now) }
-    requires v_lt_max_tides { v < maxTides }
-    ensures { result < maxTides }
+    requires blocks_le_max_tides { (blocks ≤ max_tides) × (t < max_tides) × (table_size ≤ length allowed.now) }
+    requires v_lt_max_tides { v < max_tides }
+    ensures { result < max_tides }
 {
     let mut best = v;
     let mut m = 0;

@@ -3,7 +3,7 @@ use mathlib.Core.Path.{◌≡◌, sym, ap, ◌∙◌}
 use mathlib.Core.Bool.{true, false}
 use mathlib.Core.Option.{some}
 use Rattle.study.specs.Refusals.{Verdict, accepted, settled, first_of}
-use Rattle.study.proofs.LadderLaws.{ladder-accepts}
+use Rattle.study.proofs.LadderLaws.{ladder_accepts}
 use Rattle.access.specs.Calls.{Inquiry, Output, asks, Holding, reasons, verdict, told, lent, Response, learnt}
 
 module _ (H : Holding) (Q : Inquiry) {o : Output} (e : learnt false (some H) (asks Q) ≡ record { verdict = accepted; output = o }) where
@@ -11,10 +11,10 @@ module _ (H : Holding) (Q : Inquiry) {o : Output} (e : learnt false (some H) (as
   unfolding learnt
   agreed = ap (λ (r : Response). r.verdict) e
 
-  pub inquiry-accepts : first_of (Q.own H) ≡ accepted
+  pub inquiry_accepts : first_of (Q.own H) ≡ accepted
   unfolding verdict reasons
-  inquiry-accepts = (ladder-accepts false Q.caller.users true (Q.own H) agreed).reasons
+  inquiry_accepts = (ladder_accepts false Q.caller.users true (Q.own H) agreed).reasons
 
-  pub inquiry-tells : Q.tells H ≡ o
+  pub inquiry_tells : Q.tells H ≡ o
   unfolding learnt told lent
-  inquiry-tells = sym (ap (λ (v : Verdict). settled v (Q.tells H) Q.lent) agreed) ∙ ap (λ (r : Response). r.output) e
+  inquiry_tells = sym (ap (λ (v : Verdict). settled v (Q.tells H) Q.lent) agreed) ∙ ap (λ (r : Response). r.output) e

@@ -4,9 +4,9 @@ use native.Mathlib.Omega.{arith}
 use mathlib.Core.Path.{◌≡◌, sym, ◌∙◌}
 use mathlib.Core.Bool.{Bool, not}
 use lib.ListN.{length}
-use Rattle.lists.specs.Lists.{countBelow}
-use Rattle.lists.proofs.Counting.{count-before, count-apart, Nth}
-use Rattle.lists.proofs.Filtered.{filtered-count, filtered-nth}
+use Rattle.lists.specs.Lists.{count_below}
+use Rattle.lists.proofs.Counting.{count_before, count_apart, Nth}
+use Rattle.lists.proofs.Filtered.{filtered_count, filtered_nth}
 use Rattle.guarantee.specs.Ledger.{Ledger, remaining, name_of}
 
 module _ (L : Ledger) where
@@ -16,18 +16,18 @@ module _ (L : Ledger) where
   abbrev pub arrived : ℕ
   arrived = length L.arrivals
 
-  pub remaining-count : length (remaining L) ≡ countBelow arrived stays
+  pub remaining_count : length (remaining L) ≡ count_below arrived stays
   unfolding remaining
-  remaining-count = filtered-count stays arrived
+  remaining_count = filtered_count stays arrived
 
   -- the name of tide u is the one that stays with u others before it
-  pub name-nth : (u : ℕ) → u < length (remaining L) → Nth stays arrived u (name_of L u)
+  pub name_nth : (u : ℕ) → u < length (remaining L) → Nth stays arrived u (name_of L u)
   unfolding name_of remaining
-  name-nth u l = filtered-nth stays arrived u l
+  name_nth u l = filtered_nth stays arrived u l
 
   -- and is known by that
-  pub nth-name : (u m : ℕ) → Nth stays arrived u m → name_of L u ≡ m
-  nth-name u m N =
-      let l : u < length (remaining L) = omega (arith, remaining-count, count-before stays m arrived N.pass N.below, N.rank) in
-      let M = name-nth u l in
-      count-apart stays (name_of L u) m M.pass N.pass (M.rank ∙ sym N.rank)
+  pub nth_name : (u m : ℕ) → Nth stays arrived u m → name_of L u ≡ m
+  nth_name u m N =
+      let l : u < length (remaining L) = omega (arith, remaining_count, count_before stays m arrived N.pass N.below, N.rank) in
+      let M = name_nth u l in
+      count_apart stays (name_of L u) m M.pass N.pass (M.rank ∙ sym N.rank)

@@ -8,14 +8,14 @@ use Rattle.study.specs.Calls.{count_of}
 use Rattle.study.specs.Study.{Contents}
 use Rattle.validity.specs.Memory.{State, short}
 use Rattle.access.specs.Calls.{Holding, fresh, held, verdict, step}
-use Rattle.guarantee.specs.Runs.{Offered, open-with, read-file, merge, set-minima, enter, withdraw, ask, call_of, bringsIn}
+use Rattle.guarantee.specs.Runs.{Offered, open_with, read_file, merge, set_minima, enter, withdraw, ask, call_of, brings_in}
 
 -- the calls of a list that are accepted, in order
-unfoldable pub acceptedCalls : Bool → Option Holding → List Offered → List Offered
-acceptedCalls tooShort h [] = []
-acceptedCalls tooShort h (c ∷ cs) =
-    let rest = acceptedCalls tooShort (step tooShort h (call_of c)) cs in
-    settled (verdict tooShort h (call_of c)) (c ∷ rest) rest
+unfoldable pub accepted_calls : Bool → Option Holding → List Offered → List Offered
+accepted_calls is_too_short h [] = []
+accepted_calls is_too_short h (c ∷ cs) =
+    let rest = accepted_calls is_too_short (step is_too_short h (call_of c)) cs in
+    settled (verdict is_too_short h (call_of c)) (c ∷ rest) rest
 
 -- what was held where a stretch began, and the accepted calls since
 pub record Stretch : Type 0 where
@@ -28,29 +28,29 @@ onward s c none = record { from = s.from; calls = s.calls ++ (c ∷ []) }
 onward s c (some C) = record { from = some (fresh C); calls = [] }
 
 -- along accepted calls
-abbrev pub stretchAfter : Stretch → List Offered → Stretch
-stretchAfter s [] = s
-stretchAfter s (c ∷ cs) = stretchAfter (onward s c (bringsIn (call_of c))) cs
+abbrev pub stretch_after : Stretch → List Offered → Stretch
+stretch_after s [] = s
+stretch_after s (c ∷ cs) = stretch_after (onward s c (brings_in (call_of c))) cs
 
 -- the last stretch: from the start or the last accepted Open, Read or merge, whichever is later
-unfoldable pub lastStretch : State → List Offered → Stretch
-lastStretch start calls = stretchAfter (record { from = held start; calls = [] }) (acceptedCalls (short start) (held start) calls)
+unfoldable pub last_stretch : State → List Offered → Stretch
+last_stretch start calls = stretch_after (record { from = held start; calls = [] }) (accepted_calls (short start) (held start) calls)
 
 -- whether a call is a withdrawal by user u
-abbrev pub isWithdrawal : ℕ → Offered → Bool
-isWithdrawal u (open-with k) = false
-isWithdrawal u (read-file file) = false
-isWithdrawal u (merge a b firsts seconds) = false
-isWithdrawal u (set-minima M) = false
-isWithdrawal u (enter setting row) = false
-isWithdrawal u (withdraw v t) = eqb v u
-isWithdrawal u (ask Q) = false
+abbrev pub is_withdrawal : ℕ → Offered → Bool
+is_withdrawal u (open_with k) = false
+is_withdrawal u (read_file file) = false
+is_withdrawal u (merge a b firsts seconds) = false
+is_withdrawal u (set_minima M) = false
+is_withdrawal u (enter setting row) = false
+is_withdrawal u (withdraw v t) = eqb v u
+is_withdrawal u (ask Q) = false
 
 -- how many withdrawals by user u are among these calls
-abbrev pub withdrawalsBy : ℕ → List Offered → ℕ
-withdrawalsBy u calls = length (filter (isWithdrawal u) calls)
+abbrev pub withdrawals_by : ℕ → List Offered → ℕ
+withdrawals_by u calls = length (filter (is_withdrawal u) calls)
 
 -- the count of user u in what is held; 0 where nothing is
-abbrev pub countIn : ℕ → Option Holding → ℕ
-countIn u none = 0
-countIn u (some H) = count_of H.contents.withdrawals u
+abbrev pub count_in : ℕ → Option Holding → ℕ
+count_in u none = 0
+count_in u (some H) = count_of H.contents.withdrawals u

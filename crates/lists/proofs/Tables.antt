@@ -10,126 +10,126 @@ use lib.ListN.{length, drop, get_or, set, length-append, length-drop, length-set
 use lib.Seq.{ext_get_or, get_or-append-add, get_or-drop, drop_at, drop-cons, drop-set-lt, set_at}
 use Rattle.lists.specs.Lists.{◌among◌, iota, tabulate, overwrite, TailKept}
 use Rattle.lists.proofs.Tests.{split}
-use Rattle.lists.proofs.Members.{mem-map, map-mem, mem-range, range-mem}
+use Rattle.lists.proofs.Members.{mem_map, map_mem, mem_range, range_mem}
 
-length-map-range : {A : Type 0} (f : ℕ → A) (k n : ℕ) → length (map f (iota k n)) ≡ n
-length-map-range f k zero = refl
-length-map-range f k (suc n) = ap suc (length-map-range f (suc k) n)
+length_map_range : {A : Type 0} (f : ℕ → A) (k n : ℕ) → length (map f (iota k n)) ≡ n
+length_map_range f k zero = refl
+length_map_range f k (suc n) = ap suc (length_map_range f (suc k) n)
 
-getD-map-range : {A : Type 0} (f : ℕ → A) (d : A) (k n i : ℕ) → i < n → get_or (map f (iota k n)) i d ≡ f (k + i)
-getD-map-range f d k zero i l = absurd (not-suc-le-zero l)
-getD-map-range f d k (suc n) zero l = ap f (omega arith)
-getD-map-range f d k (suc n) (suc i) l = getD-map-range f d (suc k) n i (le_of_suc-le-suc l) ∙ ap f (omega arith)
+getD_map_range : {A : Type 0} (f : ℕ → A) (d : A) (k n i : ℕ) → i < n → get_or (map f (iota k n)) i d ≡ f (k + i)
+getD_map_range f d k zero i l = absurd (not-suc-le-zero l)
+getD_map_range f d k (suc n) zero l = ap f (omega arith)
+getD_map_range f d k (suc n) (suc i) l = getD_map_range f d (suc k) n i (le_of_suc-le-suc l) ∙ ap f (omega arith)
 
-map-range-snoc : {A : Type 0} (f : ℕ → A) (k n : ℕ) → map f (iota k (suc n)) ≡ map f (iota k n) ++ (f (k + n) ∷ [])
-map-range-snoc f k zero = ap (λ (z : ℕ). f z ∷ []) (omega arith)
-map-range-snoc f k (suc n) = ap (λ l. f k ∷ l) (map-range-snoc f (suc k) n ∙ ap (λ (z : ℕ). map f (iota (suc k) n) ++ (f z ∷ [])) (omega arith))
+map_range_snoc : {A : Type 0} (f : ℕ → A) (k n : ℕ) → map f (iota k (suc n)) ≡ map f (iota k n) ++ (f (k + n) ∷ [])
+map_range_snoc f k zero = ap (λ (z : ℕ). f z ∷ []) (omega arith)
+map_range_snoc f k (suc n) = ap (λ l. f k ∷ l) (map_range_snoc f (suc k) n ∙ ap (λ (z : ℕ). map f (iota (suc k) n) ++ (f z ∷ [])) (omega arith))
 
 -- ---- a list whose tail stays
 
-pub tail-same : (n : ℕ) (l : List ℕ) → TailKept n l l
-tail-same n l = record { same_length = refl; rest = refl }
+pub tail_same : (n : ℕ) (l : List ℕ) → TailKept n l l
+tail_same n l = record { same_length = refl; rest = refl }
 
-pub tail-trans : {n : ℕ} {a b c : List ℕ} → TailKept n a b → TailKept n b c → TailKept n a c
-tail-trans p q = record { same_length = q.same_length ∙ p.same_length; rest = q.rest ∙ p.rest }
+pub tail_trans : {n : ℕ} {a b c : List ℕ} → TailKept n a b → TailKept n b c → TailKept n a c
+tail_trans p q = record { same_length = q.same_length ∙ p.same_length; rest = q.rest ∙ p.rest }
 
 -- one place before it is written
-pub tail-set : {n : ℕ} {a b : List ℕ} (t x : ℕ) → t < n → TailKept n a b → TailKept n a (set b t x)
-tail-set {n} {a} {b} t x l k = record { same_length = length-set b t x ∙ k.same_length; rest = drop-set-lt n b t x l ∙ k.rest }
+pub tail_set : {n : ℕ} {a b : List ℕ} (t x : ℕ) → t < n → TailKept n a b → TailKept n a (set b t x)
+tail_set {n} {a} {b} t x l k = record { same_length = length-set b t x ∙ k.same_length; rest = drop-set-lt n b t x l ∙ k.rest }
 
 -- ---- tables
 
 module _ {A : Type 0} where
-  pub length-tabulate : (n : ℕ) (f : ℕ → A) → length (tabulate n f) ≡ n
+  pub length_tabulate : (n : ℕ) (f : ℕ → A) → length (tabulate n f) ≡ n
   unfolding tabulate
-  length-tabulate n f = length-map-range f 0 n
+  length_tabulate n f = length_map_range f 0 n
 
   pub get_d_tabulate : (n : ℕ) (f : ℕ → A) (i : ℕ) (d : A) → i < n → get_or (tabulate n f) i d ≡ f i
   unfolding tabulate
-  get_d_tabulate n f i d l = getD-map-range f d 0 n i l ∙ ap f (omega arith)
+  get_d_tabulate n f i d l = getD_map_range f d 0 n i l ∙ ap f (omega arith)
 
-  pub mem-tabulate : (n : ℕ) (f : ℕ → A) (i : ℕ) → i < n → f i among tabulate n f
+  pub mem_tabulate : (n : ℕ) (f : ℕ → A) (i : ℕ) → i < n → f i among tabulate n f
   unfolding tabulate
-  mem-tabulate n f i l = mem-map f (iota 0 n) (mem-range 0 n i (omega arith) (omega arith))
+  mem_tabulate n f i l = mem_map f (iota 0 n) (mem_range 0 n i (omega arith) (omega arith))
 
-  pub tabulate-mem : (n : ℕ) (f : ℕ → A) {x : A} → x among tabulate n f → (i : ℕ) × (i < n) × (x ≡ f i)
+  pub tabulate_mem : (n : ℕ) (f : ℕ → A) {x : A} → x among tabulate n f → (i : ℕ) × (i < n) × (x ≡ f i)
   unfolding tabulate
-  tabulate-mem n f m = let r = map-mem f (iota 0 n) m in let q = range-mem 0 n r.1 in (r.0, omega arith, r.2)
+  tabulate_mem n f m = let r = map_mem f (iota 0 n) m in let q = range_mem 0 n r.1 in (r.0, omega arith, r.2)
 
-  pub tabulate-suc : (n : ℕ) (f : ℕ → A) → tabulate (suc n) f ≡ tabulate n f ++ (f n ∷ [])
+  pub tabulate_suc : (n : ℕ) (f : ℕ → A) → tabulate (suc n) f ≡ tabulate n f ++ (f n ∷ [])
   unfolding tabulate
-  tabulate-suc n f = map-range-snoc f 0 n ∙ ap (λ (z : ℕ). map f (iota 0 n) ++ (f z ∷ [])) (omega arith)
+  tabulate_suc n f = map_range_snoc f 0 n ∙ ap (λ (z : ℕ). map f (iota 0 n) ++ (f z ∷ [])) (omega arith)
 
   -- a list is the table of its places
-  pub tabulate-is : (n : ℕ) (f : ℕ → A) (d : A) (xs : List A) → length xs ≡ n → ((i : ℕ) → i < n → f i ≡ get_or xs i d) → tabulate n f ≡ xs
-  tabulate-is n f d xs e h =
-      ext_get_or d (tabulate n f) xs (length-tabulate n f ∙ sym e)
-      (λ i l. let k : i < n = omega (arith, length-tabulate n f) in get_d_tabulate n f i d k ∙ h i k)
+  pub tabulate_is : (n : ℕ) (f : ℕ → A) (d : A) (xs : List A) → length xs ≡ n → ((i : ℕ) → i < n → f i ≡ get_or xs i d) → tabulate n f ≡ xs
+  tabulate_is n f d xs e h =
+      ext_get_or d (tabulate n f) xs (length_tabulate n f ∙ sym e)
+      (λ i l. let k : i < n = omega (arith, length_tabulate n f) in get_d_tabulate n f i d k ∙ h i k)
 
   -- tables that agree below n
-  pub tabulate-ext : (n : ℕ) (f g : ℕ → A) → ((i : ℕ) → i < n → f i ≡ g i) → tabulate n f ≡ tabulate n g
+  pub tabulate_ext : (n : ℕ) (f g : ℕ → A) → ((i : ℕ) → i < n → f i ≡ g i) → tabulate n f ≡ tabulate n g
   unfolding tabulate
-  tabulate-ext zero f g e = refl
-  tabulate-ext (suc n) f g e =
-      tabulate-is (suc n) f (f 0) (tabulate (suc n) g) (length-tabulate (suc n) g) (λ i l. e i l ∙ sym (get_d_tabulate (suc n) g i (f 0) l))
+  tabulate_ext zero f g e = refl
+  tabulate_ext (suc n) f g e =
+      tabulate_is (suc n) f (f 0) (tabulate (suc n) g) (length_tabulate (suc n) g) (λ i l. e i l ∙ sym (get_d_tabulate (suc n) g i (f 0) l))
 
   -- ---- memory
 
   module _ (f : ℕ → A) (l : List A) where
-    pub length-overwrite : (n : ℕ) → n ≤ length l → length (overwrite n f l) ≡ length l
+    pub length_overwrite : (n : ℕ) → n ≤ length l → length (overwrite n f l) ≡ length l
     unfolding overwrite
-    length-overwrite n h = simp (length-append, length-tabulate, length-drop) (omega arith)
+    length_overwrite n h = simp (length-append, length_tabulate, length-drop) (omega arith)
 
-    pub getD-overwrite : (n i : ℕ) (d : A) → i < n → get_or (overwrite n f l) i d ≡ f i
+    pub getD_overwrite : (n i : ℕ) (d : A) → i < n → get_or (overwrite n f l) i d ≡ f i
     unfolding overwrite
-    getD-overwrite n i d h = get_or-append (tabulate n f) (drop n l) d i (rw length-tabulate h) ∙ get_d_tabulate n f i d h
+    getD_overwrite n i d h = get_or-append (tabulate n f) (drop n l) d i (rw length_tabulate h) ∙ get_d_tabulate n f i d h
 
     -- a place past those written
     pub get_d_past : (n i : ℕ) (d : A) → n ≤ i → get_or (overwrite n f l) i d ≡ get_or l i d
     unfolding overwrite
     get_d_past n i d h =
         let e : n + (i - n) ≡ i = omega arith in
-        let e' : length (tabulate n f) + (i - n) ≡ i = rw length-tabulate e in
+        let e' : length (tabulate n f) + (i - n) ≡ i = rw length_tabulate e in
         ap (λ (k : ℕ). get_or (tabulate n f ++ drop n l) k d) (sym e') ∙ get_or-append-add (tabulate n f) (drop n l) (i - n) d
         ∙ get_or-drop n l (i - n) d ∙ ap (λ (k : ℕ). get_or l k d) e
 
-    pub drop-overwrite : (n : ℕ) → drop n (overwrite n f l) ≡ drop n l
+    pub drop_overwrite : (n : ℕ) → drop n (overwrite n f l) ≡ drop n l
     unfolding overwrite
-    drop-overwrite n = drop_at (tabulate n f) (drop n l) n (length-tabulate n f)
+    drop_overwrite n = drop_at (tabulate n f) (drop n l) n (length_tabulate n f)
 
     -- memory that holds the table already
-    pub overwrite-same : (n : ℕ) (d : A) → n ≤ length l → ((i : ℕ) → i < n → f i ≡ get_or l i d) → overwrite n f l ≡ l
-    overwrite-same n d fits h =
-        ext_get_or d (overwrite n f l) l (length-overwrite n fits)
-        (λ i _. ⊎_elim (λ k. getD-overwrite n i d k ∙ h i k) (λ k. get_d_past n i d k) (split i n))
+    pub overwrite_same : (n : ℕ) (d : A) → n ≤ length l → ((i : ℕ) → i < n → f i ≡ get_or l i d) → overwrite n f l ≡ l
+    overwrite_same n d fits h =
+        ext_get_or d (overwrite n f l) l (length_overwrite n fits)
+        (λ i _. ⊎_elim (λ k. getD_overwrite n i d k ∙ h i k) (λ k. get_d_past n i d k) (split i n))
 
-    pub overwrite-none : l ≡ overwrite 0 f l
+    pub overwrite_none : l ≡ overwrite 0 f l
     unfolding overwrite tabulate
-    overwrite-none = refl
+    overwrite_none = refl
 
     -- one more place written
-    pub overwrite-more : (n : ℕ) → n < length l → set (overwrite n f l) n (f n) ≡ overwrite (n + 1) f l
+    pub overwrite_more : (n : ℕ) → n < length l → set (overwrite n f l) n (f n) ≡ overwrite (n + 1) f l
     unfolding overwrite
-    overwrite-more n h =
+    overwrite_more n h =
         rw (
           drop-cons l n (f n) h,
-          set_at (tabulate n f) (get_or l n (f n)) (drop (suc n) l) (f n) n (length-tabulate n f),
+          set_at (tabulate n f) (get_or l n (f n)) (drop (suc n) l) (f n) n (length_tabulate n f),
           add-one n,
-          tabulate-suc n f,
+          tabulate_suc n f,
           append_assoc,
         )
 
     -- the same as a step of a loop that stores a value
-    pub overwrite-step : {m : List A} {n : ℕ} (v : A) → m ≡ overwrite n f l → v ≡ f n → n < length l → set m n v ≡ overwrite (n + 1) f l
-    overwrite-step {m} {n} v e q h = rw (e, q) (overwrite-more n h)
+    pub overwrite_step : {m : List A} {n : ℕ} (v : A) → m ≡ overwrite n f l → v ≡ f n → n < length l → set m n v ≡ overwrite (n + 1) f l
+    overwrite_step {m} {n} v e q h = rw (e, q) (overwrite_more n h)
 
-    pub overwrite-done : {m : List A} {i n : ℕ} → i ≡ n → m ≡ overwrite i f l → m ≡ overwrite n f l
-    overwrite-done q e = e ∙ ap (λ z. overwrite z f l) q
+    pub overwrite_done : {m : List A} {i n : ℕ} → i ≡ n → m ≡ overwrite i f l → m ≡ overwrite n f l
+    overwrite_done q e = e ∙ ap (λ z. overwrite z f l) q
 
     -- a place not yet written
-    pub overwrite-read : {m : List A} {n : ℕ} (d : A) → m ≡ overwrite n f l → (i : ℕ) → n ≤ i → get_or m i d ≡ get_or l i d
-    overwrite-read {m} {n} d e i h = ap (λ (x : List A). get_or x i d) e ∙ get_d_past n i d h
+    pub overwrite_read : {m : List A} {n : ℕ} (d : A) → m ≡ overwrite n f l → (i : ℕ) → n ≤ i → get_or m i d ≡ get_or l i d
+    overwrite_read {m} {n} d e i h = ap (λ (x : List A). get_or x i d) e ∙ get_d_past n i d h
 
-    pub overwrite-ext : (n : ℕ) (h : ℕ → A) → ((i : ℕ) → i < n → f i ≡ h i) → overwrite n f l ≡ overwrite n h l
+    pub overwrite_ext : (n : ℕ) (h : ℕ → A) → ((i : ℕ) → i < n → f i ≡ h i) → overwrite n f l ≡ overwrite n h l
     unfolding overwrite
-    overwrite-ext n h e = ap (λ (xs : List A). xs ++ drop n l) (tabulate-ext n f h e)
+    overwrite_ext n h e = ap (λ (xs : List A). xs ++ drop n l) (tabulate_ext n f h e)

@@ -31,9 +31,9 @@ T_false false t = refl
 pub true-T : (b : Bool) → b ≡ true → T b
 true-T b e = subst T (sym e) tt
 
-pub not-not : (b : Bool) → T (not (not b)) → T b
-not-not true t = tt
-not-not false t = t
+pub not_not : (b : Bool) → T (not (not b)) → T b
+not_not true t = tt
+not_not false t = t
 
 -- a test passes or fails
 pub test : (b : Bool) → T b ⊎ T (not b)
@@ -80,11 +80,11 @@ module _ {A : Type 0} where
 
 -- ---- every
 
-pub every-at : (n : ℕ) (p : ℕ → Bool) → T (every n p) → (i : ℕ) → i < n → T (p i)
+pub every_at : (n : ℕ) (p : ℕ → Bool) → T (every n p) → (i : ℕ) → i < n → T (p i)
 unfolding every
-every-at zero p h i l = absurd (omega arith)
-every-at (suc n) p h i l =
-    ⊎_elim (λ k. every-at n p (T-left (every n p) (p n) h) i k)
+every_at zero p h i l = absurd (omega arith)
+every_at (suc n) p h i l =
+    ⊎_elim (λ k. every_at n p (T-left (every n p) (p n) h) i k)
     (λ k. let e : n ≡ i = omega arith in subst (λ j. T (p j)) e (T-right (every n p) (p n) h)) (split i n)
 
 pub every_of : (n : ℕ) (p : ℕ → Bool) → ((i : ℕ) → i < n → T (p i)) → T (every n p)
@@ -93,10 +93,10 @@ every_of zero p f = tt
 every_of (suc n) p f = and_T (every n p) (p n) (every_of n p (λ i l. f i (omega arith))) (f n (omega arith))
 
 -- a test that fails over the numbers below n fails at one of them
-pub not-every : (n : ℕ) (p : ℕ → Bool) → T (not (every n p)) → (i : ℕ) × (i < n) × T (not (p i))
+pub not_every : (n : ℕ) (p : ℕ → Bool) → T (not (every n p)) → (i : ℕ) × (i < n) × T (not (p i))
 unfolding every
-not-every zero p t = absurd t
-not-every (suc n) p t = by (every n p) (p n) (λ s. not-every n p s) (λ s. s) t
+not_every zero p t = absurd t
+not_every (suc n) p t = by (every n p) (p n) (λ s. not_every n p s) (λ s. s) t
   where
     by : (a b : Bool) → (T (not a) → (i : ℕ) × (i < n) × T (not (p i))) → (T (not b) → T (not (p n))) → T (not (a && b))
         → (i : ℕ) × (i < suc n) × T (not (p i))
@@ -104,31 +104,31 @@ not-every (suc n) p t = by (every n p) (p n) (λ s. not-every n p s) (λ s. s) t
     by true false f h s = (n, omega arith, h tt)
     by true true f h s = absurd s
 
-pub every-same : (n : ℕ) (p q : ℕ → Bool) → ((i : ℕ) → i < n → p i ≡ q i) → every n p ≡ every n q
+pub every_same : (n : ℕ) (p q : ℕ → Bool) → ((i : ℕ) → i < n → p i ≡ q i) → every n p ≡ every n q
 unfolding every
-every-same zero p q e = refl
-every-same (suc n) p q e = ap₂ (λ a b. a && b) (every-same n p q (λ i l. e i (omega arith))) (e n (omega arith))
+every_same zero p q e = refl
+every_same (suc n) p q e = ap₂ (λ a b. a && b) (every_same n p q (λ i l. e i (omega arith))) (e n (omega arith))
 
 -- ---- any
 
 module _ (n : ℕ) (p : ℕ → Bool) where
   pub any_at : T (any n p) → (i : ℕ) × (i < n) × T (p i)
-  any_at t = let r = not-every n (λ i. not (p i)) t in (r.0, r.1, not-not (p r.0) r.2)
+  any_at t = let r = not_every n (λ i. not (p i)) t in (r.0, r.1, not_not (p r.0) r.2)
 
   pub any_of : (i : ℕ) → i < n → T (p i) → T (any n p)
-  any_of i l t = not_T (every n (λ i. not (p i))) (λ h. T_not (p i) (every-at n (λ i. not (p i)) h i l) t)
+  any_of i l t = not_T (every n (λ i. not (p i))) (λ h. T_not (p i) (every_at n (λ i. not (p i)) h i l) t)
 
-  pub none-at : any n p ≡ false → (i : ℕ) → i < n → p i ≡ false
-  none-at e i l = T_false (p i) (not_T (p i) (λ t. subst T e (any_of i l t)))
+  pub none_at : any n p ≡ false → (i : ℕ) → i < n → p i ≡ false
+  none_at e i l = T_false (p i) (not_T (p i) (λ t. subst T e (any_of i l t)))
 
   pub none_of : ((i : ℕ) → i < n → p i ≡ false) → any n p ≡ false
   none_of f = T_false (any n p) (not_T (any n p) (λ t. let r = any_at t in subst T (f r.0 r.1) r.2))
 
 -- the first of them
-pub any-first : (n : ℕ) (p : ℕ → Bool) → T (any n p) → (i : ℕ) × (i < n) × T (p i) × ((j : ℕ) → j < i → T (not (p j)))
+pub any_first : (n : ℕ) (p : ℕ → Bool) → T (any n p) → (i : ℕ) × (i < n) × T (p i) × ((j : ℕ) → j < i → T (not (p j)))
 unfolding every
-any-first zero p t = absurd t
-any-first (suc n) p t = by (test (any n p)) (λ s. any-first n p s)
+any_first zero p t = absurd t
+any_first (suc n) p t = by (test (any n p)) (λ s. any_first n p s)
   where
     by : T (any n p) ⊎ T (not (any n p)) → (T (any n p) → (i : ℕ) × (i < n) × T (p i) × ((j : ℕ) → j < i → T (not (p j))))
         → (i : ℕ) × (i < suc n) × T (p i) × ((j : ℕ) → j < i → T (not (p j)))

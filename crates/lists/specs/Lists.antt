@@ -33,9 +33,9 @@ abbrev pub any : ℕ → (ℕ → Bool) → Bool
 any n p = not (every n (λ i. not (p i)))
 
 -- f 0 + f 1 + .. + f (n - 1)
-unfoldable pub sumBelow : ℕ → (ℕ → ℕ) → ℕ
-sumBelow zero f = 0
-sumBelow (suc n) f = sumBelow n f + f n
+unfoldable pub sum_below : ℕ → (ℕ → ℕ) → ℕ
+sum_below zero f = 0
+sum_below (suc n) f = sum_below n f + f n
 
 -- 1 where it holds, else 0
 abbrev pub bit : Bool → ℕ
@@ -43,8 +43,8 @@ bit true = 1
 bit false = 0
 
 -- how many pass p
-unfoldable pub countBelow : ℕ → (ℕ → Bool) → ℕ
-countBelow n p = sumBelow n (λ t. bit (p t))
+unfoldable pub count_below : ℕ → (ℕ → Bool) → ℕ
+count_below n p = sum_below n (λ t. bit (p t))
 
 -- the greatest f t; 0 where n is 0
 unfoldable pub greatest : ℕ → (ℕ → ℕ) → ℕ
@@ -90,14 +90,14 @@ module _ {A : Type 0} where
   is_empty (x ∷ xs) = false
 
 -- the least of x and a list
-abbrev pub leastFrom : ℕ → List ℕ → ℕ
-leastFrom x [] = x
-leastFrom x (y ∷ ys) = min x (leastFrom y ys)
+abbrev pub least_from : ℕ → List ℕ → ℕ
+least_from x [] = x
+least_from x (y ∷ ys) = min x (least_from y ys)
 
 -- the least of a list; 0 of the empty list
 abbrev pub least : List ℕ → ℕ
 least [] = 0
-least (x ∷ xs) = leastFrom x xs
+least (x ∷ xs) = least_from x xs
 
 -- the elements of a list that stand before the first x
 abbrev pub before : ℕ → List ℕ → List ℕ

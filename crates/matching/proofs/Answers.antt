@@ -5,16 +5,16 @@ use Prim.Native.Nat.{ℕ, ◌*◌, ◌<◌}
 use native.Mathlib.Omega.{arith}
 use Rattle.study.specs.declared.Minima.{Minima}
 use Rattle.promise.specs.Promise.{Asked, Promise, Nowhere}
-use Rattle.promise.proofs.Enough.{enough-tides}
+use Rattle.promise.proofs.Enough.{enough_tides}
 use Rattle.promise.specs.Promise.{meeting, Able}
-use Rattle.promise.proofs.MeetingLaws.{meeting-least}
+use Rattle.promise.proofs.MeetingLaws.{meeting_least}
 use Rattle.matching.specs.Matching.{Unsaturable}
 use Rattle.matching.specs.Graph.{Edge, Saturated}
 use Rattle.matching.specs.Slots.{Slots}
 use Rattle.lists.specs.Lists.{TailKept}
-use Rattle.lists.proofs.Tables.{tail-same, tail-trans}
+use Rattle.lists.proofs.Tables.{tail_same, tail_trans}
 use Rattle.matching.specs.Steps.{ListWritten}
-use Rattle.matching.proofs.Correspondence.{no-assignment, written-assigned}
+use Rattle.matching.proofs.Correspondence.{no_assignment, written_assigned}
 
 module _ {n blocks : ℕ} (M : Minima) (settings : List ℕ) {allowed list : List ℕ} where
   -- more slots than tides
@@ -22,8 +22,8 @@ module _ {n blocks : ℕ} (M : Minima) (settings : List ℕ) {allowed list : Lis
   too_few h =
       record {
         found = λ e. absurd (false≢true e);
-        none = λ _ D asg. let l = enough-tides n blocks M.b0 (meeting M n settings) _ D (meeting-least M n settings) asg in omega arith;
-        tail = tail-same n list;
+        none = λ _ D asg. let l = enough_tides n blocks M.b0 (meeting M n settings) _ D (meeting_least M n settings) asg in omega arith;
+        tail = tail_same n list;
       }
 
   -- a tide may go nowhere
@@ -33,7 +33,7 @@ module _ {n blocks : ℕ} (M : Minima) (settings : List ℕ) {allowed list : Lis
       record {
         found = λ e. absurd (false≢true e);
         none = λ _ D asg. w.2 (D w.0) (asg.below w.0 w.1) (asg.may w.0 w.1);
-        tail = tail-trans re re';
+        tail = tail_trans re re';
       }
 
 module _ {n blocks : ℕ} {M : Minima} {settings allowed list owner kind list' : List ℕ} (ask : Asked (Able M n settings) n blocks allowed list)
@@ -44,7 +44,7 @@ module _ {n blocks : ℕ} {M : Minima} {settings allowed list owner kind list' :
   unsaturable un re =
       record {
         found = λ e. absurd (false≢true e);
-        none = λ _ D asg. no-assignment n blocks M settings allowed list owner kind D ask sl asg un;
+        none = λ _ D asg. no_assignment n blocks M settings allowed list owner kind D ask sl asg un;
         tail = re;
       }
 
@@ -54,7 +54,7 @@ module _ {n blocks : ℕ} {M : Minima} {settings allowed list owner kind list' :
       → Promise n blocks (meeting M n settings) allowed list list' true
   listed {tide} {slot} sat wr re =
       record {
-        found = λ _. written-assigned n blocks M settings allowed owner kind tide slot list' ask.able.fit sl sat wr;
+        found = λ _. written_assigned n blocks M settings allowed owner kind tide slot list' ask.able.fit sl sat wr;
         none = λ e. absurd (true≢false e);
         tail = re;
       }

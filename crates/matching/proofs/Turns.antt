@@ -11,13 +11,13 @@ use lib.Seq.{get_or-set_same, get_or-set_other}
 use Rattle.lists.specs.Lists.{at}
 use Rattle.matching.specs.Matching.{Matching, Tree, TidesKept, Closed, freed}
 use Rattle.matching.specs.Graph.{EdgeAt, Edge, SizedGraph, Scanning, Marked, Free, Searched, Augmented, Shifting, Saturated}
-use Rattle.matching.proofs.Push.{pushed, push-seen, push-here, push-rank, room, queue-old, rank-old}
-use Rattle.matching.proofs.Shift.{swapped, swap-free, swap-kept, swap-here, swap-root, swap-falls, swap-next, swap-edge, swap-path, tree-path}
+use Rattle.matching.proofs.Push.{pushed, push_seen, push_here, push_rank, room, queue_old, rank_old}
+use Rattle.matching.proofs.Shift.{swapped, swap_free, swap_kept, swap_here, swap_root, swap_falls, swap_next, swap_edge, swap_path, tree_path}
 use Rattle.matching.proofs.Hall.{hall}
 
 -- what holds of each index below i, and of i, holds of each below i + 1
-upto-case : {A : Type 0} (i k : ℕ) → k < i + 1 → (k ≡ i → A) → (k < i → A) → A
-upto-case {A = A} i k l here before = go (dec_lt k i)
+upto_case : {A : Type 0} (i k : ℕ) → k < i + 1 → (k ≡ i → A) → (k < i → A) → A
+upto_case {A = A} i k l here before = go (dec_lt k i)
   where
     go : Dec (k < i) → A
     go (yes h) = before h
@@ -25,9 +25,9 @@ upto-case {A = A} i k l here before = go (dec_lt k i)
 
 module _ {E : ℕ → ℕ → Type 0} {slots tides : ℕ} {tide slot : List ℕ} (small : slots ≤ 120) (few : tides ≤ 120)
     (v : Matching E slots tides tide slot) {s start : ℕ} (sl : s < slots) {from₀ rank₀ queue₀ : List ℕ} where
-  pub scan-start : Tree E slots tides start tide slot from₀ rank₀ queue₀ → at rank₀ s < 120
+  pub scan_start : Tree E slots tides start tide slot from₀ rank₀ queue₀ → at rank₀ s < 120
       → Scanning E slots tides s start 0 start tide slot from₀ rank₀ queue₀ from₀ rank₀ queue₀
-  scan-start tr sr =
+  scan_start tr sr =
       record {
         tree = tr;
         grown = omega arith;
@@ -40,8 +40,8 @@ module _ {E : ℕ → ℕ → Type 0} {slots tides : ℕ} {tide slot : List ℕ}
 
   module _ {t tail : ℕ} {from rank queue : List ℕ} (sc : Scanning E slots tides s start t tail tide slot from₀ rank₀ queue₀ from rank queue) where
     -- all tides are passed
-    pub scan-end : {k : ℕ} → tides ≤ t → Scanning E slots tides s start k tail tide slot from₀ rank₀ queue₀ from rank queue
-    scan-end h =
+    pub scan_end : {k : ℕ} → tides ≤ t → Scanning E slots tides s start k tail tide slot from₀ rank₀ queue₀ from rank queue
+    scan_end h =
         record {
           tree = sc.tree;
           grown = sc.grown;
@@ -53,9 +53,9 @@ module _ {E : ℕ → ℕ → Type 0} {slots tides : ℕ} {tide slot : List ℕ}
         }
 
     -- t is passed over
-    pub scan-skip : {tail' : ℕ} {from' rank' queue' : List ℕ} → (E s t → at from t < slots) → from' ≡ from → rank' ≡ rank → queue' ≡ queue → tail' ≡ tail
+    pub scan_skip : {tail' : ℕ} {from' rank' queue' : List ℕ} → (E s t → at from t < slots) → from' ≡ from → rank' ≡ rank → queue' ≡ queue → tail' ≡ tail
         → Scanning E slots tides s start (t + 1) tail' tide slot from₀ rank₀ queue₀ from' rank' queue'
-    scan-skip not e₁ e₂ e₃ e₄ =
+    scan_skip not e₁ e₂ e₃ e₄ =
         rw (e₁, e₂, e₃, e₄) (record {
           tree = sc.tree;
           grown = sc.grown;
@@ -63,24 +63,24 @@ module _ {E : ℕ → ℕ → Type 0} {slots tides : ℕ} {tide slot : List ℕ}
           in_tree = sc.in_tree;
           seen = sc.seen;
           old = sc.old;
-          done = λ x l xl e. upto-case t x l (λ q. rw q (not (rw q at e))) (λ k. sc.done x k xl e);
+          done = λ x l xl e. upto_case t x l (λ q. rw q (not (rw q at e))) (λ k. sc.done x k xl e);
         })
 
     module _ (tl : t < tides) (new : slots ≤ at from t) (e : E s t) (hl : at slot t < slots) where
-      pub scan-room : tail < slots
-      scan-room = room small few v sc.tree sl sc.in_tree tl new e hl
+      pub scan_room : tail < slots
+      scan_room = room small few v sc.tree sl sc.in_tree tl new e hl
 
       -- the holder of t joins
-      pub scan-push : {tail' : ℕ} {from' rank' queue' : List ℕ} → from' ≡ set from t s → rank' ≡ set rank (at slot t) tail
+      pub scan_push : {tail' : ℕ} {from' rank' queue' : List ℕ} → from' ≡ set from t s → rank' ≡ set rank (at slot t) tail
           → queue' ≡ set queue tail (at slot t) → tail' ≡ tail + 1
           → Scanning E slots tides s start (t + 1) tail' tide slot from₀ rank₀ queue₀ from' rank' queue'
-      scan-push e₁ e₂ e₃ e₄ = rw (e₁, e₂, e₃, e₄) made
+      scan_push e₁ e₂ e₃ e₄ = rw (e₁, e₂, e₃, e₄) made
         where
-          seen-kept : (x : ℕ) → at from x < slots → at (set from t s) x < slots
-          seen-kept = push-seen small few v sc.tree sl sc.in_tree tl new e hl
+          seen_kept : (x : ℕ) → at from x < slots → at (set from t s) x < slots
+          seen_kept = push_seen small few v sc.tree sl sc.in_tree tl new e hl
 
-          rank-kept : (x : ℕ) → at (set rank (at slot t) tail) x < tail → at rank x ≡ at (set rank (at slot t) tail) x
-          rank-kept = push-rank small few v sc.tree sl sc.in_tree tl new e hl
+          rank_kept : (x : ℕ) → at (set rank (at slot t) tail) x < tail → at rank x ≡ at (set rank (at slot t) tail) x
+          rank_kept = push_rank small few v sc.tree sl sc.in_tree tl new e hl
 
           made : Scanning E slots tides s start (t + 1) (tail + 1) tide slot from₀ rank₀ queue₀
               (set from t s) (set rank (at slot t) tail) (set queue tail (at slot t))
@@ -88,21 +88,21 @@ module _ {E : ℕ → ℕ → Type 0} {slots tides : ℕ} {tide slot : List ℕ}
               record {
                 tree = pushed small few v sc.tree sl sc.in_tree tl new e hl;
                 grown = let g = sc.grown in omega arith;
-                front = queue-old small few v sc.tree sl sc.in_tree tl new e hl 0 sc.tree.some ∙ sc.front;
+                front = queue_old small few v sc.tree sl sc.in_tree tl new e hl 0 sc.tree.some ∙ sc.front;
                 in_tree =
                     let i = sc.in_tree in
-                    let k = rank-old small few v sc.tree sl i tl new e hl s i in
+                    let k = rank_old small few v sc.tree sl i tl new e hl s i in
                     omega arith;
-                seen = λ x xl h. seen-kept x (sc.seen x xl h);
-                old = λ x xl h. let g = sc.grown in let k = rank-kept x (omega arith) in sc.old x xl (omega arith) ∙ k;
+                seen = λ x xl h. seen_kept x (sc.seen x xl h);
+                old = λ x xl h. let g = sc.grown in let k = rank_kept x (omega arith) in sc.old x xl (omega arith) ∙ k;
                 done =
                     λ x l xl p.
-                    upto-case
+                    upto_case
                     t
                     x
                     l
-                    (λ q. rw q (push-here small few v sc.tree sl sc.in_tree tl new e hl))
-                    (λ k. seen-kept x (sc.done x k xl p));
+                    (λ q. rw q (push_here small few v sc.tree sl sc.in_tree tl new e hl))
+                    (λ k. seen_kept x (sc.done x k xl p));
               }
 
 -- ---- along an augmenting path
@@ -110,43 +110,43 @@ module _ {E : ℕ → ℕ → Type 0} {slots tides root s t : ℕ} {tide₀ tide
     (sh : Shifting E slots tides root s t tide₀ tide slot from rank) where
   module _ {o : ℕ} {tide' slot' : List ℕ} (eo : o ≡ at tide s) (et : tide' ≡ set tide s t) (es : slot' ≡ freed slot s t (at tide s) tides) where
     matching' : Matching E slots tides tide' slot'
-    matching' = rw (et, es) (swapped small few sh.matching sh.below sh.tide-below sh.free.free sh.free.edge)
+    matching' = rw (et, es) (swapped small few sh.matching sh.below sh.tide_below sh.free.free sh.free.edge)
 
     kept' : TidesKept slots tides tide₀ tide'
     kept' x xl h =
-        rw et (swap-kept small few sh.matching sh.below sh.tide-below sh.free.free sh.free.edge x xl (sh.kept x xl h))
+        rw et (swap_kept small few sh.matching sh.below sh.tide_below sh.free.free sh.free.edge x xl (sh.kept x xl h))
 
     pub shift_falls : o < tides → at rank (at from o) < at rank s
     shift_falls h =
-        rw eo (swap-falls small few sh.matching sh.below sh.tide-below sh.free.free sh.free.edge sh.path sh.in_tree (rw eo at h))
+        rw eo (swap_falls small few sh.matching sh.below sh.tide_below sh.free.free sh.free.edge sh.path sh.in_tree (rw eo at h))
 
-    pub shift-again : o < tides → Shifting E slots tides root (at from o) o tide₀ tide' slot' from rank
-    shift-again h =
+    pub shift_again : o < tides → Shifting E slots tides root (at from o) o tide₀ tide' slot' from rank
+    shift_again h =
         let k : at tide s < tides = rw eo at h in
         let f = shift_falls h in
         let i = sh.in_tree in
         record {
-          below = rw eo (swap-next small few sh.matching sh.below sh.tide-below sh.free.free sh.free.edge sh.path sh.in_tree k);
-          tide-below = h;
+          below = rw eo (swap_next small few sh.matching sh.below sh.tide_below sh.free.free sh.free.edge sh.path sh.in_tree k);
+          tide_below = h;
           in_tree = omega arith;
           matching = matching';
           free = record {
-            edge = rw eo (swap-edge small few sh.matching sh.below sh.tide-below sh.free.free sh.free.edge sh.path sh.in_tree k);
-            free = rw (es, eo) (swap-free small few sh.matching sh.below sh.tide-below sh.free.free sh.free.edge k);
+            edge = rw eo (swap_edge small few sh.matching sh.below sh.tide_below sh.free.free sh.free.edge sh.path sh.in_tree k);
+            free = rw (es, eo) (swap_free small few sh.matching sh.below sh.tide_below sh.free.free sh.free.edge k);
           };
-          path = rw (et, eo) (swap-path small few sh.matching sh.below sh.tide-below sh.free.free sh.free.edge sh.path sh.in_tree k);
+          path = rw (et, eo) (swap_path small few sh.matching sh.below sh.tide_below sh.free.free sh.free.edge sh.path sh.in_tree k);
           kept = kept';
         }
 
-    pub shift-end : tides ≤ o → Augmented E slots tides root tide₀ tide' slot'
-    shift-end h =
+    pub shift_end : tides ≤ o → Augmented E slots tides root tide₀ tide' slot'
+    shift_end h =
         let k : tides ≤ at tide s = rw eo at h in
-        let q : s ≡ root = swap-root small few sh.matching sh.below sh.tide-below sh.free.free sh.free.edge sh.path sh.in_tree k in
+        let q : s ≡ root = swap_root small few sh.matching sh.below sh.tide_below sh.free.free sh.free.edge sh.path sh.in_tree k in
         record {
           matching = matching';
           kept = kept';
           here =
-              rw (et, ← q) (swap-here small few sh.matching sh.below sh.tide-below sh.free.free sh.free.edge);
+              rw (et, ← q) (swap_here small few sh.matching sh.below sh.tide_below sh.free.free sh.free.edge);
         }
 
 -- ---- a slot of a block and kind that may be marked
@@ -156,14 +156,14 @@ module _ {allowed settings owner kind : List ℕ} {slots tides : ℕ} (z : Sized
   abbrev E : ℕ → ℕ → Type 0
   E = Edge allowed settings owner kind
 
-  pub class-below : at owner s * 9 + at kind s < 1080
-  class-below = omega (arith, z.blocks s sl, z.kind-high s sl)
+  pub class_below : at owner s * 9 + at kind s < 1080
+  class_below = omega (arith, z.blocks s sl, z.kind_high s sl)
 
   -- every tide that the slot can hold is seen, from a slot of the kind k
-  pub visit-known : {k i start : ℕ} {tide slot rank queue : List ℕ} → Tree E slots tides start tide slot from rank queue → at rank s < 120
+  pub visit_known : {k i start : ℕ} {tide slot rank queue : List ℕ} → Tree E slots tides start tide slot from rank queue → at rank s < 120
       → (k ≡ 0) ⊎ (k ≡ at kind s) → i ≡ at owner s * 9 + k → (at mark i ≡ 0 → ⊥)
       → Scanning E slots tides s start 120 start tide slot from rank queue from rank queue
-  visit-known {k} tr sr w ei h =
+  visit_known {k} tr sr w ei h =
       record {
         tree = tr;
         grown = omega arith;
@@ -172,16 +172,16 @@ module _ {allowed settings owner kind : List ℕ} {slots tides : ℕ} (z : Sized
         seen = λ t tl k. k;
         old = λ x xl k. refl;
         done = λ t l tl e.
-            let low : k ≤ 8 = ⊎_elim (λ q. omega arith) (λ q. omega (arith, z.kind-high s sl)) w in
+            let low : k ≤ 8 = ⊎_elim (λ q. omega arith) (λ q. omega (arith, z.kind_high s sl)) w in
             mk.seen (at owner s) k (z.blocks s sl) low (rw (← ei) h) t tl
             (record { may = e.may; suits = ⊎_elim (λ q. inl q) (λ q. subst (λ (i : ℕ). (i ≡ 0) ⊎ (at settings t ≡ i)) (sym q) e.suits) w });
       }
 
   -- the slot is scanned, and its block and kind marked
-  pub visit-marked : {start f tail : ℕ} {tide slot rank queue from' rank' queue' : List ℕ}
+  pub visit_marked : {start f tail : ℕ} {tide slot rank queue from' rank' queue' : List ℕ}
       → Scanning E slots tides s start f tail tide slot from rank queue from' rank' queue' → tides ≤ f
       → Marked allowed settings slots tides (set mark (at owner s * 9 + at kind s) 1) from'
-  visit-marked {from' = from'} sc h =
+  visit_marked {from' = from'} sc h =
       record {
         long = length-set mark (at owner s * 9 + at kind s) 1 ∙ mk.long;
         seen = λ m k ml kl g t tl e. go m k ml kl g t tl e (ℕ_discrete (m * 9 + k) (at owner s * 9 + at kind s));
@@ -190,15 +190,15 @@ module _ {allowed settings owner kind : List ℕ} {slots tides : ℕ} (z : Sized
       go : (m k : ℕ) → m < 120 → k ≤ 8 → (at (set mark (at owner s * 9 + at kind s) 1) (m * 9 + k) ≡ 0 → ⊥)
           → (t : ℕ) → t < tides → EdgeAt allowed settings m k t → Dec (m * 9 + k ≡ at owner s * 9 + at kind s) → at from' t < slots
       go m k ml kl g t tl e (yes q) =
-          let b = z.kind-high s sl in
+          let b = z.kind_high s sl in
           let x : m ≡ at owner s = omega arith in
           let y : k ≡ at kind s = omega arith in
           sc.done t (omega arith) tl (subst₂ (λ (i j : ℕ). EdgeAt allowed settings i j t) x y e)
       go m k ml kl g t tl e (no q) =
           sc.seen t tl (mk.seen m k ml kl (λ r. g (get_or-set_other mark (at owner s * 9 + at kind s) (m * 9 + k) 1 0 q ∙ r)) t tl e)
 
-pub blank-marked : {allowed settings from : List ℕ} {slots tides : ℕ} → Marked allowed settings slots tides (replicate 1080 0) from
-blank-marked =
+pub blank_marked : {allowed settings from : List ℕ} {slots tides : ℕ} → Marked allowed settings slots tides (replicate 1080 0) from
+blank_marked =
     record {
       long = length-replicate {A = ℕ} 1080 0;
       seen = λ m k ml kl g. absurd (g (get_or-replicate 1080 (m * 9 + k) 0 0 (omega arith)));
@@ -207,11 +207,11 @@ blank-marked =
 -- ---- a first matching
 
 -- the matching that gives no slot a tide
-pub blank-matching : {E : ℕ → ℕ → Type 0} {slots tides : ℕ} → slots ≤ 120 → tides ≤ 120 → Matching E slots tides (replicate 120 120) (replicate 120 120)
-blank-matching small few =
+pub blank_matching : {E : ℕ → ℕ → Type 0} {slots tides : ℕ} → slots ≤ 120 → tides ≤ 120 → Matching E slots tides (replicate 120 120) (replicate 120 120)
+blank_matching small few =
     record {
-      tide-long = length-replicate {A = ℕ} 120 120;
-      slot-long = length-replicate {A = ℕ} 120 120;
+      tide_long = length-replicate {A = ℕ} 120 120;
+      slot_long = length-replicate {A = ℕ} 120 120;
       edge = λ s sl h. let a = blank s (omega arith) in absurd (omega arith);
       there = λ s sl h. let a = blank s (omega arith) in absurd (omega arith);
       back = λ t tl h. let a = blank t (omega arith) in absurd (omega arith);
@@ -236,17 +236,17 @@ pub record Growing (E : ℕ → ℕ → Type 0) (slots tides root head tail : �
 
 module _ {E : ℕ → ℕ → Type 0} {slots tides root : ℕ} {tide slot : List ℕ} (small : slots ≤ 120) (few : tides ≤ 120)
     (v : Matching E slots tides tide slot) where
-  pub grow-start : {from rank queue : List ℕ} → Tree E slots tides 1 tide slot from rank queue → root ≡ at queue 0
+  pub grow_start : {from rank queue : List ℕ} → Tree E slots tides 1 tide slot from rank queue → root ≡ at queue 0
       → Growing E slots tides root 0 1 tide slot from rank queue
-  grow-start tr e =
+  grow_start tr e =
       record { tree = tr; front = sym e; closed = λ s sl h. absurd (omega arith); within = omega arith }
 
   module _ {head tail : ℕ} {from rank queue : List ℕ} (gr : Growing E slots tides root head tail tide slot from rank queue) where
-    pub grow-in-tree : head < tail → at rank (at queue head) < 120
-    grow-in-tree h = let p = gr.tree.place head h in let f = gr.tree.few in omega arith
+    pub grow_in_tree : head < tail → at rank (at queue head) < 120
+    grow_in_tree h = let p = gr.tree.place head h in let f = gr.tree.few in omega arith
 
-    pub grow-none : {s f : ℕ} → tides ≤ f → tail ≤ head → Searched E slots tides root s f tide slot from rank
-    grow-none c h =
+    pub grow_none : {s f : ℕ} → tides ≤ f → tail ≤ head → Searched E slots tides root s f tide slot from rank
+    grow_none c h =
         let q : head ≡ tail = let w = gr.within in omega arith in
         record {
           found = λ l. absurd (omega arith);
@@ -258,8 +258,8 @@ module _ {E : ℕ → ℕ → Type 0} {slots tides root : ℕ} {tide slot : List
 
     module _ (h : head < tail) {f tail' : ℕ} {from' rank' queue' : List ℕ}
         (sc : Scanning E slots tides (at queue head) tail f tail' tide slot from rank queue from' rank' queue') where
-      pub grow-found : f < tides → Free E slots (at queue head) f slot → Searched E slots tides root (at queue head) f tide slot from' rank'
-      grow-found l fr =
+      pub grow_found : f < tides → Free E slots (at queue head) f slot → Searched E slots tides root (at queue head) f tide slot from' rank'
+      grow_found l fr =
           let i = sc.in_tree in
           record {
             found = λ _. fr;
@@ -267,18 +267,18 @@ module _ {E : ℕ → ℕ → Type 0} {slots tides root : ℕ} {tide slot : List
             in_tree = λ _. i;
             path =
                 λ _.
-                rw (← gr.front, ← sc.front) (tree-path v sc.tree (omega arith));
+                rw (← gr.front, ← sc.front) (tree_path v sc.tree (omega arith));
             none = λ g. absurd (omega arith);
           }
 
-      pub grow-again : f ≡ 120 → Growing E slots tides root (head + 1) tail' tide slot from' rank' queue'
-      grow-again e =
+      pub grow_again : f ≡ 120 → Growing E slots tides root (head + 1) tail' tide slot from' rank' queue'
+      grow_again e =
           record {
             tree = sc.tree;
             front = sc.front ∙ gr.front;
             closed =
                 λ s sl l t tl p.
-                upto-case
+                upto_case
                 head
                 (at rank' s)
                 l
@@ -301,11 +301,11 @@ module _ (E : ℕ → ℕ → Type 0) (slots tides root : ℕ) (tide slot : List
   abbrev blank : List ℕ
   blank = replicate 120 120
 
-  blank-len : length blank ≡ 120
-  blank-len = length-replicate {A = ℕ} 120 120
+  blank_len : length blank ≡ 120
+  blank_len = length-replicate {A = ℕ} 120 120
 
-  blank-at : (i : ℕ) → i < 120 → at blank i ≡ 120
-  blank-at i l = get_or-replicate 120 i 120 0 l
+  blank_at : (i : ℕ) → i < 120 → at blank i ≡ 120
+  blank_at i l = get_or-replicate 120 i 120 0 l
 
   abbrev rank₁ : List ℕ
   rank₁ = set blank root 0
@@ -313,11 +313,11 @@ module _ (E : ℕ → ℕ → Type 0) (slots tides root : ℕ) (tide slot : List
   abbrev queue₁ : List ℕ
   queue₁ = set blank 0 root
 
-  rank-root : at rank₁ root ≡ 0
-  rank-root = get_or-set_same blank root 0 0 (rw blank-len (omega arith))
+  rank_root : at rank₁ root ≡ 0
+  rank_root = get_or-set_same blank root 0 0 (rw blank_len (omega arith))
 
-  queue-root : at queue₁ 0 ≡ root
-  queue-root = get_or-set_same blank 0 root 0 (rw blank-len (omega arith))
+  queue_root : at queue₁ 0 ≡ root
+  queue_root = get_or-set_same blank 0 root 0 (rw blank_len (omega arith))
 
   only : (x : ℕ) → x < slots → at rank₁ x < 120 → x ≡ root
   only x xl h = go (ℕ_discrete x root)
@@ -326,54 +326,54 @@ module _ (E : ℕ → ℕ → Type 0) (slots tides root : ℕ) (tide slot : List
       go (yes q) = q
       go (no n) =
           let a = get_or-set_other blank root x 0 0 n in
-          let b = blank-at x (omega arith) in
+          let b = blank_at x (omega arith) in
           absurd (omega arith)
 
-  one-slot : Tree E slots tides 1 tide slot blank rank₁ queue₁
-  one-slot =
+  one_slot : Tree E slots tides 1 tide slot blank rank₁ queue₁
+  one_slot =
       record {
-        from-long = blank-len;
-        rank-long = length-set blank root 0 ∙ blank-len;
-        queue_long = length-set blank 0 root ∙ blank-len;
+        from_long = blank_len;
+        rank_long = length-set blank root 0 ∙ blank_len;
+        queue_long = length-set blank 0 root ∙ blank_len;
         some = omega arith;
         few = omega arith;
-        root = rw queue-root free;
-        entry = λ i l. let z : i ≡ 0 = omega arith in rw (z, queue-root) rl;
-        place = λ i l. let z : i ≡ 0 = omega arith in rw (z, queue-root) rank-root;
-        ranked = λ s sl h. let q = only s sl h in rw (q, rank-root) (omega arith);
-        home = λ s sl h. let q = only s sl h in rw (q, rank-root) queue-root;
-        seen = λ t tl h. let b = blank-at t (omega arith) in absurd (omega arith);
-        holder = λ t tl h. let b = blank-at t (omega arith) in absurd (omega arith);
-        rises = λ t tl h. let b = blank-at t (omega arith) in absurd (omega arith);
-        joined = λ t tl h. let b = blank-at t (omega arith) in absurd (omega arith);
-        held = λ s sl h p. let q = only s sl h in let z : at rank₁ s ≡ 0 = rw q rank-root in absurd (omega arith);
-        through = λ s sl h p. let q = only s sl h in let z : at rank₁ s ≡ 0 = rw q rank-root in absurd (omega arith);
+        root = rw queue_root free;
+        entry = λ i l. let z : i ≡ 0 = omega arith in rw (z, queue_root) rl;
+        place = λ i l. let z : i ≡ 0 = omega arith in rw (z, queue_root) rank_root;
+        ranked = λ s sl h. let q = only s sl h in rw (q, rank_root) (omega arith);
+        home = λ s sl h. let q = only s sl h in rw (q, rank_root) queue_root;
+        seen = λ t tl h. let b = blank_at t (omega arith) in absurd (omega arith);
+        holder = λ t tl h. let b = blank_at t (omega arith) in absurd (omega arith);
+        rises = λ t tl h. let b = blank_at t (omega arith) in absurd (omega arith);
+        joined = λ t tl h. let b = blank_at t (omega arith) in absurd (omega arith);
+        held = λ s sl h p. let q = only s sl h in let z : at rank₁ s ≡ 0 = rw q rank_root in absurd (omega arith);
+        through = λ s sl h p. let q = only s sl h in let z : at rank₁ s ≡ 0 = rw q rank_root in absurd (omega arith);
       }
 
 pub alone : {E : ℕ → ℕ → Type 0} {slots tides root : ℕ} {tide slot : List ℕ} → slots ≤ 120 → tides ≤ 120 → root < slots → tides ≤ at tide root
     → Tree E slots tides 1 tide slot (replicate 120 120) (set (replicate 120 120) root 0) (set (replicate 120 120) 0 root)
-alone {E} {slots} {tides} {root} {tide} {slot} small few rl free = one-slot E slots tides root tide slot small few rl free
+alone {E} {slots} {tides} {root} {tide} {slot} small few rl free = one_slot E slots tides root tide slot small few rl free
 
 -- ---- the slots in turn
 
 module _ {E : ℕ → ℕ → Type 0} {slots tides : ℕ} {tide slot : List ℕ} where
-  pub saturated-start : Matching E slots tides tide slot → {i : ℕ} → i ≤ 0 → Saturated E slots tides i tide slot
-  saturated-start v {i} h = record { matching = v; full = λ x l. absurd (omega arith) }
+  pub saturated_start : Matching E slots tides tide slot → {i : ℕ} → i ≤ 0 → Saturated E slots tides i tide slot
+  saturated_start v {i} h = record { matching = v; full = λ x l. absurd (omega arith) }
 
   module _ {s : ℕ} (sat : Saturated E slots tides s tide slot) where
-    pub saturated-end : slots ≤ s → Saturated E slots tides slots tide slot
-    saturated-end h = record { matching = sat.matching; full = λ x l. sat.full x (omega arith) }
+    pub saturated_end : slots ≤ s → Saturated E slots tides slots tide slot
+    saturated_end h = record { matching = sat.matching; full = λ x l. sat.full x (omega arith) }
 
     module _ {i : ℕ} (step : i ≤ s + 1) {tide₁ slot₁ tide' slot' : List ℕ} (e₁ : tide' ≡ tide₁) (e₂ : slot' ≡ slot₁) where
       -- the slot s has a tide
-      pub saturated-skip : at tide s < tides → tide₁ ≡ tide → slot₁ ≡ slot → Saturated E slots tides i tide' slot'
-      saturated-skip h q₁ q₂ =
-          rw (e₁, e₂, q₁, q₂) (record { matching = sat.matching; full = λ x l. upto-case s x (omega arith) (λ q. rw q h) (λ k. sat.full x k) })
+      pub saturated_skip : at tide s < tides → tide₁ ≡ tide → slot₁ ≡ slot → Saturated E slots tides i tide' slot'
+      saturated_skip h q₁ q₂ =
+          rw (e₁, e₂, q₁, q₂) (record { matching = sat.matching; full = λ x l. upto_case s x (omega arith) (λ q. rw q h) (λ k. sat.full x k) })
 
       -- the slot s gets one
-      pub saturated-more : s < slots → Augmented E slots tides s tide tide₁ slot₁ → Saturated E slots tides i tide' slot'
-      saturated-more sl be =
+      pub saturated_more : s < slots → Augmented E slots tides s tide tide₁ slot₁ → Saturated E slots tides i tide' slot'
+      saturated_more sl be =
           rw (e₁, e₂) (record {
             matching = be.matching;
-            full = λ x l. upto-case s x (omega arith) (λ q. rw q be.here) (λ k. be.kept x (omega arith) (sat.full x k));
+            full = λ x l. upto_case s x (omega arith) (λ q. rw q be.here) (λ k. be.kept x (omega arith) (sat.full x k));
           })

@@ -9,50 +9,50 @@ use native.Mathlib.Omega.{arith}
 use lib.Dec.{T}
 use lib.ListN.{length, set}
 use lib.Seq.{get_or-set_same, get_or-set_other}
-use Rattle.study.specs.Limits.{tableSize}
+use Rattle.study.specs.Limits.{table_size}
 use Rattle.study.specs.declared.Minima.{Minima}
 use Rattle.promise.specs.Promise.{allows, Asked, Nowhere}
 use Rattle.promise.specs.Promise.{Able}
 use Rattle.lists.specs.Lists.{at, TailKept}
-use Rattle.lists.proofs.Tables.{tail-same, tail-set}
+use Rattle.lists.proofs.Tables.{tail_same, tail_set}
 use Rattle.matching.specs.Matching.{Matching}
 use Rattle.matching.specs.Graph.{Edge, SizedGraph}
 use Rattle.matching.specs.Slots.{Slots}
 use Rattle.matching.specs.Steps.{Owned, BlockOf, ListWritten, ListAnswer}
-use Rattle.matching.proofs.Correspondence.{slot-below, slot-kind}
+use Rattle.matching.proofs.Correspondence.{slot_below, slot_kind}
 
 -- the list as far as t
 pub record WrittenTo (t n blocks slots : ℕ) (allowed owner slot list₀ list : List ℕ) : Type 0 where
   pub rest : TailKept n list₀ list
   pub done : ListWritten t blocks slots allowed owner slot list
 
-pub write-start : {n blocks slots : ℕ} {allowed owner slot list : List ℕ} → WrittenTo 0 n blocks slots allowed owner slot list list
-write-start {n} {list = list} =
+pub write_start : {n blocks slots : ℕ} {allowed owner slot list : List ℕ} → WrittenTo 0 n blocks slots allowed owner slot list list
+write_start {n} {list = list} =
     record {
-      rest = tail-same n list;
+      rest = tail_same n list;
       done = record { below = λ k l. absurd (omega arith); may = λ k l. absurd (omega arith); own = λ k l. absurd (omega arith) };
     }
 
 module _ {t n blocks slots : ℕ} {allowed owner slot list₀ list : List ℕ} (wt : WrittenTo t n blocks slots allowed owner slot list₀ list) where
-  pub write-more : {r : ℕ} → t < n → n ≤ length list₀ → r < blocks → BlockOf allowed owner slot blocks slots t r
+  pub write_more : {r : ℕ} → t < n → n ≤ length list₀ → r < blocks → BlockOf allowed owner slot blocks slots t r
       → WrittenTo (t + 1) n blocks slots allowed owner slot list₀ (set list t r)
-  write-more {r} l m b pl =
+  write_more {r} l m b pl =
       record {
-        rest = tail-set t r l wt.rest;
+        rest = tail_set t r l wt.rest;
         done = record {
-          below = λ k h. at-case (λ i x. x < blocks) k h (ℕ_discrete k t) b (λ j. wt.done.below k j);
-          may = λ k h. at-case (λ i x. T (allows allowed i x)) k h (ℕ_discrete k t) (pl.may b) (λ j. wt.done.may k j);
-          own = λ k h. at-case (λ i x. at slot i < slots → x ≡ at owner (at slot i)) k h (ℕ_discrete k t) pl.own (λ j. wt.done.own k j);
+          below = λ k h. at_case (λ i x. x < blocks) k h (ℕ_discrete k t) b (λ j. wt.done.below k j);
+          may = λ k h. at_case (λ i x. T (allows allowed i x)) k h (ℕ_discrete k t) (pl.may b) (λ j. wt.done.may k j);
+          own = λ k h. at_case (λ i x. at slot i < slots → x ≡ at owner (at slot i)) k h (ℕ_discrete k t) pl.own (λ j. wt.done.own k j);
         };
       }
     where
       -- what holds of r at t, and of the list before t, holds of the new list up to t
-      at-case : (P : ℕ → ℕ → Type 0) (k : ℕ) → k < t + 1 → Dec (k ≡ t) → P t r → (k < t → P k (at list k)) → P k (at (set list t r) k)
-      at-case P k h (yes q) x y = rw (q, get_or-set_same list t r 0 (omega (arith, wt.rest.same_length))) x
-      at-case P k h (no q) x y = rw (get_or-set_other list t k r 0 q) (y (omega arith))
+      at_case : (P : ℕ → ℕ → Type 0) (k : ℕ) → k < t + 1 → Dec (k ≡ t) → P t r → (k < t → P k (at list k)) → P k (at (set list t r) k)
+      at_case P k h (yes q) x y = rw (q, get_or-set_same list t r 0 (omega (arith, wt.rest.same_length))) x
+      at_case P k h (no q) x y = rw (get_or-set_other list t k r 0 q) (y (omega arith))
 
-  pub write-end : n ≤ t → t ≤ n → ListAnswer n blocks slots allowed owner slot list₀ list true
-  write-end h k =
+  pub write_end : n ≤ t → t ≤ n → ListAnswer n blocks slots allowed owner slot list₀ list true
+  write_end h k =
       let e : t ≡ n = omega arith in
       record {
         written = λ _. subst (λ (i : ℕ). ListWritten i blocks slots allowed owner slot list) e wt.done;
@@ -61,33 +61,33 @@ module _ {t n blocks slots : ℕ} {allowed owner slot list₀ list : List ℕ} (
       }
 
   -- the tide t may go nowhere
-  pub write-none : t < n → Nowhere allowed t blocks → ListAnswer n blocks slots allowed owner slot list₀ list false
-  write-none l nowhere = record { written = λ q. absurd (false≢true q); none = λ _. (t, l, nowhere); rest = wt.rest }
+  pub write_none : t < n → Nowhere allowed t blocks → ListAnswer n blocks slots allowed owner slot list₀ list false
+  write_none l nowhere = record { written = λ q. absurd (false≢true q); none = λ _. (t, l, nowhere); rest = wt.rest }
 
 -- ---- what the parts of the search may assume
 
-pub slots-bound : {n blocks : ℕ} {M : Minima} {settings allowed list : List ℕ} → Asked (Able M n settings) n blocks allowed list
-    → blocks * M.b0 ≤ tableSize
-slots-bound {M = M} ask = let a = mul-le-mul_right M.b0 ask.few-blocks in omega (arith, ask.able.small)
+pub slots_bound : {n blocks : ℕ} {M : Minima} {settings allowed list : List ℕ} → Asked (Able M n settings) n blocks allowed list
+    → blocks * M.b0 ≤ table_size
+slots_bound {M = M} ask = let a = mul-le-mul_right M.b0 ask.few_blocks in omega (arith, ask.able.small)
 
 module _ {n blocks : ℕ} {M : Minima} {settings allowed list owner kind : List ℕ} (ask : Asked (Able M n settings) n blocks allowed list)
     (fit : blocks * M.b0 ≤ n) (sl : Slots blocks M.b0 M.b owner kind) where
   pub sized : SizedGraph allowed settings owner kind (blocks * M.b0) n
   sized =
       record {
-        few-slots = omega (arith, ask.few-tides);
-        few-tides = ask.few-tides;
-        allowed-long = ask.allowed-long;
-        settings-long = ask.able.settings-long;
-        blocks = λ s l. omega (arith, slot-below blocks M.b0 M.b owner kind sl s l, ask.few-blocks);
-        kind-high = λ s l. slot-kind blocks M.b0 M.b owner kind sl s l;
-        high = ask.able.setting-high;
+        few_slots = omega (arith, ask.few_tides);
+        few_tides = ask.few_tides;
+        allowed_long = ask.allowed_long;
+        settings_long = ask.able.settings_long;
+        blocks = λ s l. omega (arith, slot_below blocks M.b0 M.b owner kind sl s l, ask.few_blocks);
+        kind_high = λ s l. slot_kind blocks M.b0 M.b owner kind sl s l;
+        high = ask.able.setting_high;
       }
 
   pub owned : {tide slot : List ℕ} → Matching (Edge allowed settings owner kind) (blocks * M.b0) n tide slot → (t : ℕ) → t < n
       → Owned allowed owner slot blocks (blocks * M.b0) t
   owned {slot = slot} v t tl =
       record {
-        below = λ h. slot-below blocks M.b0 M.b owner kind sl (at slot t) h;
+        below = λ h. slot_below blocks M.b0 M.b owner kind sl (at slot t) h;
         may = λ h. let e = v.back t tl h in subst (λ (u : ℕ). T (allows allowed u (at owner (at slot t)))) e (v.edge (at slot t) h (rw e tl)).may;
       }

@@ -1,6 +1,6 @@
 -- Which slot can hold which tide, and what a search for a free tide leaves. Assumes nothing.
 use Rattle.std.specs.Prelude.{◌≡◌, List, Bool, true, false, ◌⊎◌, ℕ, ◌+◌, ◌*◌, ◌≤◌, ◌<◌, T, length}
-use Rattle.study.specs.Limits.{maxTides, tableSize, maxSettings}
+use Rattle.study.specs.Limits.{max_tides, table_size, max_settings}
 use Rattle.promise.specs.Promise.{allows}
 use Rattle.lists.specs.Lists.{at}
 use Rattle.matching.specs.Matching.{Matching, Tree, Path, TidesKept, Unsaturable}
@@ -19,15 +19,15 @@ pub record Decides (P : Type 0) (r : Bool) : Type 0 where
   pub holds : r ≡ true → P
   pub fails : r ≡ false → P → ⊥
 
--- what every function on a graph may assume: the tables are long enough, blocks are below maxTides, settings and kinds at most 8
+-- what every function on a graph may assume: the tables are long enough, blocks are below max_tides, settings and kinds at most 8
 pub record SizedGraph (allowed settings owner kind : List ℕ) (slots tides : ℕ) : Type 0 where
-  pub few-slots : slots ≤ maxTides
-  pub few-tides : tides ≤ maxTides
-  pub allowed-long : tableSize ≤ length allowed
-  pub settings-long : tides ≤ length settings
-  pub blocks : (s : ℕ) → s < slots → at owner s < maxTides
-  pub kind-high : (s : ℕ) → s < slots → at kind s ≤ maxSettings
-  pub high : (t : ℕ) → t < tides → at settings t ≤ maxSettings
+  pub few_slots : slots ≤ max_tides
+  pub few_tides : tides ≤ max_tides
+  pub allowed_long : table_size ≤ length allowed
+  pub settings_long : tides ≤ length settings
+  pub blocks : (s : ℕ) → s < slots → at owner s < max_tides
+  pub kind_high : (s : ℕ) → s < slots → at kind s ≤ max_settings
+  pub high : (t : ℕ) → t < tides → at settings t ≤ max_settings
 
 -- such a graph, and a matching in it
 pub record GraphMatching (allowed settings owner kind : List ℕ) (slots tides : ℕ) (tide slot : List ℕ) : Type 0 where
@@ -45,7 +45,7 @@ pub record Scanning (E : ℕ → ℕ → Type 0) (slots tides s start upto tail 
   pub tree : Tree E slots tides tail tide slot from rank queue
   pub grown : start ≤ tail
   pub front : at queue 0 ≡ at queue₀ 0
-  pub in_tree : at rank s < maxTides
+  pub in_tree : at rank s < max_tides
   pub seen : (t : ℕ) → t < tides → at from₀ t < slots → at from t < slots
   pub old : (x : ℕ) → x < slots → at rank x < start → at rank₀ x ≡ at rank x
   pub done : (t : ℕ) → t < upto → t < tides → E s t → at from t < slots
@@ -53,11 +53,11 @@ pub record Scanning (E : ℕ → ℕ → Type 0) (slots tides s start upto tail 
 -- a mark at m * 9 + k says that every tide that a slot of block m and kind k can hold is seen
 pub record Marked (allowed settings : List ℕ) (slots tides : ℕ) (mark from : List ℕ) : Type 0 where
   pub long : length mark ≡ 1080
-  pub seen : (m k : ℕ) → m < maxTides → k ≤ maxSettings → (at mark (m * 9 + k) ≡ 0 → ⊥) → (t : ℕ) → t < tides → EdgeAt allowed settings m k t → at from t < slots
+  pub seen : (m k : ℕ) → m < max_tides → k ≤ max_settings → (at mark (m * 9 + k) ≡ 0 → ⊥) → (t : ℕ) → t < tides → EdgeAt allowed settings m k t → at from t < slots
 
 -- no free tide was met
 pub record NoFreeTide (allowed settings : List ℕ) (slots tides f : ℕ) (mark from : List ℕ) : Type 0 where
-  pub end : f ≡ maxTides
+  pub end : f ≡ max_tides
   pub marked : Marked allowed settings slots tides mark from
 
 -- f is a free tide that the slot s can hold
@@ -69,7 +69,7 @@ pub record Free (E : ℕ → ℕ → Type 0) (slots s f : ℕ) (slot : List ℕ)
 pub record Searched (E : ℕ → ℕ → Type 0) (slots tides root s f : ℕ) (tide slot from rank : List ℕ) : Type 0 where
   pub found : f < tides → Free E slots s f slot
   pub below : f < tides → s < slots
-  pub in_tree : f < tides → at rank s < maxTides
+  pub in_tree : f < tides → at rank s < max_tides
   pub path : f < tides → Path E slots tides root (at rank s + 1) tide from rank
   pub none : tides ≤ f → Unsaturable E slots tides
 
@@ -82,8 +82,8 @@ pub record Augmented (E : ℕ → ℕ → Type 0) (slots tides root : ℕ) (tide
 -- part of the way along an augmenting path: the slot s is to get the free tide t
 pub record Shifting (E : ℕ → ℕ → Type 0) (slots tides root s t : ℕ) (tide₀ tide slot from rank : List ℕ) : Type 0 where
   pub below : s < slots
-  pub tide-below : t < tides
-  pub in_tree : at rank s < maxTides
+  pub tide_below : t < tides
+  pub in_tree : at rank s < max_tides
   pub matching : Matching E slots tides tide slot
   pub free : Free E slots s t slot
   pub path : Path E slots tides root (at rank s + 1) tide from rank

@@ -1,6 +1,6 @@
 // The list that a matching gives: the block of each tide.
 ghost use Rattle.std.specs.Prelude.{ℕ, ◌<◌, ◌≤◌, length};
-ghost use Rattle.study.specs.Limits.{maxTides, tableSize};
+ghost use Rattle.study.specs.Limits.{max_tides, table_size};
 ghost use Rattle.lists.specs.Lists.{at, TailKept};
 ghost use Rattle.promise.specs.Promise.{FirstAllowed};
 ghost use Rattle.matching.specs.Steps.{Owned, BlockOf, ListAnswer};
@@ -10,9 +10,9 @@ use study::{MAX_TIDES, wide};
 
 // A block that the tide t may go to: the hinted one, or else the first; MAX_TIDES where there is none.
 fn free_block(allowed: &[u8], t: usize, blocks: usize, hint: usize) -> usize
-    requires blocks_le_max_tides { blocks ≤ maxTides }
-    requires t_lt_max_tides { t < maxTides }
-    requires table_size_in_bounds { tableSize ≤ length allowed.now }
+    requires blocks_le_max_tides { blocks ≤ max_tides }
+    requires t_lt_max_tides { t < max_tides }
+    requires table_size_in_bounds { table_size ≤ length allowed.now }
     ensures { FirstAllowed allowed.now t blocks result }
 {
     if hint < blocks {
@@ -33,10 +33,10 @@ fn block_of(
     t: usize,
     hint: usize,
 ) -> usize
-    requires blocks_le_max_tides { blocks ≤ maxTides }
-    requires t_lt_max_tides { t < maxTides }
-    requires slots_le_max_tides { slots ≤ maxTides }
-    requires table_size_in_bounds { tableSize ≤ length allowed.now }
+    requires blocks_le_max_tides { blocks ≤ max_tides }
+    requires t_lt_max_tides { t < max_tides }
+    requires slots_le_max_tides { slots ≤ max_tides }
+    requires table_size_in_bounds { table_size ≤ length allowed.now }
     requires owned { Owned allowed.now owner.now slot.now blocks slots t }
     ensures { BlockOf allowed.now owner.now slot.now blocks slots t result }
 {
@@ -57,10 +57,10 @@ pub fn write_list(
     slot: &[usize; MAX_TIDES],
     list: &mut [u8],
 ) -> bool
-    requires blocks_le_max_tides { blocks ≤ maxTides }
-    requires n_le_max_tides { n ≤ maxTides }
-    requires slots_le_max_tides { slots ≤ maxTides }
-    requires table_size_in_bounds { tableSize ≤ length allowed.now }
+    requires blocks_le_max_tides { blocks ≤ max_tides }
+    requires n_le_max_tides { n ≤ max_tides }
+    requires slots_le_max_tides { slots ≤ max_tides }
+    requires table_size_in_bounds { table_size ≤ length allowed.now }
     requires n_in_bounds { n ≤ length list.old }
     requires by_index { (t : ℕ) → t < n → Owned allowed.now owner.now slot.now blocks slots t }
     ensures { ListAnswer n blocks slots allowed.now owner.now slot.now list.old list.new result }
@@ -85,10 +85,10 @@ pub fn write_partial(
     slot: &[usize; MAX_TIDES],
     list: &mut [u8],
 )
-    requires n_le_max_tides { n ≤ maxTides }
-    requires slots_le_max_tides { slots ≤ maxTides }
+    requires n_le_max_tides { n ≤ max_tides }
+    requires slots_le_max_tides { slots ≤ max_tides }
     requires n_in_bounds { n ≤ length list.old }
-    requires by_index { (x : ℕ) → x < slots → at owner.now x < maxTides }
+    requires by_index { (x : ℕ) → x < slots → at owner.now x < max_tides }
     ensures { TailKept n list.old list.new }
 {
     let mut t = 0;

@@ -1,7 +1,7 @@
 // A matching that gives every slot a tide, by augmenting paths. tide[s] is the tide that the slot s
 // holds and slot[t] the slot that holds the tide t: MAX_TIDES where there is none.
 ghost use Rattle.std.specs.Prelude.{◌≡◌, true, false, ◌+◌, ◌<◌, ◌≤◌, length, set};
-ghost use Rattle.study.specs.Limits.{maxTides, tableSize};
+ghost use Rattle.study.specs.Limits.{max_tides, table_size};
 ghost use Rattle.lists.specs.Lists.{at};
 ghost use Rattle.matching.specs.Matching.{Tree, Path, Unsaturable, freed};
 ghost use Rattle.matching.specs.Graph.{EdgeAt, Edge, Decides, SizedGraph, GraphMatching, Wanted, Scanning};
@@ -25,9 +25,9 @@ pub struct Grown {
 
 // Whether a slot of block m and kind k can hold the tide t.
 pub fn edge(allowed: &[u8], settings: &[u8], m: usize, k: u8, t: usize) -> bool
-    requires m_lt_max_tides { m < maxTides }
-    requires t_lt_max_tides { t < maxTides }
-    requires table_size_in_bounds { tableSize ≤ length allowed.now }
+    requires m_lt_max_tides { m < max_tides }
+    requires t_lt_max_tides { t < max_tides }
+    requires table_size_in_bounds { table_size ≤ length allowed.now }
     requires t_in_bounds { t < length settings.now }
     ensures { Decides (EdgeAt allowed.now settings.now m k t) result }
 {
@@ -74,9 +74,9 @@ fn push(
     h: usize,
     tail: usize,
 )
-    requires t_lt_max_tides { t < maxTides }
-    requires h_lt_max_tides { h < maxTides }
-    requires tail_lt_max_tides { tail < maxTides }
+    requires t_lt_max_tides { t < max_tides }
+    requires h_lt_max_tides { h < max_tides }
+    requires tail_lt_max_tides { tail < max_tides }
     ensures from_after { from.new ≡ set from.old t s }
     ensures rank_after { rank.new ≡ set rank.old h tail }
     ensures queue_after { queue.new ≡ set queue.old tail h }
@@ -94,9 +94,9 @@ pub fn swap(
     t: usize,
     tides: usize,
 ) -> usize
-    requires s_lt_max_tides { s < maxTides }
-    requires t_lt_max_tides { t < maxTides }
-    requires tides_le_max_tides { tides ≤ maxTides }
+    requires s_lt_max_tides { s < max_tides }
+    requires t_lt_max_tides { t < max_tides }
+    requires tides_le_max_tides { tides ≤ max_tides }
     ensures value { result ≡ at tide.old s }
     ensures tide_after { tide.new ≡ set tide.old s t }
     ensures slot_after { slot.new ≡ freed slot.old s t (at tide.old s) tides }
@@ -128,14 +128,14 @@ fn scan(
     start: usize,
 ) -> Scanned
     requires graph_matching { GraphMatching allowed.now settings.now owner.now kind.now slots tides tide.now slot.now }
-    requires s_lt_slots { (s < slots) × (at rank.old s < maxTides) }
+    requires s_lt_slots { (s < slots) × (at rank.old s < max_tides) }
     requires tree { Tree (Edge allowed.now settings.now owner.now kind.now) slots tides start tide.now slot.now from.old rank.old queue.old }
     ensures scanning { Scanning (Edge allowed.now settings.now owner.now kind.now)
         slots tides s start result.free result.tail tide.now slot.now
         from.old rank.old queue.old from.new rank.new queue.new }
     ensures free { result.free < tides → Free (Edge allowed.now settings.now owner.now kind.now)
         slots s result.free slot.now }
-    ensures free_value { tides ≤ result.free → result.free ≡ maxTides }
+    ensures free_value { tides ≤ result.free → result.free ≡ max_tides }
 {
     let mut tail = start;
     let mut t = 0;
@@ -178,7 +178,7 @@ fn visit(
     start: usize,
 ) -> Scanned
     requires graph_matching { GraphMatching allowed.now settings.now owner.now kind.now slots tides tide.now slot.now }
-    requires s_lt_slots { (s < slots) × (at rank.old s < maxTides) }
+    requires s_lt_slots { (s < slots) × (at rank.old s < max_tides) }
     requires tree { Tree (Edge allowed.now settings.now owner.now kind.now) slots tides start tide.now slot.now from.old rank.old queue.old }
     requires marked { Marked allowed.now settings.now slots tides mark.old from.old }
     ensures scanning { Scanning (Edge allowed.now settings.now owner.now kind.now)
@@ -271,7 +271,7 @@ fn shift(
     t0: usize,
 )
     requires graph_matching { GraphMatching allowed.now settings.now owner.now kind.now slots tides tide.old slot.old }
-    requires s0_lt_slots { (s0 < slots) × (t0 < tides) × (at rank.now s0 < maxTides) }
+    requires s0_lt_slots { (s0 < slots) × (t0 < tides) × (at rank.now s0 < max_tides) }
     requires free { Free (Edge allowed.now settings.now owner.now kind.now) slots s0 t0 slot.old }
     requires path { Path (Edge allowed.now settings.now owner.now kind.now) slots tides root (at rank.now s0 + 1) tide.old from.now rank.now }
     ensures { Augmented (Edge allowed.now settings.now owner.now kind.now)

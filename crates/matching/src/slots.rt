@@ -2,7 +2,7 @@
 // setting kind[s], or of any setting where kind[s] is 0. The slots of block m and kind k stand in a
 // row, and next[m * 9 + k] has the first of them.
 ghost use Rattle.std.specs.Prelude.{◌+◌, ◌*◌, ◌<◌, ◌≤◌};
-ghost use Rattle.study.specs.Limits.{maxTides, maxSettings};
+ghost use Rattle.study.specs.Limits.{max_tides, max_settings};
 ghost use Rattle.matching.specs.Slots.{total, Slots, Tables, Added, BlockAdded};
 
 use study::{MAX_SETTINGS, MAX_TIDES};
@@ -18,9 +18,9 @@ fn add_slots(
     count: usize,
 )
     requires tables { Tables owner.old kind.old }
-    requires count_bound { pos + count ≤ maxTides }
-    requires m_lt_max_tides { m < maxTides }
-    requires k_le_max_settings { k ≤ maxSettings }
+    requires count_bound { pos + count ≤ max_tides }
+    requires m_lt_max_tides { m < max_tides }
+    requires k_le_max_settings { k ≤ max_settings }
     ensures { Added pos m k count owner.old kind.old owner.new kind.new }
 {
     next[m * 9 + (k as usize)] = pos as u8;
@@ -43,8 +43,8 @@ fn add_block(
     b: [u8; MAX_SETTINGS],
 )
     requires tables { Tables owner.old kind.old }
-    requires b0_bound { start + b0 ≤ maxTides }
-    requires m_lt_max_tides { m < maxTides }
+    requires b0_bound { start + b0 ≤ max_tides }
+    requires m_lt_max_tides { m < max_tides }
     requires b_bound { total b ≤ b0 }
     ensures { BlockAdded start m b0 b owner.old kind.old owner.new kind.new }
 {
@@ -69,9 +69,9 @@ pub fn lay_out(
     b: [u8; MAX_SETTINGS],
 )
     requires tables { Tables owner.old kind.old }
-    requires blocks_le_max_tides { blocks ≤ maxTides }
-    requires b0_bound { blocks * b0 ≤ maxTides }
-    requires b0_le_max_tides { b0 ≤ maxTides }
+    requires blocks_le_max_tides { blocks ≤ max_tides }
+    requires b0_bound { blocks * b0 ≤ max_tides }
+    requires b0_le_max_tides { b0 ≤ max_tides }
     requires b_bound { total b ≤ b0 }
     ensures { Slots blocks b0 b owner.new kind.new }
 {

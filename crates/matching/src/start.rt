@@ -1,6 +1,6 @@
 // A first matching, made from a hint of each tide's block. The hint may be anything.
 ghost use Rattle.std.specs.Prelude.{◌<◌, ◌≤◌, length};
-ghost use Rattle.study.specs.Limits.{maxTides, maxSettings};
+ghost use Rattle.study.specs.Limits.{max_tides, max_settings};
 ghost use Rattle.matching.specs.Matching.{Matching};
 ghost use Rattle.matching.specs.Graph.{Edge, GraphMatching};
 
@@ -24,7 +24,7 @@ fn take_next(
     t: usize,
 )
     requires graph_matching { GraphMatching allowed.now settings.now owner.now kind.now slots n tide.old slot.old }
-    requires m_lt_max_tides { (m < maxTides) × (k ≤ maxSettings) × (t < n) }
+    requires m_lt_max_tides { (m < max_tides) × (k ≤ max_settings) × (t < n) }
     ensures { Matching (Edge allowed.now settings.now owner.now kind.now)
         slots n tide.new slot.new }
 {

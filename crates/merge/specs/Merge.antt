@@ -2,8 +2,8 @@
 -- in a call is from 1, in a study from 0. Everything here computes. Assumes nothing.
 use Rattle.std.specs.Prelude.{ℕ, ◌+◌, ◌-◌, max, Bool, cond, not, ◌&&◌, leb, eqb, length}
 use mathlib.Core.List.{List, [], ◌∷◌, ◌++◌, head_d}
-use Rattle.lists.specs.Lists.{between, each, iota, every, countBelow, tabulate, at, filter, least}
-use Rattle.study.specs.Limits.{maxTides, maxDistance, maxUsers, maxWithdrawals}
+use Rattle.lists.specs.Lists.{between, each, iota, every, count_below, tabulate, at, filter, least}
+use Rattle.study.specs.Limits.{max_tides, max_distance, max_users, max_withdrawals}
 use Rattle.study.specs.Study.{Tide, Study, Contents, size, tide, distance}
 use Rattle.study.specs.Refusals.{number, Reason, ◌⇒◌}
 
@@ -43,26 +43,26 @@ added A B P r =
     record { setting = (tide B j).setting; row = tabulate (size A) (λ i. across A B P i j) ++ tabulate r (λ q. distance B (at js q) j) }
 
 -- the first study's tides, then the second's remaining ones; the first's k and minima
-unfoldable pub mergedStudy : Study → Study → Shared → Study
-mergedStudy A B P = record { k = A.k; minima = A.minima; tides = A.tides ++ tabulate (length (rest B P)) (added A B P) }
+unfoldable pub merged_study : Study → Study → Shared → Study
+merged_study A B P = record { k = A.k; minima = A.minima; tides = A.tides ++ tabulate (length (rest B P)) (added A B P) }
 
 -- each user's withdrawals added
-unfoldable pub addedCounts : List ℕ → List ℕ → List ℕ
-addedCounts vs ws = tabulate maxUsers (λ i. at vs i + at ws i)
+unfoldable pub added_counts : List ℕ → List ℕ → List ℕ
+added_counts vs ws = tabulate max_users (λ i. at vs i + at ws i)
 
 -- of what two datasets hold
 unfoldable pub merged : Contents → Contents → List ℕ → List ℕ → Contents
 merged A B firsts seconds =
     record {
-      study = mergedStudy A.study B.study (shared firsts seconds);
-      withdrawals = addedCounts A.withdrawals B.withdrawals;
+      study = merged_study A.study B.study (shared firsts seconds);
+      withdrawals = added_counts A.withdrawals B.withdrawals;
     }
 
 -- where tide j of the second study stands in the merged one: at its partner's number, or after the first study's tides, by how many of the
 -- remaining ones are before it
 unfoldable pub place : Study → Shared → ℕ → ℕ
 place A P j =
-    cond (unshared P j) (size A + countBelow j (unshared P)) (P.first (head_d (filter (λ q. eqb (P.second q) j) (iota 0 P.pairs)) 0))
+    cond (unshared P j) (size A + count_below j (unshared P)) (P.first (head_d (filter (λ q. eqb (P.second q) j) (iota 0 P.pairs)) 0))
 
 -- ---- reason 16
 
@@ -95,19 +95,19 @@ agree A B firsts seconds = eqb A.k B.k && every (shared firsts seconds).pairs (a
 
 -- no distance is above 1,048,575
 unfoldable pub in_range : Study → Bool
-in_range S = every (size S) (λ t. every t (λ u. leb (distance S u t) maxDistance))
+in_range S = every (size S) (λ t. every t (λ u. leb (distance S u t) max_distance))
 
 -- no count is above 65,535
 unfoldable pub countable : List ℕ → Bool
-countable ws = every maxUsers (λ i. leb (at ws i) maxWithdrawals)
+countable ws = every max_users (λ i. leb (at ws i) max_withdrawals)
 
 -- 17 no shared tide is named, 16 they don't agree; 22, 6, 26 of what the merged dataset would hold
-unfoldable pub mergeReasons : Contents → Contents → List ℕ → List ℕ → List Reason
-mergeReasons A B firsts seconds =
+unfoldable pub merge_reasons : Contents → Contents → List ℕ → List ℕ → List Reason
+merge_reasons A B firsts seconds =
     let H = merged A B firsts seconds in
     (eqb (shared firsts seconds).pairs 0 ⇒ number 17)
     ∷ (not (agree A.study B.study firsts seconds) ⇒ number 16)
-    ∷ (not (leb (size H.study) maxTides) ⇒ number 22)
+    ∷ (not (leb (size H.study) max_tides) ⇒ number 22)
     ∷ (not (in_range H.study) ⇒ number 6)
     ∷ (not (countable H.withdrawals) ⇒ number 26)
     ∷ []

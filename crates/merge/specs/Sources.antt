@@ -1,34 +1,34 @@
 -- Inner promises: what the functions of a merge may rely on, and what they find. Assumes nothing.
 use Rattle.std.specs.Prelude.{ℕ, ◌+◌, ◌≤◌, ◌<◌, ◌≡◌, true, List, T, length}
-use Rattle.lists.specs.Lists.{countBelow, at}
-use Rattle.study.specs.Limits.{maxTides, maxUsers, maxWithdrawals}
+use Rattle.lists.specs.Lists.{count_below, at}
+use Rattle.study.specs.Limits.{max_tides, max_users, max_withdrawals}
 use Rattle.study.specs.declared.Dataset.{Dataset}
 use Rattle.study.specs.Study.{Study}
-use Rattle.validity.specs.Memory.{State, LentList, entryState, studyOf, contentsOf, stored}
+use Rattle.validity.specs.Memory.{State, LentList, entry_state, study_of, contents_of, stored}
 use Rattle.validity.specs.Validity.{Long}
 use Rattle.access.specs.Calls.{after}
 use Rattle.access.specs.Passed.{Passed}
 use Rattle.merge.specs.Merge.{Shared, shared, unshared, rest, merged, agree}
-use Rattle.merge.specs.Calls.{mergesDatasets}
+use Rattle.merge.specs.Calls.{merges_datasets}
 
 -- the study that a source holds where a function begins
-abbrev pub studyIn : Dataset → LentList → LentList → Study
-studyIn r d s = studyOf (entryState r d s)
+abbrev pub study_in : Dataset → LentList → LentList → Study
+study_in r d s = study_of (entry_state r d s)
 
 -- the shared tides that two lists name there
-abbrev pub sharedIn : LentList → LentList → Shared
-sharedIn firsts seconds = shared firsts.entry.now seconds.entry.now
+abbrev pub shared_in : LentList → LentList → Shared
+shared_in firsts seconds = shared firsts.entry.now seconds.entry.now
 
 -- two datasets, and the first m pairs of tide numbers name tides that are there
 pub record Named (a b : State) (firsts seconds : List ℕ) (m : ℕ) : Type 0 where
   pub first : Passed a
   pub second : Passed b
-  pub first-long : m ≤ length firsts
-  pub second-long : m ≤ length seconds
-  pub first-low : (q : ℕ) → q < m → 1 ≤ at firsts q
-  pub first-high : (q : ℕ) → q < m → at firsts q ≤ a.dataset.n
-  pub second-low : (q : ℕ) → q < m → 1 ≤ at seconds q
-  pub second-high : (q : ℕ) → q < m → at seconds q ≤ b.dataset.n
+  pub first_long : m ≤ length firsts
+  pub second_long : m ≤ length seconds
+  pub first_low : (q : ℕ) → q < m → 1 ≤ at firsts q
+  pub first_high : (q : ℕ) → q < m → at firsts q ≤ a.dataset.n
+  pub second_low : (q : ℕ) → q < m → 1 ≤ at seconds q
+  pub second_high : (q : ℕ) → q < m → at seconds q ≤ b.dataset.n
 
 -- there are pairs, and all of them do
 pub record Paired (a b : State) (firsts seconds : List ℕ) : Type 0 where
@@ -44,20 +44,20 @@ pub record NumberPairs (firsts seconds : List ℕ) : Type 0 where
 -- past 1, 21, 17 and 16
 pub record Agreed (a b : State) (firsts seconds : List ℕ) : Type 0 where
   pub paired : Paired a b firsts seconds
-  pub agrees : agree (studyOf a) (studyOf b) firsts seconds ≡ true
+  pub agrees : agree (study_of a) (study_of b) firsts seconds ≡ true
 
 -- the first count places of a table hold those of n tides that are in no pair, in order: tide r of them has r others before it
 pub record RestIn (P : Shared) (n count : ℕ) (table : List ℕ) : Type 0 where
-  pub size : length table ≡ maxTides
-  pub count-is : count ≡ countBelow n (unshared P)
+  pub size : length table ≡ max_tides
+  pub count_is : count ≡ count_below n (unshared P)
   pub below : (r : ℕ) → r < count → at table r < n
   pub pass : (r : ℕ) → r < count → T (unshared P (at table r))
-  pub rank : (r : ℕ) → r < count → countBelow (at table r) (unshared P) ≡ r
+  pub rank : (r : ℕ) → r < count → count_below (at table r) (unshared P) ≡ r
 
 -- what an accepted merge tells
 pub record MergeAccepted (a b s : State) (firsts seconds : List ℕ) : Type 0 where
   pub paired : Paired a b firsts seconds
   pub long : Long s
-  pub few : a.dataset.n + length (rest (studyOf b) (shared firsts seconds)) ≤ maxTides
-  pub counts : (i : ℕ) → i < maxUsers → at a.dataset.withdrawn i + at b.dataset.withdrawn i ≤ maxWithdrawals
-  pub leaves : stored (merged (contentsOf a) (contentsOf b) firsts seconds) s ≡ after s (mergesDatasets a b firsts seconds)
+  pub few : a.dataset.n + length (rest (study_of b) (shared firsts seconds)) ≤ max_tides
+  pub counts : (i : ℕ) → i < max_users → at a.dataset.withdrawn i + at b.dataset.withdrawn i ≤ max_withdrawals
+  pub leaves : stored (merged (contents_of a) (contents_of b) firsts seconds) s ≡ after s (merges_datasets a b firsts seconds)

@@ -1,21 +1,21 @@
 // Each user's withdrawals in both datasets together.
 ghost use Rattle.std.specs.Prelude.{◌≡◌, ℕ, ◌+◌, ◌≤◌, ◌<◌};
 ghost use Rattle.lists.specs.Lists.{at};
-ghost use Rattle.study.specs.Limits.{maxUsers, maxWithdrawals};
-ghost use Rattle.merge.specs.Merge.{addedCounts, countable};
+ghost use Rattle.study.specs.Limits.{max_users, max_withdrawals};
+ghost use Rattle.merge.specs.Merge.{added_counts, countable};
 
 use study::{MAX_USERS, MAX_WITHDRAWALS};
 
 // A count as a number that may be summed.
 fn number(x: u16) -> usize
-    ensures { (result ≡ x) × (result ≤ maxWithdrawals) }
+    ensures { (result ≡ x) × (result ≤ max_withdrawals) }
 {
     x as usize
 }
 
 // Whether no sum is above 65,535.
 pub fn counts_fit(v: [u16; MAX_USERS], w: [u16; MAX_USERS]) -> bool
-    ensures { result ≡ countable (addedCounts v w) }
+    ensures { result ≡ countable (added_counts v w) }
 {
     let mut i: usize = 0;
     while i < MAX_USERS {
@@ -29,8 +29,8 @@ pub fn counts_fit(v: [u16; MAX_USERS], w: [u16; MAX_USERS]) -> bool
 
 // The sums.
 pub fn added_counts(v: [u16; MAX_USERS], w: [u16; MAX_USERS]) -> [u16; MAX_USERS]
-    requires { (i : ℕ) → i < maxUsers → at v i + at w i ≤ maxWithdrawals }
-    ensures { result ≡ addedCounts v w }
+    requires { (i : ℕ) → i < max_users → at v i + at w i ≤ max_withdrawals }
+    ensures { result ≡ added_counts v w }
 {
     let mut sums = [0u16; MAX_USERS];
     let mut i: usize = 0;

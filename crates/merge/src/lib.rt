@@ -14,10 +14,10 @@ mod source;
 mod table;
 
 ghost use Rattle.std.specs.Prelude.{◌≡◌, [], ◌&&◌, ◌||◌};
-ghost use Rattle.study.specs.Refusals.{verdictOf, first_of, heldReasons};
-ghost use Rattle.validity.specs.Memory.{state_of, entryState, exitState, short, isDataset};
+ghost use Rattle.study.specs.Refusals.{verdict_of, first_of, held_reasons};
+ghost use Rattle.validity.specs.Memory.{state_of, entry_state, exit_state, short, is_dataset};
 ghost use Rattle.access.specs.Calls.{answer, after};
-ghost use Rattle.merge.specs.Calls.{sourceReasons, mergesDatasets};
+ghost use Rattle.merge.specs.Calls.{source_reasons, merges_datasets};
 ghost use Rattle.merge.specs.Sources.{Agreed, MergeAccepted};
 
 // The memory of one of the two is short (1), or one of them is no dataset (21).
@@ -29,8 +29,8 @@ fn check_sources(
     d2: &[u32],
     s2: &[u8],
 ) -> Answer
-    ensures { verdictOf result ≡ first_of (heldReasons (short (entryState first d1 s1) || short (entryState second d2 s2)) []
-        (isDataset (entryState first d1 s1) && isDataset (entryState second d2 s2)) []) }
+    ensures { verdict_of result ≡ first_of (held_reasons (short (entry_state first d1 s1) || short (entry_state second d2 s2)) []
+        (is_dataset (entry_state first d1 s1) && is_dataset (entry_state second d2 s2)) []) }
 {
     if is_short(d1, s1) {
         return Answer::Refused(Refusal::ShortMemory);
@@ -59,8 +59,8 @@ fn check_merged(
     seconds: &[u8],
 ) -> Answer
     requires { Agreed (state_of first d1.now s1.now) (state_of second d2.now s2.now) firsts.now seconds.now }
-    ensures { verdictOf result
-        ≡ first_of (sourceReasons (entryState first d1 s1) (entryState second d2 s2) firsts.now seconds.now) }
+    ensures { verdict_of result
+        ≡ first_of (source_reasons (entry_state first d1 s1) (entry_state second d2 s2) firsts.now seconds.now) }
 {
     let mut rest = [0usize; MAX_TIDES];
     let m = find_rest(firsts, seconds, second.n, &mut rest);
@@ -89,8 +89,8 @@ fn merge_answer(
     firsts: &[u8],
     seconds: &[u8],
 ) -> Answer
-    ensures { verdictOf result
-        ≡ first_of (sourceReasons (entryState first d1 s1) (entryState second d2 s2) firsts.now seconds.now) }
+    ensures { verdict_of result
+        ≡ first_of (source_reasons (entry_state first d1 s1) (entry_state second d2 s2) firsts.now seconds.now) }
 {
     let checked = check_sources(first, d1, s1, second, d2, s2);
     let Answer::Done = checked else {
@@ -121,9 +121,9 @@ fn put_merged(
 ) -> Dataset
     requires { MergeAccepted (state_of first d1.now s1.now) (state_of second d2.now s2.now) (state_of into d3.old s3.old)
         firsts.now seconds.now }
-    ensures { exitState result d3 s3
-        ≡ after (entryState into d3 s3)
-        (mergesDatasets (entryState first d1 s1) (entryState second d2 s2) firsts.now seconds.now) }
+    ensures { exit_state result d3 s3
+        ≡ after (entry_state into d3 s3)
+        (merges_datasets (entry_state first d1 s1) (entry_state second d2 s2) firsts.now seconds.now) }
 {
     let mut rest = [0usize; MAX_TIDES];
     let m = find_rest(firsts, seconds, second.n, &mut rest);
@@ -156,12 +156,12 @@ pub fn merge(
     firsts: &[u8],
     seconds: &[u8],
 ) -> Outcome
-    ensures answer { verdictOf result.answer
-        ≡ answer (entryState into d3 s3)
-        (mergesDatasets (entryState first d1 s1) (entryState second d2 s2) firsts.now seconds.now) }
-    ensures leaves { exitState result.dataset d3 s3
-        ≡ after (entryState into d3 s3)
-        (mergesDatasets (entryState first d1 s1) (entryState second d2 s2) firsts.now seconds.now) }
+    ensures answer { verdict_of result.answer
+        ≡ answer (entry_state into d3 s3)
+        (merges_datasets (entry_state first d1 s1) (entry_state second d2 s2) firsts.now seconds.now) }
+    ensures leaves { exit_state result.dataset d3 s3
+        ≡ after (entry_state into d3 s3)
+        (merges_datasets (entry_state first d1 s1) (entry_state second d2 s2) firsts.now seconds.now) }
 {
     if is_short(d3, s3) {
         return Outcome {

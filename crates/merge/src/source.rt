@@ -1,11 +1,11 @@
 // What is read of the datasets that are merged, and of the lists that name their shared tides.
 ghost use Rattle.std.specs.Prelude.{◌≡◌, ◌-◌, ◌≤◌, ◌<◌, length};
 ghost use Rattle.lists.specs.Lists.{at};
-ghost use Rattle.study.specs.Limits.{maxDistance};
+ghost use Rattle.study.specs.Limits.{max_distance};
 ghost use Rattle.study.specs.Study.{tide, distance};
 ghost use Rattle.validity.specs.Memory.{state_of};
 ghost use Rattle.access.specs.Passed.{Passed};
-ghost use Rattle.merge.specs.Sources.{studyIn};
+ghost use Rattle.merge.specs.Sources.{study_in};
 
 use study::{Dataset, MAX_TIDES, wide};
 
@@ -21,7 +21,7 @@ pub fn tide_of(list: &[u8], q: usize) -> usize
 pub fn distance(dataset: Dataset, distances: &[u32], settings: &[u8], t: usize, u: usize) -> u32
     requires passed { Passed (state_of dataset distances.now settings.now) }
     requires t_lt_n { (t < dataset.n) × (u < dataset.n) }
-    ensures { (result ≡ distance (studyIn dataset distances settings) t u) × (result ≤ maxDistance) }
+    ensures { (result ≡ distance (study_in dataset distances settings) t u) × (result ≤ max_distance) }
 {
     distances[t * MAX_TIDES + u]
 }
@@ -30,7 +30,7 @@ pub fn distance(dataset: Dataset, distances: &[u32], settings: &[u8], t: usize, 
 pub fn setting(dataset: Dataset, distances: &[u32], settings: &[u8], t: usize) -> u8
     requires passed { Passed (state_of dataset distances.now settings.now) }
     requires t_lt_n { t < dataset.n }
-    ensures { result ≡ (tide (studyIn dataset distances settings) t).setting }
+    ensures { result ≡ (tide (study_in dataset distances settings) t).setting }
 {
     settings[t]
 }

@@ -2,8 +2,8 @@
 // at the least sum through a shared tide.
 ghost use Rattle.std.specs.Prelude.{◌≡◌, ◌+◌, ◌≤◌, ◌<◌, length, take};
 ghost use Rattle.lists.specs.Lists.{every, overwrite, at};
-ghost use Rattle.study.specs.Limits.{maxTides, tableSize};
-ghost use Rattle.merge.specs.Rows.{Tables, Remaining, crossRow, addedRow, rowInRange, withRows, withSettings};
+ghost use Rattle.study.specs.Limits.{max_tides, table_size};
+ghost use Rattle.merge.specs.Rows.{Tables, Remaining, cross_row, added_row, row_in_range, with_rows, with_settings};
 
 use crate::source::tide_of;
 use metric_closure::row::lower_row;
@@ -16,8 +16,8 @@ const MAX_SUM: u32 = 2097150;
 // The least sums through a shared tide from tide j of the second table to each place of the first.
 fn cross_row(d1: &[u32], d2: &[u32], firsts: &[u8], seconds: &[u8], j: usize) -> [u32; MAX_TIDES]
     requires tables { Tables d1.now d2.now firsts.now seconds.now }
-    requires j_lt_max_tides { j < maxTides }
-    ensures { result ≡ crossRow d1.now d2.now firsts.now seconds.now j }
+    requires j_lt_max_tides { j < max_tides }
+    ensures { result ≡ cross_row d1.now d2.now firsts.now seconds.now j }
 {
     let pairs = firsts.len();
     let mut row = [MAX_SUM; MAX_TIDES];
@@ -43,8 +43,8 @@ pub fn in_range(
 ) -> bool
     requires tables { Tables d1.now d2.now firsts.now seconds.now }
     requires remaining { Remaining n m rest.now }
-    ensures { result ≡ every m (λ k. rowInRange
-        (take n (crossRow d1.now d2.now firsts.now seconds.now (at rest.now k)))) }
+    ensures { result ≡ every m (λ k. row_in_range
+        (take n (cross_row d1.now d2.now firsts.now seconds.now (at rest.now k)))) }
 {
     let mut r: usize = 0;
     while r < m {
@@ -70,7 +70,7 @@ fn added_row(
     requires tables { Tables d1.now d2.now firsts.now seconds.now }
     requires remaining { Remaining n (r + 1) rest.now }
     ensures { take (n + r) result
-        ≡ addedRow n d1.now d2.now firsts.now seconds.now rest.now r }
+        ≡ added_row n d1.now d2.now firsts.now seconds.now rest.now r }
 {
     let j = rest[r];
     let mut row = cross_row(d1, d2, firsts, seconds, j);
@@ -95,10 +95,10 @@ pub fn put_distances(
 )
     requires tables { Tables d1.now d2.now firsts.now seconds.now }
     requires remaining { Remaining n m rest.now }
-    requires table_size_in_bounds { tableSize ≤ length d3.old }
+    requires table_size_in_bounds { table_size ≤ length d3.old }
     ensures { d3.new
-        ≡ withRows (addedRow n d1.now d2.now firsts.now seconds.now rest.now) m
-        (overwrite tableSize (at d1.now) d3.old) }
+        ≡ with_rows (added_row n d1.now d2.now firsts.now seconds.now rest.now) m
+        (overwrite table_size (at d1.now) d3.old) }
 {
     storage::copy_distances(d3, d1);
     let mut r: usize = 0;
@@ -119,9 +119,9 @@ pub fn put_settings(
     s3: &mut [u8],
 )
     requires remaining { Remaining n m rest.now }
-    requires max_tides_in_bounds { (maxTides ≤ length s1.now) × (maxTides ≤ length s2.now) × (maxTides ≤ length s3.old) }
+    requires max_tides_in_bounds { (max_tides ≤ length s1.now) × (max_tides ≤ length s2.now) × (max_tides ≤ length s3.old) }
     ensures { s3.new
-        ≡ withSettings n (λ r. at s2.now (at rest.now r)) m (overwrite maxTides (at s1.now) s3.old) }
+        ≡ with_settings n (λ r. at s2.now (at rest.now r)) m (overwrite max_tides (at s1.now) s3.old) }
 {
     storage::copy_settings(s3, s1);
     let mut r: usize = 0;

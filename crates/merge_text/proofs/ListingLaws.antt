@@ -15,30 +15,30 @@ use Rattle.merge_text.specs.declared.Fault.TheVariants as FaultCase
 use Rattle.merge_text.specs.declared.pairs.Step.{Step}
 use Rattle.merge_text.specs.declared.pairs.Step.TheVariants as StepCase
 use Rattle.merge_text.specs.declared.pairs.Listed.TheVariants as ListedCase
-use Rattle.merge_text.specs.Pairs.{step_of, Pairs, Reading, going, stopped, taken, further, steps_of, pairsOf}
+use Rattle.merge_text.specs.Pairs.{step_of, Pairs, Reading, going, stopped, taken, further, steps_of, pairs_of}
 use Rattle.merge_text.specs.Steps.{Lists}
-use Rattle.merge_text.proofs.PairLaws.{After, pair-after}
+use Rattle.merge_text.proofs.PairLaws.{After, pair_after}
 
 -- the first n numbers of two lists
-abbrev pub frontOf : ℕ → List ℕ → List ℕ → Pairs
-frontOf n firsts seconds = record { firsts = take n firsts; seconds = take n seconds }
+abbrev pub front_of : ℕ → List ℕ → List ℕ → Pairs
+front_of n firsts seconds = record { firsts = take n firsts; seconds = take n seconds }
 
 -- after n steps, with as many pairs in the lists, the text stands at this place
 pub record Listing (text : List ℕ) (n : ℕ) (firsts seconds : List ℕ) (last : ℕ) (c : Cursor) : Type 0 where
   pub within : CursorWithin text c
   pub few : 2 * n ≤ c.at
-  pub is : steps_of text n ≡ going (frontOf n firsts seconds) last c
+  pub is : steps_of text n ≡ going (front_of n firsts seconds) last c
 
 -- no more steps after the end
-steps-over : (text : List ℕ) {t : Reading} (m n : ℕ) → further text t ≡ t → steps_of text m ≡ t → steps_of text (n + m) ≡ t
+steps_over : (text : List ℕ) {t : Reading} (m n : ℕ) → further text t ≡ t → steps_of text m ≡ t → steps_of text (n + m) ≡ t
 unfolding steps_of
-steps-over text m zero over e = ap (steps_of text) (zero-add m) ∙ e
-steps-over text m (suc n) over e = ap (steps_of text) (suc-add n m) ∙ ap (further text) (steps-over text m n over e) ∙ over
+steps_over text m zero over e = ap (steps_of text) (zero-add m) ∙ e
+steps_over text m (suc n) over e = ap (steps_of text) (suc-add n m) ∙ ap (further text) (steps_over text m n over e) ∙ over
 
 module _ {text firsts seconds : List ℕ} where
-  pub text-long : {n : ℕ} → 131072 < length text → n ≡ newlines text → Lists text (ListedCase.Wrong n FaultCase.TooLong) firsts seconds
-  unfolding pairsOf
-  text-long {n} h e =
+  pub text_long : {n : ℕ} → 131072 < length text → n ≡ newlines text → Lists text (ListedCase.Wrong n FaultCase.TooLong) firsts seconds
+  unfolding pairs_of
+  text_long {n} h e =
       record {
         is = ap (λ l. stopped l FaultCase.TooLong) e ∙ sym (rw (lt-ltb 131072 (length text) h));
         few = λ m q. absurd (let z : ◌≡◌ {A = ℕ} 0 1 = cc in omega arith);
@@ -50,52 +50,52 @@ module _ {text firsts seconds : List ℕ} where
 
 module _ {text : List ℕ} {n : ℕ} {firsts seconds : List ℕ} {last : ℕ} {c : Cursor} {s : Step} (L : Listing text n firsts seconds last c)
     (e : s ≡ step_of text last c) where
-  next-step : steps_of text (suc n) ≡ taken (frontOf n firsts seconds) s
+  next_step : steps_of text (suc n) ≡ taken (front_of n firsts seconds) s
   unfolding steps_of
-  next-step = ap (further text) L.is ∙ ap (taken (frontOf n firsts seconds)) (sym e)
+  next_step = ap (further text) L.is ∙ ap (taken (front_of n firsts seconds)) (sym e)
 
   -- a step that ends the reading: the steps that are left change nothing
-  steps-end : {t : Reading} → further text t ≡ t → taken (frontOf n firsts seconds) s ≡ t → t ≡ pairsOf text
-  unfolding pairsOf
-  steps-end over h =
+  steps_end : {t : Reading} → further text t ≡ t → taken (front_of n firsts seconds) s ≡ t → t ≡ pairs_of text
+  unfolding pairs_of
+  steps_end over h =
       let W = L.within in
       let most : length text - n + suc n ≡ suc (length text) = omega (arith, L.few, W.inside) in
       sym (rw (le-ltb 131072 (length text) W.short)
-      (ap (steps_of text) (sym most) ∙ steps-over text (suc n) (length text - n) over (next-step ∙ h)))
+      (ap (steps_of text) (sym most) ∙ steps_over text (suc n) (length text - n) over (next_step ∙ h)))
 
-  pub listing-ends : s ≡ StepCase.End → Lists text (ListedCase.Pairs n) firsts seconds
-  listing-ends h =
+  pub listing_ends : s ≡ StepCase.End → Lists text (ListedCase.Pairs n) firsts seconds
+  listing_ends h =
       record {
-        is = steps-end refl (ap (taken (frontOf n firsts seconds)) h);
+        is = steps_end refl (ap (taken (front_of n firsts seconds)) h);
         few = λ m q. let same : n ≡ m = cc in omega (arith, L.few, L.within.inside, L.within.short);
       }
 
-  pub listing-stops : {l : ℕ} {f : Fault} → s ≡ StepCase.Wrong l f → Lists text (ListedCase.Wrong l f) firsts seconds
-  listing-stops h =
+  pub listing_stops : {l : ℕ} {f : Fault} → s ≡ StepCase.Wrong l f → Lists text (ListedCase.Wrong l f) firsts seconds
+  listing_stops h =
       record {
-        is = steps-end refl (ap (taken (frontOf n firsts seconds)) h);
+        is = steps_end refl (ap (taken (front_of n firsts seconds)) h);
         few = λ m q. absurd (let z : ◌≡◌ {A = ℕ} 0 1 = cc in omega arith);
       }
 
   module _ {i j : ℕ} {d : Cursor} (h : s ≡ StepCase.Pair i j d) where
-    pub listing-after : After text 2 c d
-    listing-after = pair-after last c L.within (sym e ∙ h)
+    pub listing_after : After text 2 c d
+    listing_after = pair_after last c L.within (sym e ∙ h)
 
     -- a place in a list of 65,536
-    pub listing-few : n < 65536
-    listing-few = let A = listing-after in omega (arith, A.past, L.few, A.within.inside, A.within.short)
+    pub listing_few : n < 65536
+    listing_few = let A = listing_after in omega (arith, A.past, L.few, A.within.inside, A.within.short)
 
     one_more : (xs : List ℕ) (x : ℕ) → n < length xs → take n xs ++ (x ∷ []) ≡ take (n + 1) (set xs n x)
     one_more xs x l = sym (ap (λ k. take k (set xs n x)) (add-one n) ∙ take-suc-set xs n x l)
 
-    pub listing-more : n < length firsts → n < length seconds → Listing text (n + 1) (set firsts n i) (set seconds n j) d.line d
-    listing-more a b =
-        let A = listing-after in
+    pub listing_more : n < length firsts → n < length seconds → Listing text (n + 1) (set firsts n i) (set seconds n j) d.line d
+    listing_more a b =
+        let A = listing_after in
         let p = one_more firsts i a in
         let q = one_more seconds j b in
         record {
           within = A.within;
           few = omega (arith, A.past, L.few);
-          is = ap (steps_of text) (add-one n) ∙ next-step ∙ ap (taken (frontOf n firsts seconds)) h
+          is = ap (steps_of text) (add-one n) ∙ next_step ∙ ap (taken (front_of n firsts seconds)) h
               ∙ (λ k. going (record { firsts = p k; seconds = q k }) d.line d);
         }

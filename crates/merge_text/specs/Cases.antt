@@ -4,12 +4,12 @@ use Rattle.std.specs.Prelude.{ℕ, ◌≡◌, List, [], ◌∷◌, map, replicat
 use Prim.Native.String.{String}
 use Rattle.lists.specs.Lists.{over}
 use Rattle.study.specs.Refusals.{number}
-use Rattle.file_format.specs.File.{fileOf}
+use Rattle.file_format.specs.File.{file_of}
 use Rattle.sheet_text.specs.Text.{ascii}
 use Rattle.merge.specs.Cases.{counting, tides}
 use Rattle.merge_text.specs.declared.Fault.TheVariants.{NotANumber, TooLarge, Missing, TooMany}
-use Rattle.merge_text.specs.Pairs.{Reading, ended, stopped, pairsOf}
-use Rattle.merge_text.specs.Joining.{done, firstRefused, secondRefused, wrongLine, mergeRefused, joinAnswer, joinLeaves}
+use Rattle.merge_text.specs.Pairs.{Reading, ended, stopped, pairs_of}
+use Rattle.merge_text.specs.Joining.{done, first_refused, second_refused, wrong_line, merge_refused, join_answer, join_leaves}
 
 -- a text, and what is read of it
 pub record PairsCase : Type 0 where
@@ -52,23 +52,23 @@ cases =
 
 -- of each text is read what stands beside it
 abbrev pub PairsRead : Type 0
-PairsRead = map (λ (c : PairsCase). pairsOf (ascii c.text)) cases ≡ map (λ (c : PairsCase). c.reading) cases
+PairsRead = map (λ (c : PairsCase). pairs_of (ascii c.text)) cases ≡ map (λ (c : PairsCase). c.reading) cases
 
 -- the file of one tide, of 13 bytes
 abbrev pub one : List ℕ
-one = fileOf (tides ([] ∷ []))
+one = file_of (tides ([] ∷ []))
 
 -- several things wrong at once: the first file's refusal, the second's, the text's, the merge's, then 1 for the room
 abbrev pub InOrder : Type 0
 InOrder =
-    joinAnswer [] [] (ascii "x") 0 ∷ joinAnswer one [] (ascii "x") 0 ∷ joinAnswer one one (ascii "x") 0 ∷ joinAnswer one one [] 0
-    ∷ joinAnswer one one (ascii "1 2") 0 ∷ joinAnswer one one (ascii "1 1") 12 ∷ joinAnswer one one (ascii "1 1") 13 ∷ []
-    ≡ firstRefused (number 8) ∷ secondRefused (number 8) ∷ wrongLine 1 NotANumber ∷ mergeRefused (number 17)
-    ∷ mergeRefused (number 16) ∷ mergeRefused (number 1) ∷ done 13 ∷ []
+    join_answer [] [] (ascii "x") 0 ∷ join_answer one [] (ascii "x") 0 ∷ join_answer one one (ascii "x") 0 ∷ join_answer one one [] 0
+    ∷ join_answer one one (ascii "1 2") 0 ∷ join_answer one one (ascii "1 1") 12 ∷ join_answer one one (ascii "1 1") 13 ∷ []
+    ≡ first_refused (number 8) ∷ second_refused (number 8) ∷ wrong_line 1 NotANumber ∷ merge_refused (number 17)
+    ∷ merge_refused (number 16) ∷ merge_refused (number 1) ∷ done 13 ∷ []
 
 -- two tides 5 apart, and three of which the first is the other study's second: the merged file, and a byte past it
 abbrev pub OneShared : Type 0
 OneShared =
-    joinLeaves (fileOf (counting (1 ∷ 2 ∷ 3 ∷ 4 ∷ []) ([] ∷ (5 ∷ []) ∷ [])))
-    (fileOf (counting (0 ∷ 10 ∷ 0 ∷ 30 ∷ []) ([] ∷ (3 ∷ []) ∷ (4 ∷ 2 ∷ []) ∷ []))) (ascii "2 1") (replicate 30 170)
-    ≡ over (fileOf (counting (1 ∷ 12 ∷ 3 ∷ 34 ∷ []) ([] ∷ (5 ∷ []) ∷ (8 ∷ 3 ∷ []) ∷ (9 ∷ 4 ∷ 2 ∷ []) ∷ []))) (replicate 30 170)
+    join_leaves (file_of (counting (1 ∷ 2 ∷ 3 ∷ 4 ∷ []) ([] ∷ (5 ∷ []) ∷ [])))
+    (file_of (counting (0 ∷ 10 ∷ 0 ∷ 30 ∷ []) ([] ∷ (3 ∷ []) ∷ (4 ∷ 2 ∷ []) ∷ []))) (ascii "2 1") (replicate 30 170)
+    ≡ over (file_of (counting (1 ∷ 12 ∷ 3 ∷ 34 ∷ []) ([] ∷ (5 ∷ []) ∷ (8 ∷ 3 ∷ []) ∷ (9 ∷ 4 ∷ 2 ∷ []) ∷ []))) (replicate 30 170)

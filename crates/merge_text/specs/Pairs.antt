@@ -14,27 +14,27 @@ use Rattle.merge_text.specs.declared.pairs.Step.TheVariants as StepCase
 -- ---- one pair
 
 -- what stands on line l, where line `line` has one number so far: on another line it comes too late
-abbrev pub onLine : ℕ → ℕ → Step → Step
-onLine line l s = cond (eqb l line) s (StepCase.Wrong line FaultCase.Missing)
+abbrev pub on_line : ℕ → ℕ → Step → Step
+on_line line l s = cond (eqb l line) s (StepCase.Wrong line FaultCase.Missing)
 
 -- the second word of a pair, after tide i of the first study on this line. 255, which is no tide's number, stands for every greater number
-abbrev pub pairFrom : ℕ → ℕ → Word → Step
-pairFrom i line (WordCase.Number j c) = onLine line c.line (StepCase.Pair (narrowed i) (narrowed j) c)
-pairFrom i line (WordCase.End l) = StepCase.Wrong line FaultCase.Missing
-pairFrom i line (WordCase.Bad l) = onLine line l (StepCase.Wrong line FaultCase.NotANumber)
-pairFrom i line (WordCase.TooLarge l) = onLine line l (StepCase.Wrong line FaultCase.TooLarge)
+abbrev pub pair_from : ℕ → ℕ → Word → Step
+pair_from i line (WordCase.Number j c) = on_line line c.line (StepCase.Pair (narrowed i) (narrowed j) c)
+pair_from i line (WordCase.End l) = StepCase.Wrong line FaultCase.Missing
+pair_from i line (WordCase.Bad l) = on_line line l (StepCase.Wrong line FaultCase.NotANumber)
+pair_from i line (WordCase.TooLarge l) = on_line line l (StepCase.Wrong line FaultCase.TooLarge)
 
 -- the first word after the last pair: a number that begins a pair stands on a later line than the last one's
-abbrev pub stepFrom : List ℕ → ℕ → Word → Step
-stepFrom text last (WordCase.Number i c) =
-    cond (eqb c.line last) (StepCase.Wrong last FaultCase.TooMany) (pairFrom i c.line (next_of text c))
-stepFrom text last (WordCase.End l) = StepCase.End
-stepFrom text last (WordCase.Bad l) = StepCase.Wrong l FaultCase.NotANumber
-stepFrom text last (WordCase.TooLarge l) = StepCase.Wrong l FaultCase.TooLarge
+abbrev pub step_from : List ℕ → ℕ → Word → Step
+step_from text last (WordCase.Number i c) =
+    cond (eqb c.line last) (StepCase.Wrong last FaultCase.TooMany) (pair_from i c.line (next_of text c))
+step_from text last (WordCase.End l) = StepCase.End
+step_from text last (WordCase.Bad l) = StepCase.Wrong l FaultCase.NotANumber
+step_from text last (WordCase.TooLarge l) = StepCase.Wrong l FaultCase.TooLarge
 
 -- the step from a place on, with the line of the last pair, 0 before the first
 unfoldable pub step_of : List ℕ → ℕ → Cursor → Step
-step_of text last c = stepFrom text last (next_of text c)
+step_of text last c = step_from text last (next_of text c)
 
 -- ---- all pairs
 
@@ -68,5 +68,5 @@ steps_of text (suc n) = further text (steps_of text n)
 
 -- the whole text: with a step for each byte, and one for the end, no reading still goes on. A text above 131,072 bytes is too long; its last whole
 -- line is named
-unfoldable pub pairsOf : List ℕ → Reading
-pairsOf text = cond (ltb 131072 (length text)) (stopped (newlines text) FaultCase.TooLong) (steps_of text (suc (length text)))
+unfoldable pub pairs_of : List ℕ → Reading
+pairs_of text = cond (ltb 131072 (length text)) (stopped (newlines text) FaultCase.TooLong) (steps_of text (suc (length text)))

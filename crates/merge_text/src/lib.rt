@@ -9,11 +9,11 @@ use study_file::{Written, read, write};
 mod pairs;
 
 ghost use Rattle.std.specs.Prelude.{◌≡◌, ◌≤◌, length};
-ghost use Rattle.study.specs.Limits.{maxTides, tableSize};
-ghost use Rattle.validity.specs.Memory.{state_of, contentsOf, entryState, exitState};
+ghost use Rattle.study.specs.Limits.{max_tides, table_size};
+ghost use Rattle.validity.specs.Memory.{state_of, contents_of, entry_state, exit_state};
 ghost use Rattle.access.specs.Passed.{Passed};
-ghost use Rattle.merge_text.specs.Pairs.{ended, pairsOf};
-ghost use Rattle.merge_text.specs.Joining.{reportOf, made, mergedBy, joinAnswer, joinLeaves};
+ghost use Rattle.merge_text.specs.Pairs.{ended, pairs_of};
+ghost use Rattle.merge_text.specs.Joining.{report_of, made, merged_by, join_answer, join_leaves};
 ghost use Rattle.merge_text.specs.Steps.{FileRead, Merged, Tells};
 
 // What is wrong with a line of the pairs' text.
@@ -47,7 +47,7 @@ pub enum Joined {
 // The dataset's file.
 fn write_dataset(dataset: Dataset, distances: &[u32], settings: &[u8], file: &mut [u8]) -> Joined
     requires { Passed (state_of dataset distances.now settings.now) }
-    ensures { Tells (made (contentsOf (entryState dataset distances settings))) result file.old file.new }
+    ensures { Tells (made (contents_of (entry_state dataset distances settings))) result file.old file.new }
 {
     let reply = write(dataset, distances, settings, file);
     match reply {
@@ -70,9 +70,9 @@ fn merge_datasets(
     seconds: &[u8],
 ) -> Outcome
     requires passed { Passed (state_of first d1.now s1.now) × Passed (state_of second d2.now s2.now) }
-    requires table_size_in_bounds { (tableSize ≤ length d3.old) × (maxTides ≤ length s3.old) }
-    ensures { Merged (contentsOf (entryState first d1 s1)) (contentsOf (entryState second d2 s2)) firsts.now seconds.now
-        result.answer (exitState result.dataset d3 s3) }
+    requires table_size_in_bounds { (table_size ≤ length d3.old) × (max_tides ≤ length s3.old) }
+    ensures { Merged (contents_of (entry_state first d1 s1)) (contents_of (entry_state second d2 s2)) firsts.now seconds.now
+        result.answer (exit_state result.dataset d3 s3) }
 {
     merge(
         first,
@@ -102,7 +102,7 @@ fn write_merged(
     file: &mut [u8],
 ) -> Joined
     requires { Passed (state_of first d1.now s1.now) × Passed (state_of second d2.now s2.now) }
-    ensures { Tells (mergedBy (contentsOf (entryState first d1 s1)) (contentsOf (entryState second d2 s2))
+    ensures { Tells (merged_by (contents_of (entry_state first d1 s1)) (contents_of (entry_state second d2 s2))
         (ended (record { firsts = firsts.entry.now; seconds = seconds.now }))) result file.old file.new }
 {
     let mut d3 = [0u32; TABLE_SIZE];
@@ -129,7 +129,7 @@ fn join_datasets(
     file: &mut [u8],
 ) -> Joined
     requires { Passed (state_of first d1.now s1.now) × Passed (state_of second d2.now s2.now) }
-    ensures { Tells (mergedBy (contentsOf (entryState first d1 s1)) (contentsOf (entryState second d2 s2)) (pairsOf pairs.now))
+    ensures { Tells (merged_by (contents_of (entry_state first d1 s1)) (contents_of (entry_state second d2 s2)) (pairs_of pairs.now))
         result file.old file.new }
 {
     let mut firsts = [0u8; 65536];
@@ -153,18 +153,18 @@ fn join_datasets(
 
 // The dataset of a file, read over a blank record.
 fn read_dataset(file: &[u8], distances: &mut [u32], settings: &mut [u8]) -> Outcome
-    requires { (tableSize ≤ length distances.old) × (maxTides ≤ length settings.old) }
-    ensures { FileRead file.now result.answer (exitState result.dataset distances settings) }
+    requires { (table_size ≤ length distances.old) × (max_tides ≤ length settings.old) }
+    ensures { FileRead file.now result.answer (exit_state result.dataset distances settings) }
 {
     read(blank(), distances, settings, file)
 }
 
 // The merged file of any bytes over the front of the lent ones; those past it stay, and all of them where something is wrong.
 pub fn join(first: &[u8], second: &[u8], pairs: &[u8], file: &mut [u8]) -> Joined
-    ensures told { reportOf result
-        ≡ joinAnswer first.now second.now pairs.now (length file.old) }
+    ensures told { report_of result
+        ≡ join_answer first.now second.now pairs.now (length file.old) }
     ensures leaves { file.new
-        ≡ joinLeaves first.now second.now pairs.now file.old }
+        ≡ join_leaves first.now second.now pairs.now file.old }
 {
     let mut d1 = [0u32; TABLE_SIZE];
     let mut s1 = [0u8; MAX_TIDES];

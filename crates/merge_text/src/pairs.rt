@@ -1,7 +1,7 @@
 // The pairs of a merge as text: each on a line of its own, the tide's number in the first study and its number in the second.
 ghost use Rattle.std.specs.Prelude.{◌≡◌, ◌≤◌, length};
 ghost use Rattle.text_words.specs.Words.{next_of, CursorWithin};
-ghost use Rattle.merge_text.specs.Pairs.{onLine, pairFrom, step_of};
+ghost use Rattle.merge_text.specs.Pairs.{on_line, pair_from, step_of};
 ghost use Rattle.merge_text.specs.Steps.{Lists};
 
 use crate::Fault;
@@ -28,7 +28,7 @@ pub enum Listed {
 
 // What stands on line `at`, where `line` has one number so far.
 fn on_line(line: usize, at: usize, step: Step) -> Step
-    ensures { result ≡ onLine line at step }
+    ensures { result ≡ on_line line at step }
 {
     if at == line {
         return step;
@@ -39,7 +39,7 @@ fn on_line(line: usize, at: usize, step: Step) -> Step
 // The pair that this number begins; it stands just before the place.
 fn end_pair(text: &[u8], first: u32, from: Cursor) -> Step
     requires { CursorWithin text.now from }
-    ensures { result ≡ pairFrom first from.line (next_of text.now from) }
+    ensures { result ≡ pair_from first from.line (next_of text.now from) }
 {
     let line = from.line;
     let word = next(text, from);

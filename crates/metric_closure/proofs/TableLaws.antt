@@ -12,15 +12,15 @@ use mathlib.Core.List.{List, ◌++◌}
 use lib.Dec.{ltb, eqb}
 use lib.ListN.{length, take, drop, get_or, set, length-append, length-take, length-drop, get_or-append}
 use lib.Seq.{ext_get_or, get_or-append-add, get_or-take, get_or-drop}
-use Rattle.lists.specs.Lists.{every, sumBelow, countBelow, overwrite}
+use Rattle.lists.specs.Lists.{every, sum_below, count_below, overwrite}
 use Rattle.lists.proofs.Tests.{split}
-use Rattle.lists.proofs.Counts.{sum-zero, count_same, count_most}
-use Rattle.lists.proofs.Tables.{length-overwrite, getD-overwrite, get_d_past, overwrite-step, overwrite-read}
-use Rattle.lists.proofs.Scans.{every-done, sum_more}
-use Rattle.metric_closure.specs.Closure.{byWayOf, closure, nearerPairs}
-use Rattle.metric_closure.specs.Call.{entry, symmetricRow, closedTable}
-use Rattle.metric_closure.specs.Tables.{Fits, InRange, lesserWay, LineOf, RowLowered, Lowered}
-use Rattle.metric_closure.proofs.ClosureLaws.{by-is, by-below, closure-none, closure-min, closure-below}
+use Rattle.lists.proofs.Counts.{sum_zero, count_same, count_most}
+use Rattle.lists.proofs.Tables.{length_overwrite, getD_overwrite, get_d_past, overwrite_step, overwrite_read}
+use Rattle.lists.proofs.Scans.{every_done, sum_more}
+use Rattle.metric_closure.specs.Closure.{by_way_of, closure, nearer_pairs}
+use Rattle.metric_closure.specs.Call.{entry, symmetric_row, closed_table}
+use Rattle.metric_closure.specs.Tables.{Fits, InRange, lesser_way, LineOf, RowLowered, Lowered}
+use Rattle.metric_closure.proofs.ClosureLaws.{by_is, by_below, closure_none, closure_min, closure_below}
 
 -- ---- places
 
@@ -29,8 +29,8 @@ pub row_ends : (n i : ℕ) → i < n → i * n + n ≤ n * n
 row_ends n i l = let h : suc i * n ≤ n * n = mul-le-mul_right n l in omega arith
 
 -- 120 rows of 120 at most
-pub few-places : (n : ℕ) → n ≤ 120 → n * n ≤ 14400
-few-places n h = let r : n * n ≤ 120 * 120 = mul-le-mul h h in omega arith
+pub few_places : (n : ℕ) → n ≤ 120 → n * n ≤ 14400
+few_places n h = let r : n * n ≤ 120 * 120 = mul-le-mul h h in omega arith
 
 -- place p, in the first k rows
 pub record InRow (n k p : ℕ) : Type 0 where
@@ -40,8 +40,8 @@ pub record InRow (n k p : ℕ) : Type 0 where
 
 pub in_row : (n k p : ℕ) → p < k * n → InRow n k p
 in_row n k p l =
-    let some-row : 0 < n = positive n l in
-    record { row = (div-lt_iff_lt-mul some-row).1 l; column = mod-lt p some-row; place = div-add-mod' p n }
+    let some_row : 0 < n = positive n l in
+    record { row = (div-lt_iff_lt-mul some_row).1 l; column = mod-lt p some_row; place = div-add-mod' p n }
   where
     positive : (n : ℕ) → p < k * n → 0 < n
     positive zero l = absurd (omega arith)
@@ -50,128 +50,128 @@ in_row n k p l =
 -- a table that is written row by row
 pub rows_at : (n : ℕ) (l : List ℕ) (f : ℕ → ℕ → ℕ) (i j : ℕ) → i < n → j < n → entry n (overwrite (n * n) (λ p. f (p / n) (p % n)) l) i j ≡ f i j
 rows_at n l f i j a b =
-    let some-tide : 0 < n = omega arith in
-    let row : (i * n + j) / n ≡ i = mul-add-div_right some-tide i j ∙ ap (λ (z : ℕ). i + z) (div-eq_of_lt b) ∙ omega arith in
+    let some_tide : 0 < n = omega arith in
+    let row : (i * n + j) / n ≡ i = mul-add-div_right some_tide i j ∙ ap (λ (z : ℕ). i + z) (div-eq_of_lt b) ∙ omega arith in
     let column : (i * n + j) % n ≡ j = mul-add-mod_self_right i n j ∙ mod-eq_of_lt b in
-    getD-overwrite (λ p. f (p / n) (p % n)) l (n * n) (i * n + j) 0 (omega (arith, row_ends n i a)) ∙ ap₂ f row column
+    getD_overwrite (λ p. f (p / n) (p % n)) l (n * n) (i * n + j) 0 (omega (arith, row_ends n i a)) ∙ ap₂ f row column
 
 -- distances are in range where their places are, and the other way round
-pub entry-near : {n : ℕ} {l : List ℕ} → InRange (n * n) l → (i j : ℕ) → i < n → j < n → entry n l i j ≤ 1048575
-entry-near {n} N i j a b = N.near (i * n + j) (omega (arith, row_ends n i a))
+pub entry_near : {n : ℕ} {l : List ℕ} → InRange (n * n) l → (i j : ℕ) → i < n → j < n → entry n l i j ≤ 1048575
+entry_near {n} N i j a b = N.near (i * n + j) (omega (arith, row_ends n i a))
 
-pub places-near : (n : ℕ) (l : List ℕ) → ((i j : ℕ) → i < n → j < n → entry n l i j ≤ 1048575) → InRange (n * n) l
-places-near n l h =
+pub places_near : (n : ℕ) (l : List ℕ) → ((i j : ℕ) → i < n → j < n → entry n l i j ≤ 1048575) → InRange (n * n) l
+places_near n l h =
     record { near = λ p k. let R = in_row n n p k in subst (λ z. get_or l z 0 ≤ 1048575) R.place (h (p / n) (p % n) R.row R.column) }
 
 -- place j after the start of row i
-pub at-start : (n i : ℕ) {s : ℕ} (l : List ℕ) (j : ℕ) → s ≡ i * n → get_or l (s + j) 0 ≡ entry n l i j
-at-start n i l j e = ap (λ (z : ℕ). get_or l (z + j) 0) e
+pub at_start : (n i : ℕ) {s : ℕ} (l : List ℕ) (j : ℕ) → s ≡ i * n → get_or l (s + j) 0 ≡ entry n l i j
+at_start n i l j e = ap (λ (z : ℕ). get_or l (z + j) 0) e
 
 -- ---- one row
 
 module _ (first line : List ℕ) (far : ℕ) where
   -- one more place lowered
-  pub lower-more : {row : List ℕ} {j v : ℕ} → row ≡ overwrite j (lesserWay first line far) first → v ≡ min (get_or row j 0) (far + get_or line j 0)
-      → j < length first → set row j v ≡ overwrite (j + 1) (lesserWay first line far) first
-  unfolding lesserWay
-  lower-more {row} {j} {v} e q h =
-      let same : get_or row j 0 ≡ get_or first j 0 = overwrite-read (lesserWay first line far) first 0 e j (omega arith) in
-      overwrite-step (lesserWay first line far) first v e (q ∙ ap (λ (x : ℕ). min x (far + get_or line j 0)) same) h
+  pub lower_more : {row : List ℕ} {j v : ℕ} → row ≡ overwrite j (lesser_way first line far) first → v ≡ min (get_or row j 0) (far + get_or line j 0)
+      → j < length first → set row j v ≡ overwrite (j + 1) (lesser_way first line far) first
+  unfolding lesser_way
+  lower_more {row} {j} {v} e q h =
+      let same : get_or row j 0 ≡ get_or first j 0 = overwrite_read (lesser_way first line far) first 0 e j (omega arith) in
+      overwrite_step (lesser_way first line far) first v e (q ∙ ap (λ (x : ℕ). min x (far + get_or line j 0)) same) h
 
 -- these numbers put in at a place
 abbrev pub splice : ℕ → List ℕ → List ℕ → ℕ → List ℕ
 splice a ys l k = take a l ++ (ys ++ drop k (drop a l))
 
 module _ (a : ℕ) (ys l : List ℕ) (k : ℕ) (e : length ys ≡ k) (h : a + k ≤ length l) where
-  long-front : length (take a l) ≡ a
-  long-front = simp length-take (omega arith)
+  long_front : length (take a l) ≡ a
+  long_front = simp length-take (omega arith)
 
-  splice-long : length (splice a ys l k) ≡ length l
-  splice-long = simp (length-append, length-take, length-drop) (omega arith)
+  splice_long : length (splice a ys l k) ≡ length l
+  splice_long = simp (length-append, length-take, length-drop) (omega arith)
 
-  splice-before : (p : ℕ) → p < a → get_or (splice a ys l k) p 0 ≡ get_or l p 0
-  splice-before p q = get_or-append (take a l) (ys ++ drop k (drop a l)) 0 p (omega (arith, long-front)) ∙ get_or-take a l p 0 q
+  splice_before : (p : ℕ) → p < a → get_or (splice a ys l k) p 0 ≡ get_or l p 0
+  splice_before p q = get_or-append (take a l) (ys ++ drop k (drop a l)) 0 p (omega (arith, long_front)) ∙ get_or-take a l p 0 q
 
   -- the place j after a
-  past-front : (j : ℕ) → get_or (splice a ys l k) (a + j) 0 ≡ get_or (ys ++ drop k (drop a l)) j 0
-  past-front j =
-      ap (λ (z : ℕ). get_or (splice a ys l k) (z + j) 0) (sym long-front) ∙ get_or-append-add (take a l) (ys ++ drop k (drop a l)) j 0
+  past_front : (j : ℕ) → get_or (splice a ys l k) (a + j) 0 ≡ get_or (ys ++ drop k (drop a l)) j 0
+  past_front j =
+      ap (λ (z : ℕ). get_or (splice a ys l k) (z + j) 0) (sym long_front) ∙ get_or-append-add (take a l) (ys ++ drop k (drop a l)) j 0
 
-  splice-in : (j : ℕ) → j < k → get_or (splice a ys l k) (a + j) 0 ≡ get_or ys j 0
-  splice-in j q = past-front j ∙ get_or-append ys (drop k (drop a l)) 0 j (omega arith)
+  splice_in : (j : ℕ) → j < k → get_or (splice a ys l k) (a + j) 0 ≡ get_or ys j 0
+  splice_in j q = past_front j ∙ get_or-append ys (drop k (drop a l)) 0 j (omega arith)
 
-  splice-after : (p : ℕ) → a + k ≤ p → get_or (splice a ys l k) p 0 ≡ get_or l p 0
-  splice-after p q =
+  splice_after : (p : ℕ) → a + k ≤ p → get_or (splice a ys l k) p 0 ≡ get_or l p 0
+  splice_after p q =
       let j : ℕ = p - (a + k) in
       let at : a + (k + j) ≡ p = omega arith in
       let here : get_or (ys ++ drop k (drop a l)) (k + j) 0 ≡ get_or (drop k (drop a l)) j 0 =
       ap (λ (z : ℕ). get_or (ys ++ drop k (drop a l)) (z + j) 0) (sym e) ∙ get_or-append-add ys (drop k (drop a l)) j 0 in
-      ap (λ (z : ℕ). get_or (splice a ys l k) z 0) (sym at) ∙ past-front (k + j) ∙ here
+      ap (λ (z : ℕ). get_or (splice a ys l k) z 0) (sym at) ∙ past_front (k + j) ∙ here
       ∙ get_or-drop k (drop a l) j 0 ∙ get_or-drop a l (k + j) 0 ∙ ap (λ (z : ℕ). get_or l z 0) at
 
 -- row i as a part of the table, from s to e
 module _ (n i : ℕ) (table : List ℕ) (F : Fits n table) (inside : i < n) (s e : ℕ) (starts : s ≡ i * n) where
-  pub part-long : e ≤ s + n → length (take (e - s) (drop s table)) ≡ e - s
-  part-long h = simp (length-take, length-drop) (omega (arith, row_ends n i inside, F.fits))
+  pub part_long : e ≤ s + n → length (take (e - s) (drop s table)) ≡ e - s
+  part_long h = simp (length-take, length-drop) (omega (arith, row_ends n i inside, F.fits))
 
   pub part_at : (j : ℕ) → j < e - s → get_or (take (e - s) (drop s table)) j 0 ≡ entry n table i j
-  part_at j h = get_or-take (e - s) (drop s table) j 0 h ∙ get_or-drop s table j 0 ∙ at-start n i table j starts
+  part_at j h = get_or-take (e - s) (drop s table) j 0 h ∙ get_or-drop s table j 0 ∙ at_start n i table j starts
 
   -- copied into a line
   pub line_of : (first : List ℕ) {line : List ℕ} → e ≡ s + n → n ≤ length first
       → line ≡ overwrite (length (take (e - s) (drop s table))) (λ p. get_or (take (e - s) (drop s table)) p 0) first → LineOf n i table line
   line_of first {line} h k q =
-      let long = part-long (omega arith) in
+      let long = part_long (omega arith) in
       let part : List ℕ = take (e - s) (drop s table) in
       record {
-        long = rw (q, length-overwrite (λ p. get_or part p 0) first (length part) (omega arith)) k;
-        holds = λ j l. rw q (getD-overwrite (λ p. get_or part p 0) first (length part) j 0 (omega arith) ∙ part_at j (omega arith));
+        long = rw (q, length_overwrite (λ p. get_or part p 0) first (length part) (omega arith)) k;
+        holds = λ j l. rw q (getD_overwrite (λ p. get_or part p 0) first (length part) j 0 (omega arith) ∙ part_at j (omega arith));
       }
 
 -- that part, lowered and put back
 module _ (n m i : ℕ) (line old : List ℕ) (F : Fits n old) (inside : i < n) (s e far : ℕ) (starts : s ≡ i * n) (ends : e ≡ s + n)
-    (at-m : far ≡ get_or old (s + m) 0) where
+    (at_m : far ≡ get_or old (s + m) 0) where
   abbrev part : List ℕ
   part = take (e - s) (drop s old)
 
   abbrev lowered : List ℕ
-  lowered = overwrite (length part) (lesserWay part line far) part
+  lowered = overwrite (length part) (lesser_way part line far) part
 
   long : length part ≡ n
-  long = part-long n i old F inside s e starts (omega arith) ∙ omega arith
+  long = part_long n i old F inside s e starts (omega arith) ∙ omega arith
 
-  lowered-at : (j : ℕ) → j < n → get_or lowered j 0 ≡ min (entry n old i j) (entry n old i m + get_or line j 0)
-  unfolding lesserWay
-  lowered-at j h =
-      getD-overwrite (lesserWay part line far) part (length part) j 0 (omega (arith, long))
-      ∙ ap₂ (λ (x y : ℕ). min x (y + get_or line j 0)) (part_at n i old F inside s e starts j (omega arith)) (at-m ∙ at-start n i old m starts)
+  lowered_at : (j : ℕ) → j < n → get_or lowered j 0 ≡ min (entry n old i j) (entry n old i m + get_or line j 0)
+  unfolding lesser_way
+  lowered_at j h =
+      getD_overwrite (lesser_way part line far) part (length part) j 0 (omega (arith, long))
+      ∙ ap₂ (λ (x y : ℕ). min x (y + get_or line j 0)) (part_at n i old F inside s e starts j (omega arith)) (at_m ∙ at_start n i old m starts)
 
   lowered_long : length lowered ≡ e - s
-  lowered_long = length-overwrite (lesserWay part line far) part (length part) (omega arith) ∙ omega (arith, long)
+  lowered_long = length_overwrite (lesser_way part line far) part (length part) (omega arith) ∙ omega (arith, long)
 
-  pub row-lowered : {ys : List ℕ} → ys ≡ lowered → RowLowered n m i line old (splice s ys old (e - s))
-  row-lowered {ys} q =
+  pub row_lowered : {ys : List ℕ} → ys ≡ lowered → RowLowered n m i line old (splice s ys old (e - s))
+  row_lowered {ys} q =
       let room : s + (e - s) ≤ length old = omega (arith, row_ends n i inside, F.fits) in
       let whole : length ys ≡ e - s = ap length q ∙ lowered_long in
       record {
-        long = splice-long s ys old (e - s) whole room;
+        long = splice_long s ys old (e - s) whole room;
         row = λ j h.
-            sym (at-start n i (splice s ys old (e - s)) j starts) ∙ splice-in s ys old (e - s) whole room j (omega arith)
-            ∙ ap (λ (l : List ℕ). get_or l j 0) q ∙ lowered-at j h;
-        before = λ p h. splice-before s ys old (e - s) whole room p (omega arith);
-        after = λ p h. splice-after s ys old (e - s) whole room p (omega arith);
+            sym (at_start n i (splice s ys old (e - s)) j starts) ∙ splice_in s ys old (e - s) whole room j (omega arith)
+            ∙ ap (λ (l : List ℕ). get_or l j 0) q ∙ lowered_at j h;
+        before = λ p h. splice_before s ys old (e - s) whole room p (omega arith);
+        after = λ p h. splice_after s ys old (e - s) whole room p (omega arith);
       }
 
   -- what lowering the part asks
-  pub row-asks : m < n → InRange (n * n) old → n ≤ length line → InRange n line
+  pub row_asks : m < n → InRange (n * n) old → n ≤ length line → InRange n line
       → (length part ≤ length line) × ((far ≤ 1048575) × InRange (length part) line)
-  row-asks h N k L =
+  row_asks h N k L =
       let at : far ≤ 1048575 = omega (arith, N.near (s + m) (omega (arith, row_ends n i inside))) in
       (omega (arith, long), (at, record { near = λ p q. L.near p (omega (arith, long)) }))
 
 -- the line of a table in range is in range
-pub line-near : {n m : ℕ} {table line : List ℕ} → LineOf n m table line → m < n → InRange (n * n) table → InRange n line
-line-near {n} {m} L h N = record { near = λ j k. omega (arith, L.holds j k, entry-near N m j h k) }
+pub line_near : {n m : ℕ} {table line : List ℕ} → LineOf n m table line → m < n → InRange (n * n) table → InRange n line
+line_near {n} {m} L h N = record { near = λ j k. omega (arith, L.holds j k, entry_near N m j h k) }
 
 -- ---- the rows before i, where the way may go by tide m
 
@@ -179,45 +179,45 @@ module _ {n m : ℕ} {old : List ℕ} where
   pub lowered_none : Lowered n m 0 old old
   lowered_none = record { long = refl; lowered = λ a b h. absurd (omega arith); rest = λ p h. refl }
 
-  pub lowered-more : {i : ℕ} {now new line : List ℕ} → LineOf n m old line → m < n → Lowered n m i old now → RowLowered n m i line now new
+  pub lowered_more : {i : ℕ} {now new line : List ℕ} → LineOf n m old line → m < n → Lowered n m i old now → RowLowered n m i line now new
       → Lowered n m (i + 1) old new
-  lowered-more {i} {now} {new} {line} L inside W R =
+  lowered_more {i} {now} {new} {line} L inside W R =
       record {
         long = R.long ∙ W.long;
         lowered = λ a b h k.
             ⊎_elim (λ q. earlier a b q k)
-            (λ q. let e : i ≡ a = omega arith in subst (λ z. entry n new z b ≡ byWayOf m (entry n old) z b) e (here b k)) (split a i);
+            (λ q. let e : i ≡ a = omega arith in subst (λ z. entry n new z b ≡ by_way_of m (entry n old) z b) e (here b k)) (split a i);
         rest = λ p h. R.after p (omega arith) ∙ W.rest p (omega arith);
       }
     where
-      earlier : (a b : ℕ) → a < i → b < n → entry n new a b ≡ byWayOf m (entry n old) a b
+      earlier : (a b : ℕ) → a < i → b < n → entry n new a b ≡ by_way_of m (entry n old) a b
       earlier a b q k =
           let ends : suc a * n ≤ i * n = mul-le-mul_right n q in
           R.before (a * n + b) (omega arith) ∙ W.lowered a b q k
 
-      here : (b : ℕ) → b < n → entry n new i b ≡ byWayOf m (entry n old) i b
+      here : (b : ℕ) → b < n → entry n new i b ≡ by_way_of m (entry n old) i b
       here b k =
           R.row b k
           ∙ ap₂ (λ (x y : ℕ). min x y) (W.rest (i * n + b) (omega arith))
           (ap₂ (λ (x y : ℕ). x + y) (W.rest (i * n + m) (omega arith)) (L.holds b k))
-          ∙ sym (by-is m (entry n old) i b)
+          ∙ sym (by_is m (entry n old) i b)
 
   -- no place is raised
-  pub lowered-near : {i : ℕ} {new : List ℕ} → Lowered n m i old new → InRange (n * n) old → i ≤ n → InRange (n * n) new
-  lowered-near {i} {new} W N h = record { near = λ p l. ⊎_elim (λ k. inside p k) (λ k. omega (arith, W.rest p k, N.near p l)) (split p (i * n)) }
+  pub lowered_near : {i : ℕ} {new : List ℕ} → Lowered n m i old new → InRange (n * n) old → i ≤ n → InRange (n * n) new
+  lowered_near {i} {new} W N h = record { near = λ p l. ⊎_elim (λ k. inside p k) (λ k. omega (arith, W.rest p k, N.near p l)) (split p (i * n)) }
     where
       inside : (p : ℕ) → p < i * n → get_or new p 0 ≤ 1048575
       inside p k =
           let R = in_row n i p k in
           let at = W.lowered (p / n) (p % n) R.row R.column in
           subst (λ z. get_or new z 0 ≤ 1048575) R.place
-          (omega (arith, by-below m (entry n old) (p / n) (p % n), entry-near N (p / n) (p % n) (omega (arith, R.row)) R.column))
+          (omega (arith, by_below m (entry n old) (p / n) (p % n), entry_near N (p / n) (p % n) (omega (arith, R.row)) R.column))
 
-  pub lowered-fits : {i : ℕ} {new : List ℕ} → Lowered n m i old new → Fits n old → Fits n new
-  lowered-fits W F = record { few = F.few; fits = omega (arith, F.fits, W.long) }
+  pub lowered_fits : {i : ℕ} {new : List ℕ} → Lowered n m i old new → Fits n old → Fits n new
+  lowered_fits W F = record { few = F.few; fits = omega (arith, F.fits, W.long) }
 
-  pub lowered-done : {i : ℕ} {new : List ℕ} → i ≡ n → Lowered n m i old new → Lowered n m n old new
-  lowered-done {i} {new} e W = subst (λ z. Lowered n m z old new) e W
+  pub lowered_done : {i : ℕ} {new : List ℕ} → i ≡ n → Lowered n m i old new → Lowered n m n old new
+  lowered_done {i} {new} e W = subst (λ z. Lowered n m z old new) e W
 
 -- ---- the whole table, where the way may go by each tide below m
 
@@ -227,35 +227,35 @@ pub record Closing (n m : ℕ) (old new : List ℕ) : Type 0 where
   pub past : (p : ℕ) → n * n ≤ p → get_or new p 0 ≡ get_or old p 0
 
 module _ {n : ℕ} {old : List ℕ} where
-  pub closing-none : Closing n 0 old old
-  closing-none = record { long = refl; inside = λ i j a b. sym (closure-none (entry n old) i j); past = λ p h. refl }
+  pub closing_none : Closing n 0 old old
+  closing_none = record { long = refl; inside = λ i j a b. sym (closure_none (entry n old) i j); past = λ p h. refl }
 
-  pub closing-more : {m : ℕ} {now new : List ℕ} → m < n → Closing n m old now → Lowered n m n now new → Closing n (m + 1) old new
-  closing-more {m} {now} {new} h C W =
+  pub closing_more : {m : ℕ} {now new : List ℕ} → m < n → Closing n m old now → Lowered n m n now new → Closing n (m + 1) old new
+  closing_more {m} {now} {new} h C W =
       record {
         long = W.long ∙ C.long;
         inside = λ i j a b. W.lowered i j a b ∙ turn i j a b ∙ ap (λ (z : ℕ). closure z (entry n old) i j) (sym (add-one m));
         past = λ p k. W.rest p k ∙ C.past p k;
       }
     where
-      turn : (i j : ℕ) → i < n → j < n → byWayOf m (entry n now) i j ≡ closure (suc m) (entry n old) i j
+      turn : (i j : ℕ) → i < n → j < n → by_way_of m (entry n now) i j ≡ closure (suc m) (entry n old) i j
       turn i j a b =
-          by-is m (entry n now) i j
+          by_is m (entry n now) i j
           ∙ ap₂ (λ (x y : ℕ). min x y) (C.inside i j a b) (ap₂ (λ (x y : ℕ). x + y) (C.inside i m a h) (C.inside m j h b))
-          ∙ sym (closure-min (entry n old) m i j)
+          ∙ sym (closure_min (entry n old) m i j)
 
-  pub closing-fits : {m : ℕ} {new : List ℕ} → Closing n m old new → Fits n old → Fits n new
-  closing-fits C F = record { few = F.few; fits = omega (arith, F.fits, C.long) }
+  pub closing_fits : {m : ℕ} {new : List ℕ} → Closing n m old new → Fits n old → Fits n new
+  closing_fits C F = record { few = F.few; fits = omega (arith, F.fits, C.long) }
 
-  pub closing-near : {m : ℕ} {new : List ℕ} → Closing n m old new → InRange (n * n) old → InRange (n * n) new
-  closing-near {m} {new} C N =
-      places-near n new (λ i j a b. omega (arith, C.inside i j a b, closure-below (entry n old) m i j, entry-near N i j a b))
+  pub closing_near : {m : ℕ} {new : List ℕ} → Closing n m old new → InRange (n * n) old → InRange (n * n) new
+  closing_near {m} {new} C N =
+      places_near n new (λ i j a b. omega (arith, C.inside i j a b, closure_below (entry n old) m i j, entry_near N i j a b))
 
-  pub closing-done : {m : ℕ} {new : List ℕ} → m ≡ n → Fits n old → Closing n m old new → new ≡ closedTable n old
-  unfolding closedTable
-  closing-done {m} {new} e F C =
-      ext_get_or 0 new (overwrite (n * n) least old) (C.long ∙ sym (length-overwrite least old (n * n) F.fits))
-      (λ p l. ⊎_elim (λ h. place p h ∙ sym (getD-overwrite least old (n * n) p 0 h)) (λ h. C.past p h ∙ sym (get_d_past least old (n * n) p 0 h))
+  pub closing_done : {m : ℕ} {new : List ℕ} → m ≡ n → Fits n old → Closing n m old new → new ≡ closed_table n old
+  unfolding closed_table
+  closing_done {m} {new} e F C =
+      ext_get_or 0 new (overwrite (n * n) least old) (C.long ∙ sym (length_overwrite least old (n * n) F.fits))
+      (λ p l. ⊎_elim (λ h. place p h ∙ sym (getD_overwrite least old (n * n) p 0 h)) (λ h. C.past p h ∙ sym (get_d_past least old (n * n) p 0 h))
       (split p (n * n)))
     where
       least : ℕ → ℕ
@@ -274,32 +274,32 @@ module _ (n i : ℕ) (new old : List ℕ) (F : Fits n new) (G : Fits n old) (ins
   row_of l = take (e - s) (drop s l)
 
   -- a row's places before the diagonal
-  pub row-counted : {r : ℕ} → r ≡ countBelow (length (row_of new)) (λ j. ltb (get_or (row_of new) j 0) (get_or (row_of old) j 0))
-      → r ≡ countBelow i (λ j. ltb (entry n new i j) (entry n old i j))
-  row-counted q =
-      let long : length (row_of new) ≡ i = part-long n i new F inside s e starts (omega arith) ∙ omega arith in
-      q ∙ ap (λ (k : ℕ). countBelow k (λ j. ltb (get_or (row_of new) j 0) (get_or (row_of old) j 0))) long
+  pub row_counted : {r : ℕ} → r ≡ count_below (length (row_of new)) (λ j. ltb (get_or (row_of new) j 0) (get_or (row_of old) j 0))
+      → r ≡ count_below i (λ j. ltb (entry n new i j) (entry n old i j))
+  row_counted q =
+      let long : length (row_of new) ≡ i = part_long n i new F inside s e starts (omega arith) ∙ omega arith in
+      q ∙ ap (λ (k : ℕ). count_below k (λ j. ltb (get_or (row_of new) j 0) (get_or (row_of old) j 0))) long
       ∙ count_same i (λ j. ltb (get_or (row_of new) j 0) (get_or (row_of old) j 0)) (λ j. ltb (entry n new i j) (entry n old i j))
       (λ j h. ap₂ (λ (x y : ℕ). ltb x y) (part_at n i new F inside s e starts j (omega arith)) (part_at n i old G inside s e starts j (omega arith)))
 
 -- the pairs whose later tide is before i
 pub record PairsTo (n : ℕ) (new old : List ℕ) (i total : ℕ) : Type 0 where
-  pub is : total ≡ sumBelow i (λ i. countBelow i (λ j. ltb (entry n new i j) (entry n old i j)))
+  pub is : total ≡ sum_below i (λ i. count_below i (λ j. ltb (entry n new i j) (entry n old i j)))
   pub few : total ≤ 120 * i
 
 module _ (n : ℕ) (new old : List ℕ) where
-  abbrev in-row? : ℕ → ℕ → Bool
-  in-row? i j = ltb (entry n new i j) (entry n old i j)
+  abbrev in_row? : ℕ → ℕ → Bool
+  in_row? i j = ltb (entry n new i j) (entry n old i j)
 
-  pub pairs-none : PairsTo n new old 0 0
-  pairs-none = record { is = sym (sum-zero (λ i. countBelow i (in-row? i))); few = omega arith }
+  pub pairs_none : PairsTo n new old 0 0
+  pairs_none = record { is = sym (sum_zero (λ i. count_below i (in_row? i))); few = omega arith }
 
-  pub pairs-more : {i total r : ℕ} → PairsTo n new old i total → i < 120 → r ≡ countBelow i (in-row? i) → PairsTo n new old (i + 1) (total + r)
-  pairs-more {i} P h q = record { is = sum_more (λ i. countBelow i (in-row? i)) i P.is q; few = omega (arith, P.few, count_most i (in-row? i)) }
+  pub pairs_more : {i total r : ℕ} → PairsTo n new old i total → i < 120 → r ≡ count_below i (in_row? i) → PairsTo n new old (i + 1) (total + r)
+  pairs_more {i} P h q = record { is = sum_more (λ i. count_below i (in_row? i)) i P.is q; few = omega (arith, P.few, count_most i (in_row? i)) }
 
-  pub pairs-done : {i total : ℕ} → i ≡ n → PairsTo n new old i total → total ≡ nearerPairs n (entry n new) (entry n old)
-  unfolding nearerPairs
-  pairs-done e P = P.is ∙ ap (λ (z : ℕ). sumBelow z (λ i. countBelow i (in-row? i))) e
+  pub pairs_done : {i total : ℕ} → i ≡ n → PairsTo n new old i total → total ≡ nearer_pairs n (entry n new) (entry n old)
+  unfolding nearer_pairs
+  pairs_done e P = P.is ∙ ap (λ (z : ℕ). sum_below z (λ i. count_below i (in_row? i))) e
 
 -- ---- the tests of reason 13
 
@@ -307,10 +307,10 @@ module _ (n : ℕ) (l : List ℕ) (i : ℕ) where
   abbrev same? : ℕ → Bool
   same? j = eqb (entry n l i j) (entry n l j i)
 
-  pub row-fails : every i same? ≡ false → false ≡ symmetricRow n l i
-  unfolding symmetricRow
-  row-fails e = rw e
+  pub row_fails : every i same? ≡ false → false ≡ symmetric_row n l i
+  unfolding symmetric_row
+  row_fails e = rw e
 
-  pub row-decides : {x j : ℕ} → j ≤ i → i ≤ j → every j same? ≡ true → x ≡ entry n l i i → eqb x 0 ≡ symmetricRow n l i
-  unfolding symmetricRow
-  row-decides {x} {j} a b e q = rw (every-done same? j i a b e, q)
+  pub row_decides : {x j : ℕ} → j ≤ i → i ≤ j → every j same? ≡ true → x ≡ entry n l i i → eqb x 0 ≡ symmetric_row n l i
+  unfolding symmetric_row
+  row_decides {x} {j} a b e q = rw (every_done same? j i a b e, q)

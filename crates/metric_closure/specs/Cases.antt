@@ -2,7 +2,7 @@
 -- computation. Assumes nothing.
 use Rattle.std.specs.Prelude.{ℕ, ◌≡◌, List, [], ◌∷◌, map}
 use Rattle.study.specs.Refusals.{number, Reply, value, refusal}
-use Rattle.metric_closure.specs.Call.{closeAnswer, closeLeaves}
+use Rattle.metric_closure.specs.Call.{close_answer, close_leaves}
 
 -- a table of n tides, the answer, and the table afterwards
 pub record TableCase : Type 0 where
@@ -43,8 +43,8 @@ cases =
 
 -- the call answers what stands beside each table
 abbrev pub Answered : Type 0
-Answered = map (λ (c : TableCase). closeAnswer c.n c.table) cases ≡ map (λ (c : TableCase). c.answer) cases
+Answered = map (λ (c : TableCase). close_answer c.n c.table) cases ≡ map (λ (c : TableCase). c.answer) cases
 
 -- and leaves it so
 abbrev pub Left : Type 0
-Left = map (λ (c : TableCase). closeLeaves c.n c.table) cases ≡ map (λ (c : TableCase). c.left) cases
+Left = map (λ (c : TableCase). close_leaves c.n c.table) cases ≡ map (λ (c : TableCase). c.left) cases

@@ -1,11 +1,11 @@
--- What is proved of the closure, for every number of tides and every table; there are no proofs here. `for-table` and `for-call` of
+-- What is proved of the closure, for every number of tides and every table; there are no proofs here. `for_table` and `for_call` of
 -- Proofs.antt prove `EveryTable` and `EveryCall`. Assumes nothing.
 use Rattle.std.specs.Prelude.{ℕ, ◌+◌, ◌*◌, ◌≤◌, ◌<◌, ◌≡◌, ◌↔◌, List, length, drop}
 use Rattle.lists.specs.Lists.{◌among◌}
-use Rattle.study.specs.Limits.{maxTides, maxDistance}
+use Rattle.study.specs.Limits.{max_tides, max_distance}
 use Rattle.study.specs.Refusals.{Numbered, Verdict, accepted, refused, value, refusal, IsFirst}
-use Rattle.metric_closure.specs.Closure.{chainSum, closure, loweredPairs}
-use Rattle.metric_closure.specs.Call.{entry, closeReasons, closeVerdict, closeAnswer, closeLeaves}
+use Rattle.metric_closure.specs.Closure.{chain_sum, closure, lowered_pairs}
+use Rattle.metric_closure.specs.Call.{entry, close_reasons, close_verdict, close_answer, close_leaves}
 
 -- n tides: the distances are the same both ways, and 0 from a tide to itself
 pub record Dissimilarity (n : ℕ) (dist : ℕ → ℕ → ℕ) : Type 0 where
@@ -24,7 +24,7 @@ pub record Below (n : ℕ) (lower upper : ℕ → ℕ → ℕ) : Type 0 where
 pub record Chain (n : ℕ) (dist : ℕ → ℕ → ℕ) (i j s : ℕ) : Type 0 where
   pub between : List ℕ
   pub inside : (t : ℕ) → t among between → t < n
-  pub sums : chainSum dist i between j ≡ s
+  pub sums : chain_sum dist i between j ≡ s
 
 -- document 02's sentences on the mended table
 pub record ForTable (n : ℕ) (dist : ℕ → ℕ → ℕ) : Type 0 where
@@ -39,7 +39,7 @@ pub record ForTable (n : ℕ) (dist : ℕ → ℕ → ℕ) : Type 0 where
   pub greatest : (other : ℕ → ℕ → ℕ) → TriangleInequality n other → Below n other dist → Below n other (closure n dist)
   -- a table that obeys is its own closure; then, and only then, no pair is lowered
   pub own : TriangleInequality n dist → (i j : ℕ) → i < n → j < n → closure n dist i j ≡ dist i j
-  pub none-lowered : loweredPairs n dist ≡ 0 ↔ TriangleInequality n dist
+  pub none_lowered : lowered_pairs n dist ≡ 0 ↔ TriangleInequality n dist
 
 -- of any distances that are the same both ways, with 0 from each tide to itself
 abbrev pub EveryTable : Type 0
@@ -47,29 +47,29 @@ EveryTable = (n : ℕ) (dist : ℕ → ℕ → ℕ) → Dissimilarity n dist →
 
 -- a table in memory that no reason refuses
 pub record Closable (n : ℕ) (l : List ℕ) : Type 0 where
-  pub few : n ≤ maxTides
+  pub few : n ≤ max_tides
   pub fits : n * n ≤ length l
-  pub near : (i j : ℕ) → i < n → j < n → entry n l i j ≤ maxDistance
+  pub near : (i j : ℕ) → i < n → j < n → entry n l i j ≤ max_distance
   pub symmetric : Dissimilarity n (entry n l)
 
 -- what the call does
 pub record ForCall (n : ℕ) (l : List ℕ) : Type 0 where
   -- demand 1: the answer is the first of document 02's reasons that holds, and accepted where none does; there is no other such answer, and a
   -- refused call leaves the table as it was
-  pub first : IsFirst (closeReasons n l) (closeVerdict n l)
-  pub only : (v : Verdict) → IsFirst (closeReasons n l) v → v ≡ closeVerdict n l
-  pub unchanged : (r : Numbered) → closeVerdict n l ≡ refused r → (closeAnswer n l ≡ refusal r) × (closeLeaves n l ≡ l)
+  pub first : IsFirst (close_reasons n l) (close_verdict n l)
+  pub only : (v : Verdict) → IsFirst (close_reasons n l) v → v ≡ close_verdict n l
+  pub unchanged : (r : Numbered) → close_verdict n l ≡ refused r → (close_answer n l ≡ refusal r) × (close_leaves n l ≡ l)
   -- the reasons are exact
-  pub exactly : closeVerdict n l ≡ accepted ↔ Closable n l
+  pub exactly : close_verdict n l ≡ accepted ↔ Closable n l
   -- what an accepted call answers and leaves: the closure in the first n · n places, and all else as it was
-  pub answer : Closable n l → closeAnswer n l ≡ value (loweredPairs n (entry n l))
-  pub lowered : Closable n l → (i j : ℕ) → i < n → j < n → entry n (closeLeaves n l) i j ≡ closure n (entry n l) i j
-  pub past : drop (n * n) (closeLeaves n l) ≡ drop (n * n) l
-  pub as_long : length (closeLeaves n l) ≡ length l
+  pub answer : Closable n l → close_answer n l ≡ value (lowered_pairs n (entry n l))
+  pub lowered : Closable n l → (i j : ℕ) → i < n → j < n → entry n (close_leaves n l) i j ≡ closure n (entry n l) i j
+  pub past : drop (n * n) (close_leaves n l) ≡ drop (n * n) l
+  pub as_long : length (close_leaves n l) ≡ length l
   -- a table that obeyed the triangle inequality comes back untouched
-  pub untouched : TriangleInequality n (entry n l) → closeLeaves n l ≡ l
+  pub untouched : TriangleInequality n (entry n l) → close_leaves n l ≡ l
   -- closed twice is closed once
-  pub twice : closeLeaves n (closeLeaves n l) ≡ closeLeaves n l
+  pub twice : close_leaves n (close_leaves n l) ≡ close_leaves n l
 
 -- of any number of tides and any memory
 abbrev pub EveryCall : Type 0

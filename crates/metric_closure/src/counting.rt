@@ -1,8 +1,8 @@
 // How many pairs the closure lowers.
 ghost use Rattle.std.specs.Prelude.{◌≡◌, ◌*◌, ◌≤◌, ltb, length, get_or};
-ghost use Rattle.lists.specs.Lists.{bit, countBelow};
-ghost use Rattle.metric_closure.specs.Closure.{nearerPairs, loweredPairs};
-ghost use Rattle.metric_closure.specs.Call.{entry, closedTable};
+ghost use Rattle.lists.specs.Lists.{bit, count_below};
+ghost use Rattle.metric_closure.specs.Closure.{nearer_pairs, lowered_pairs};
+ghost use Rattle.metric_closure.specs.Call.{entry, closed_table};
 ghost use Rattle.metric_closure.specs.Tables.{Fits, InRange};
 
 use crate::lowering::close_table;
@@ -23,7 +23,7 @@ fn less(x: u32, y: u32) -> usize
 fn nearer_places(new: &[u32], old: &[u32]) -> usize
     requires { length new.now ≤ length old.now }
     ensures value { result
-        ≡ countBelow (length new.now) (λ j. ltb (get_or new.now j 0) (get_or old.now j 0)) }
+        ≡ count_below (length new.now) (λ j. ltb (get_or new.now j 0) (get_or old.now j 0)) }
     ensures upper_bound { result ≤ length new.now }
 {
     let n = new.len();
@@ -40,7 +40,7 @@ fn nearer_places(new: &[u32], old: &[u32]) -> usize
 fn nearer_pairs(new: &[u32], old: &[u32], n: usize) -> usize
     requires fits { Fits n new.now }
     requires fits_2 { Fits n old.now }
-    ensures { result ≡ nearerPairs n (entry n new.now) (entry n old.now) }
+    ensures { result ≡ nearer_pairs n (entry n new.now) (entry n old.now) }
 {
     let mut total: usize = 0;
     let mut i: usize = 0;
@@ -56,8 +56,8 @@ fn nearer_pairs(new: &[u32], old: &[u32], n: usize) -> usize
 pub fn close_counted(table: &mut [u32], n: usize) -> usize
     requires fits { Fits n table.old }
     requires in_range { InRange (n * n) table.old }
-    ensures value { result ≡ loweredPairs n (entry n table.old) }
-    ensures table_after { table.new ≡ closedTable n table.old }
+    ensures value { result ≡ lowered_pairs n (entry n table.old) }
+    ensures table_after { table.new ≡ closed_table n table.old }
 {
     let mut sent = [0u32; TABLE_SIZE];
     let size = n * n;

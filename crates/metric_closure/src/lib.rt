@@ -10,7 +10,7 @@ pub mod row;
 mod table;
 
 ghost use Rattle.std.specs.Prelude.{◌≡◌};
-ghost use Rattle.metric_closure.specs.Call.{closeAnswer, closeLeaves, closedOf};
+ghost use Rattle.metric_closure.specs.Call.{close_answer, close_leaves, closed_of};
 
 // What the call answers.
 #[derive(Drop)]
@@ -22,8 +22,8 @@ pub enum Closed {
 
 // Lowers each distance to the least sum over any chain of tides; the answer is how many pairs were lowered.
 pub fn close(table: &mut [u32], n: usize) -> Closed
-    ensures answer { closedOf result ≡ closeAnswer n table.old }
-    ensures leaves { table.new ≡ closeLeaves n table.old }
+    ensures answer { closed_of result ≡ close_answer n table.old }
+    ensures leaves { table.new ≡ close_leaves n table.old }
 {
     if MAX_TIDES < n {
         return Closed::Refused(Refusal::TideCount);

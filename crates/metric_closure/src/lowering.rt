@@ -1,6 +1,6 @@
 // The closure: by each tide in turn, each row, each place of the row.
 ghost use Rattle.std.specs.Prelude.{◌≡◌, ◌*◌, ◌≤◌, ◌<◌, length};
-ghost use Rattle.metric_closure.specs.Call.{closedTable};
+ghost use Rattle.metric_closure.specs.Call.{closed_table};
 ghost use Rattle.metric_closure.specs.Tables.{Fits, InRange, LineOf, RowLowered, Lowered};
 
 use crate::row::lower_row;
@@ -52,7 +52,7 @@ fn lower_by(table: &mut [u32], n: usize, m: usize)
 pub fn close_table(table: &mut [u32], n: usize)
     requires fits { Fits n table.old }
     requires in_range { InRange (n * n) table.old }
-    ensures { table.new ≡ closedTable n table.old }
+    ensures { table.new ≡ closed_table n table.old }
 {
     let mut m: usize = 0;
     while m < n {

@@ -1,7 +1,7 @@
 // The tests of reasons 6 and 13.
 ghost use Rattle.std.specs.Prelude.{◌≡◌, ◌≤◌, ◌<◌, leb, eqb, length, get_or};
-ghost use Rattle.study.specs.Limits.{maxDistance};
-ghost use Rattle.metric_closure.specs.Call.{entry, in_range, symmetricRow, symmetricTable};
+ghost use Rattle.study.specs.Limits.{max_distance};
+ghost use Rattle.metric_closure.specs.Call.{entry, in_range, symmetric_row, symmetric_table};
 ghost use Rattle.metric_closure.specs.Tables.{Fits};
 
 use crate::table::distance;
@@ -10,7 +10,7 @@ use study::MAX_DISTANCE;
 // Whether place p holds at most 1,048,575.
 fn is_near(table: &[u32], p: usize) -> bool
     requires { p < length table.now }
-    ensures { result ≡ leb (get_or table.now p 0) maxDistance }
+    ensures { result ≡ leb (get_or table.now p 0) max_distance }
 {
     table[p] <= MAX_DISTANCE
 }
@@ -43,7 +43,7 @@ fn same_both_ways(table: &[u32], n: usize, i: usize, j: usize) -> bool
 fn symmetric_row(table: &[u32], n: usize, i: usize) -> bool
     requires fits { Fits n table.now }
     requires i_lt_n { i < n }
-    ensures { result ≡ symmetricRow n table.now i }
+    ensures { result ≡ symmetric_row n table.now i }
 {
     let mut j: usize = 0;
     while j < i {
@@ -58,7 +58,7 @@ fn symmetric_row(table: &[u32], n: usize, i: usize) -> bool
 // Whether the whole table is the same both ways, with 0 from each tide to itself.
 pub fn symmetric(table: &[u32], n: usize) -> bool
     requires { Fits n table.now }
-    ensures { result ≡ symmetricTable n table.now }
+    ensures { result ≡ symmetric_table n table.now }
 {
     let mut i: usize = 0;
     while i < n {

@@ -1,8 +1,8 @@
 // One row, lowered by one way: also for rows of other tables.
 ghost use Rattle.std.specs.Prelude.{◌≡◌, ◌≤◌, min, length};
 ghost use Rattle.lists.specs.Lists.{overwrite};
-ghost use Rattle.study.specs.Limits.{maxDistance};
-ghost use Rattle.metric_closure.specs.Tables.{InRange, lesserWay};
+ghost use Rattle.study.specs.Limits.{max_distance};
+ghost use Rattle.metric_closure.specs.Tables.{InRange, lesser_way};
 
 // The lesser of two numbers.
 fn lesser(x: u32, y: u32) -> u32
@@ -18,10 +18,10 @@ fn lesser(x: u32, y: u32) -> u32
 // There is no branch, so that the machine does several tides at once.
 pub fn lower_row(row: &mut [u32], line: &[u32], far: u32)
     requires row_in_bounds { length row.old ≤ length line.now }
-    requires far_le_max_distance { far ≤ maxDistance }
+    requires far_le_max_distance { far ≤ max_distance }
     requires in_range { InRange (length row.old) line.now }
     ensures { row.new
-        ≡ overwrite (length row.old) (lesserWay row.old line.now far) row.old }
+        ≡ overwrite (length row.old) (lesser_way row.old line.now far) row.old }
 {
     let n = row.len();
     let mut j: usize = 0;

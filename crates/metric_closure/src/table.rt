@@ -1,15 +1,15 @@
 // Places of a table, and a copy of some.
 ghost use Rattle.std.specs.Prelude.{◌≡◌, ◌+◌, ◌*◌, ◌≤◌, ◌<◌, length, get_or};
 ghost use Rattle.lists.specs.Lists.{overwrite};
-ghost use Rattle.study.specs.Limits.{maxTides, tableSize};
+ghost use Rattle.study.specs.Limits.{max_tides, table_size};
 ghost use Rattle.metric_closure.specs.Call.{entry};
 ghost use Rattle.metric_closure.specs.Tables.{Fits};
 
 // Where row i begins.
 pub fn row_start(n: usize, i: usize) -> usize
-    requires n_le_max_tides { n ≤ maxTides }
+    requires n_le_max_tides { n ≤ max_tides }
     requires i_lt_n { i < n }
-    ensures { (result ≡ i * n) × (result + n ≤ n * n) × (result ≤ tableSize) }
+    ensures { (result ≡ i * n) × (result + n ≤ n * n) × (result ≤ table_size) }
 {
     i * n
 }

@@ -8,9 +8,9 @@ use lib.ListN.{length, get_or, take}
 use lib.Seq.{get_or-take, length-take-le}
 use Rattle.lists.specs.Lists.{at}
 use Rattle.lists.proofs.Tests.{split}
-use Rattle.study.specs.Problem.{centreOf, nearestDistance, nearestBlock}
+use Rattle.study.specs.Problem.{centre_of, nearest_distance, nearest_block}
 use Rattle.study.specs.Theorems.{IsNearest}
-use Rattle.study.proofs.NearestLaws.{nearest-only}
+use Rattle.study.proofs.NearestLaws.{nearest_only}
 
 -- i is the first place of the least of w 0, w 1, .. w (m - 1), and x is that least
 pub record FirstLeast (w : ℕ → ℕ) (m i x : ℕ) : Type 0 where
@@ -32,8 +32,8 @@ module _ {w : ℕ → ℕ} where
 
   module _ {m i x y : ℕ} (F : FirstLeast w m i x) (e : y ≡ w m) where
     -- one more that is less
-    pub first-less : y < x → FirstLeast w (m + 1) m y
-    first-less l =
+    pub first_less : y < x → FirstLeast w (m + 1) m y
+    first_less l =
         record {
           inside = omega arith;
           is = e;
@@ -43,8 +43,8 @@ module _ {w : ℕ → ℕ} where
         }
 
     -- one more that is not
-    pub first-kept : x ≤ y → FirstLeast w (m + 1) i x
-    first-kept l =
+    pub first_kept : x ≤ y → FirstLeast w (m + 1) i x
+    first_kept l =
         record {
           inside = omega (arith, F.inside);
           is = F.is;
@@ -61,14 +61,14 @@ module _ (dist : ℕ → ℕ → ℕ) (table : List ℕ) {count t i x : ℕ} (lo
   cs = take count table
 
   -- block k is that of centre k - 1 of the table
-  far : (k j : ℕ) → k ≡ j + 1 → j < count → dist (centreOf cs k) t ≡ dist (at table j) t
-  unfolding centreOf
+  far : (k j : ℕ) → k ≡ j + 1 → j < count → dist (centre_of cs k) t ≡ dist (at table j) t
+  unfolding centre_of
   far k j e l =
       let back : k - 1 ≡ j = omega arith in
       ap (λ z. dist (get_or cs z 0) t) back ∙ ap (λ c. dist c t) (get_or-take count table j 0 l)
 
-  far-nearest : dist (centreOf cs (i + 1)) t ≡ x
-  far-nearest = far (i + 1) i refl F.inside ∙ sym F.is
+  far_nearest : dist (centre_of cs (i + 1)) t ≡ x
+  far_nearest = far (i + 1) i refl F.inside ∙ sym F.is
 
   near : IsNearest dist cs t (i + 1)
   near =
@@ -76,16 +76,16 @@ module _ (dist : ℕ → ℕ → ℕ) (table : List ℕ) {count t i x : ℕ} (lo
       record {
         low = omega arith;
         high = omega (arith, size, F.inside);
-        no-nearer = λ k a b.
+        no_nearer = λ k a b.
             let l : k - 1 < count = omega (arith, size) in
-            omega (arith, far k (k - 1) (omega arith) l, F.lowest (k - 1) l, far-nearest);
+            omega (arith, far k (k - 1) (omega arith) l, F.lowest (k - 1) l, far_nearest);
         no_lower = λ k a b e.
             let l : k - 1 < count = omega (arith, size) in
             ⊎_elim
-            (λ z. absurd (omega (arith, far k (k - 1) (omega arith) l, F.first (k - 1) (omega arith), far-nearest, e)))
+            (λ z. absurd (omega (arith, far k (k - 1) (omega arith) l, F.first (k - 1) (omega arith), far_nearest, e)))
             (λ z. z)
             (split k (i + 1));
       }
 
-  pub nearest-found : (i + 1 ≡ nearestBlock dist cs t) × (x ≡ nearestDistance dist cs t)
-  nearest-found = let q = nearest-only dist cs t (i + 1) near in (q.0, sym far-nearest ∙ q.1)
+  pub nearest_found : (i + 1 ≡ nearest_block dist cs t) × (x ≡ nearest_distance dist cs t)
+  nearest_found = let q = nearest_only dist cs t (i + 1) near in (q.0, sym far_nearest ∙ q.1)

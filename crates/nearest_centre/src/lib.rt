@@ -1,7 +1,7 @@
 // Each tide's nearest centre (document 02, 2.4): its block number and its distance.
 ghost use Rattle.std.specs.Prelude.{◌≡◌, ◌≤◌, ◌<◌, length, take};
 ghost use Rattle.lists.specs.Lists.{at, overwrite};
-ghost use Rattle.study.specs.Problem.{nearestDistance, nearestBlock};
+ghost use Rattle.study.specs.Problem.{nearest_distance, nearest_block};
 ghost use Rattle.radius_theory.specs.Arrays.{within};
 ghost use Rattle.nearest_centre.specs.Inputs.{Centred};
 
@@ -40,8 +40,8 @@ fn nearest_to(
 ) -> Nearest
     requires centred { Centred distances.now n centres.now count }
     requires t_lt_n { t < n }
-    ensures block_value { result.block ≡ nearestBlock (within distances.now n) (take count centres.now) t }
-    ensures distance_value { result.distance ≡ nearestDistance (within distances.now n) (take count centres.now) t }
+    ensures block_value { result.block ≡ nearest_block (within distances.now n) (take count centres.now) t }
+    ensures distance_value { result.distance ≡ nearest_distance (within distances.now n) (take count centres.now) t }
 {
     let mut best = 0;
     let mut least = from_centre(distances, n, centres, count, 0, t);
@@ -74,9 +74,9 @@ pub fn put_nearest(
     requires centred { Centred distances.now n centres.now count }
     requires n_in_bounds { (n ≤ length nearest.old) × (n ≤ length away.old) }
     ensures nearest { nearest.new
-        ≡ overwrite n (nearestBlock (within distances.now n) (take count centres.now)) nearest.old }
+        ≡ overwrite n (nearest_block (within distances.now n) (take count centres.now)) nearest.old }
     ensures away { away.new
-        ≡ overwrite n (nearestDistance (within distances.now n) (take count centres.now)) away.old }
+        ≡ overwrite n (nearest_distance (within distances.now n) (take count centres.now)) away.old }
 {
     let mut t = 0;
     while t < n {

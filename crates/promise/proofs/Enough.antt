@@ -4,28 +4,28 @@ use native.Mathlib.Omega.{arith}
 use mathlib.Core.Path.{◌≡◌, sym, ◌∙◌, subst}
 use mathlib.Core.Bool.{true}
 use lib.Dec.{eqb, eqb→eq}
-use Rattle.lists.specs.Lists.{countBelow}
+use Rattle.lists.specs.Lists.{count_below}
 use Rattle.lists.proofs.Tests.{eq→eqb}
-use Rattle.lists.proofs.Counts.{sum-le, count-all}
+use Rattle.lists.proofs.Counts.{sum_le, count_all}
 use Rattle.study.specs.Problem.{block}
 use Rattle.promise.specs.Promise.{Test, Assigning, Upward, AtLeast}
-use Rattle.lists.proofs.Counting.{sum-const, count-classes}
+use Rattle.lists.proofs.Counting.{sum_const, count_classes}
 
-pub enough-tides : (n blocks b : ℕ) (E : Test) (May : ℕ → ℕ → Type 0) (D : ℕ → ℕ) → AtLeast n b E → Assigning n blocks E May D → blocks * b ≤ n
+pub enough_tides : (n blocks b : ℕ) (E : Test) (May : ℕ → ℕ → Type 0) (D : ℕ → ℕ) → AtLeast n b E → Assigning n blocks E May D → blocks * b ≤ n
 unfolding block
-enough-tides n blocks b E May D least asg =
+enough_tides n blocks b E May D least asg =
     omega (
       arith,
-      sum-const blocks b,
-      sum-le blocks (λ m. b) (λ m. countBelow n (λ t. eqb (D t) m)) (λ m l. least.many (block D m) (asg.enough m l)),
-      count-classes blocks n (λ t. true) D asg.below,
-      count-all n,
+      sum_const blocks b,
+      sum_le blocks (λ m. b) (λ m. count_below n (λ t. eqb (D t) m)) (λ m l. least.many (block D m) (asg.enough m l)),
+      count_classes blocks n (λ t. true) D asg.below,
+      count_all n,
     )
 
-pub assigning-same : {n blocks : ℕ} {E : Test} {May : ℕ → ℕ → Type 0} → Upward n E → (D G : ℕ → ℕ) → ((t : ℕ) → t < n → D t ≡ G t) → Assigning n blocks E May D
+pub assigning_same : {n blocks : ℕ} {E : Test} {May : ℕ → ℕ → Type 0} → Upward n E → (D G : ℕ → ℕ) → ((t : ℕ) → t < n → D t ≡ G t) → Assigning n blocks E May D
     → Assigning n blocks E May G
 unfolding block
-assigning-same {n} {blocks} {E} {May} U D G e A =
+assigning_same {n} {blocks} {E} {May} U D G e A =
     record {
       below = λ t l. subst (λ z. z < blocks) (e t l) (A.below t l);
       may = λ t l. subst (May t) (e t l) (A.may t l);

@@ -7,10 +7,10 @@ use Rattle.lists.proofs.Tests.{eq→eqb}
 use Rattle.study.specs.Limits.{cell}
 use Rattle.promise.specs.Promise.{allows}
 
-pub allows-yes : (allowed : List ℕ) (t m : ℕ) → (cell allowed m t ≡ 0 → ⊥) → T (allows allowed t m)
+pub allows_yes : (allowed : List ℕ) (t m : ℕ) → (cell allowed m t ≡ 0 → ⊥) → T (allows allowed t m)
 unfolding allows
-allows-yes allowed t m f = not_T (eqb (cell allowed m t) 0) (λ e. f (eqb→eq (cell allowed m t) 0 e))
+allows_yes allowed t m f = not_T (eqb (cell allowed m t) 0) (λ e. f (eqb→eq (cell allowed m t) 0 e))
 
-pub allows-no : (allowed : List ℕ) (t m : ℕ) → cell allowed m t ≡ 0 → T (allows allowed t m) → ⊥
+pub allows_no : (allowed : List ℕ) (t m : ℕ) → cell allowed m t ≡ 0 → T (allows allowed t m) → ⊥
 unfolding allows
-allows-no allowed t m e h = T_not (eqb (cell allowed m t) 0) h (eq→eqb (cell allowed m t) 0 e)
+allows_no allowed t m e h = T_not (eqb (cell allowed m t) 0) h (eq→eqb (cell allowed m t) 0 e)

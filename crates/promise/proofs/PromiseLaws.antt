@@ -7,13 +7,13 @@ use lib.ListN.{length}
 use Rattle.promise.specs.Promise.{Asked}
 
 -- another table and list of the same lengths
-pub asked-on : {Able : Type 0} {n blocks : ℕ} {old new list list' : List ℕ} → Asked Able n blocks old list → length new ≡ length old
+pub asked_on : {Able : Type 0} {n blocks : ℕ} {old new list list' : List ℕ} → Asked Able n blocks old list → length new ≡ length old
     → length list' ≡ length list → Asked Able n blocks new list'
-asked-on A e q =
+asked_on A e q =
     record {
-      few-tides = A.few-tides;
-      few-blocks = A.few-blocks;
-      allowed-long = omega (arith, A.allowed-long);
-      list-long = omega (arith, A.list-long);
+      few_tides = A.few_tides;
+      few_blocks = A.few_blocks;
+      allowed_long = omega (arith, A.allowed_long);
+      list_long = omega (arith, A.list_long);
       able = A.able;
     }

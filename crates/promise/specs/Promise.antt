@@ -2,8 +2,8 @@
 -- above know of a search, and all that another one in its place must keep. Blocks and tides are numbered from 0 here; a set of tides is a
 -- test of the tide's number, and an assignment gives each tide the number of its block. Assumes nothing.
 use Rattle.std.specs.Prelude.{ℕ, ◌≤◌, ◌<◌, ◌≡◌, List, Bool, true, false, not, T, eqb, length, get_or}
-use Rattle.lists.specs.Lists.{sumBelow, countBelow, TailKept}
-use Rattle.study.specs.Limits.{maxTides, tableSize, cell, maxSettings}
+use Rattle.lists.specs.Lists.{sum_below, count_below, TailKept}
+use Rattle.study.specs.Limits.{max_tides, table_size, cell, max_settings}
 use Rattle.study.specs.declared.Minima.{Minima}
 use Rattle.study.specs.Study.{meets}
 use Rattle.study.specs.Problem.{block, labels}
@@ -18,11 +18,11 @@ pub record Upward (n : ℕ) (E : Test) : Type 0 where
 
 -- a sufficient block has at least b of the n tides
 pub record AtLeast (n b : ℕ) (E : Test) : Type 0 where
-  pub many : (p : ℕ → Bool) → T (E p) → b ≤ countBelow n p
+  pub many : (p : ℕ → Bool) → T (E p) → b ≤ count_below n p
 
 -- ---- the table of allowed pairs
 
--- tide t may go to block m, by a table in rows of maxTides: a row for each block, so that a scan of a block runs along memory
+-- tide t may go to block m, by a table in rows of max_tides: a row for each block, so that a scan of a block runs along memory
 unfoldable pub allows : List ℕ → ℕ → ℕ → Bool
 allows allowed t m = not (eqb (cell allowed m t) 0)
 
@@ -49,10 +49,10 @@ Assigned n blocks E allowed = Assigning n blocks E (λ t m. T (allows allowed t 
 
 -- what a search may assume; Able is what it may of the numbers that its test is made of
 pub record Asked (Able : Type 0) (n blocks : ℕ) (allowed list : List ℕ) : Type 0 where
-  pub few-tides : n ≤ maxTides
-  pub few-blocks : blocks ≤ maxTides
-  pub allowed-long : tableSize ≤ length allowed
-  pub list-long : n ≤ length list
+  pub few_tides : n ≤ max_tides
+  pub few_blocks : blocks ≤ max_tides
+  pub allowed_long : table_size ≤ length allowed
+  pub list_long : n ≤ length list
   pub able : Able
 
 -- what a search promises of its answer r and of the list that it leaves, list'
@@ -72,8 +72,8 @@ meeting M n s = meets M n (λ t. get_or s t 0)
 
 -- what a search may assume of minima and settings
 pub record Able (M : Minima) (n : ℕ) (s : List ℕ) : Type 0 where
-  pub small : M.b0 ≤ maxTides
-  pub fit : sumBelow maxSettings (λ j. get_or M.b j 0) ≤ M.b0
-  pub settings-long : n ≤ length s
-  pub setting-low : (t : ℕ) → t < n → 1 ≤ get_or s t 0
-  pub setting-high : (t : ℕ) → t < n → get_or s t 0 ≤ maxSettings
+  pub small : M.b0 ≤ max_tides
+  pub fit : sum_below max_settings (λ j. get_or M.b j 0) ≤ M.b0
+  pub settings_long : n ≤ length s
+  pub setting_low : (t : ℕ) → t < n → 1 ≤ get_or s t 0
+  pub setting_high : (t : ℕ) → t < n → get_or s t 0 ≤ max_settings

@@ -9,29 +9,29 @@ use mathlib.Core.List.{List}
 use lib.Dec.{T, eqb, eqb→eq, T_not}
 use lib.ListN.{length, get_or}
 use Rattle.lists.specs.Lists.{◌among◌, every, TailKept}
-use Rattle.lists.proofs.Tests.{split, test, every-at, not-every, not-not, eq→eqb}
+use Rattle.lists.proofs.Tests.{split, test, every_at, not_every, not_not, eq→eqb}
 use Rattle.lists.proofs.Members.{place}
 use Rattle.study.specs.Limits.{cell}
 use Rattle.study.specs.Problem.{Problem, centres, candidates, labels}
 use Rattle.promise.specs.Promise.{Test, Assigned, Promise, AtLeast}
-use Rattle.promise.proofs.Enough.{enough-tides}
-use Rattle.radius_theory.specs.Arrays.{arrayProblem, ValidArrays}
-use Rattle.radius_theory.specs.Radii.{noRadius, Empty, Lowest, Ahead, NoneTo}
-use Rattle.radius_theory.proofs.Gaps.{apart-mem}
-use Rattle.radius_theory.proofs.RadiiLaws.{Spread, lowest_start, lowest-next, dist-candidate, zero-candidate, candidate-is, candidate-small, stays}
+use Rattle.promise.proofs.Enough.{enough_tides}
+use Rattle.radius_theory.specs.Arrays.{array_problem, ValidArrays}
+use Rattle.radius_theory.specs.Radii.{no_radius, Empty, Lowest, Ahead, NoneTo}
+use Rattle.radius_theory.proofs.Gaps.{apart_mem}
+use Rattle.radius_theory.proofs.RadiiLaws.{Spread, lowest_start, lowest_next, dist_candidate, zero_candidate, candidate_is, candidate_small, stays}
 use Rattle.radius_search.specs.Inputs.{Room}
 use Rattle.radius_search.specs.Front.{Front, CentresAt}
 use Rattle.radius_search.proofs.FrontLaws.{front_at, front_below}
 use Rattle.radius_search.specs.Next.{Next, InPairs, InAll, FirstFrom}
 use Rattle.radius_search.specs.Table.{Table}
-use Rattle.radius_search.proofs.AssigningLaws.{numbered, assigning-by, assigns-by, allowed-by, assigns}
+use Rattle.radius_search.proofs.AssigningLaws.{numbered, assigning_by, assigns_by, allowed_by, assigns}
 use Rattle.radius_search.specs.Bounds.{Bounded}
 use Rattle.radius_search.specs.Ascents.{Steady, Some, RadiusTried, Bisected, Ascent, Least}
 
 -- room stays while lengths do
-pub room-on : {n : ℕ} {allowed allowed' list list' : List ℕ} → Room n allowed list → length allowed' ≡ length allowed → TailKept n list list'
+pub room_on : {n : ℕ} {allowed allowed' list list' : List ℕ} → Room n allowed list → length allowed' ≡ length allowed → TailKept n list list'
     → Room n allowed' list'
-room-on R e k = record { allowed-long = omega (arith, R.allowed-long); list-long = omega (arith, R.list-long, k.same_length) }
+room_on R e k = record { allowed_long = omega (arith, R.allowed_long); list_long = omega (arith, R.list_long, k.same_length) }
 
 -- ---- bisection
 
@@ -40,34 +40,34 @@ pub record Bracketed (d : List ℕ) (n : ℕ) (E : Test) (start limit low high :
   pub up : start ≤ low
   pub order : low ≤ high
   pub most : high < limit
-  pub none : NoneTo (arrayProblem d n E) start low
-  pub here : Some (arrayProblem d n E) high
+  pub none : NoneTo (array_problem d n E) start low
+  pub here : Some (array_problem d n E) high
 
-pub bracket-start : {d : List ℕ} {n : ℕ} {E : Test} {start limit : ℕ} → start < limit → Some (arrayProblem d n E) (limit - 1)
+pub bracket_start : {d : List ℕ} {n : ℕ} {E : Test} {start limit : ℕ} → start < limit → Some (array_problem d n E) (limit - 1)
     → Bracketed d n E start limit start (limit - 1)
-bracket-start l B = record { up = omega arith; order = omega arith; most = omega arith; none = λ h up low. absurd (omega arith); here = B }
+bracket_start l B = record { up = omega arith; order = omega arith; most = omega arith; none = λ h up low. absurd (omega arith); here = B }
 
-pub bracket-yes : {d : List ℕ} {n : ℕ} {E : Test} {start limit low mid high : ℕ} → low ≤ mid → mid < high → Bracketed d n E start limit low high
-    → Some (arrayProblem d n E) mid → Bracketed d n E start limit low mid
-bracket-yes l k B A = record { up = B.up; order = l; most = omega (arith, B.most); none = B.none; here = A }
+pub bracket_yes : {d : List ℕ} {n : ℕ} {E : Test} {start limit low mid high : ℕ} → low ≤ mid → mid < high → Bracketed d n E start limit low high
+    → Some (array_problem d n E) mid → Bracketed d n E start limit low mid
+bracket_yes l k B A = record { up = B.up; order = l; most = omega (arith, B.most); none = B.none; here = A }
 
-pub bracket-end : {d : List ℕ} {n : ℕ} {E : Test} {start limit low high : ℕ} → high ≤ low → Bracketed d n E start limit low high
+pub bracket_end : {d : List ℕ} {n : ℕ} {E : Test} {start limit low high : ℕ} → high ≤ low → Bracketed d n E start limit low high
     → Bisected d n E start limit low
-bracket-end {d} {n} {E} l B =
+bracket_end {d} {n} {E} l B =
     record {
       up = B.up;
       most = omega (arith, B.most);
       none = B.none;
-      here = subst (Some (arrayProblem d n E)) (omega (arith, B.order)) B.here;
+      here = subst (Some (array_problem d n E)) (omega (arith, B.order)) B.here;
     }
 
 module _ {d : List ℕ} {n : ℕ} {E : Test} (Q : ValidArrays d n E) where
   abbrev P : Problem
-  P = arrayProblem d n E
+  P = array_problem d n E
 
   module _ {count : ℕ} {cs : List ℕ} where
     listed : {g : ℕ} → CentresAt d n g count cs → Front cs count (centres P g)
-    unfolding centres arrayProblem
+    unfolding centres array_problem
     listed C = C.front
 
     -- ---- how far the centres stay
@@ -88,7 +88,7 @@ module _ {d : List ℕ} {n : ℕ} {E : Test} (Q : ValidArrays d n E) where
           record { index = p.0; inside = l; is = e; tide = subst (λ z. z < n) e (front_below C p.0 l) }
 
       -- r is at most the distance of any two centres
-      spread : {r : ℕ} → Next (InPairs d cs count count) g noRadius r → Spread Q g r
+      spread : {r : ℕ} → Next (InPairs d cs count count) g no_radius r → Spread Q g r
       spread {r} N c t m k l = by (split p.index q.index) (split q.index p.index)
         where
           p : PlacedCentre c
@@ -98,7 +98,7 @@ module _ {d : List ℕ} {n : ℕ} {E : Test} (Q : ValidArrays d n E) where
           q = placed t k
 
           far : g < P.dist c t
-          far = apart-mem P g Q.lawful.symmetric.both_ways c t m k l
+          far = apart_mem P g Q.lawful.symmetric.both_ways c t m k l
 
           by : (p.index < q.index) ⊎ (q.index ≤ p.index) → (q.index < p.index) ⊎ (p.index ≤ q.index) → r ≤ P.dist c t
           by (inl a) b =
@@ -113,33 +113,33 @@ module _ {d : List ℕ} {n : ℕ} {E : Test} (Q : ValidArrays d n E) where
               let f : c ≡ t = sym p.is ∙ ap (λ z. get_or cs z 0) e ∙ q.is in
               absurd (omega arith)
 
-      pub steady : {limit : ℕ} → Next (InPairs d cs count count) g noRadius limit → Steady d n g limit count cs
-      unfolding centres arrayProblem
+      pub steady : {limit : ℕ} → Next (InPairs d cs count count) g no_radius limit → Steady d n g limit count cs
+      unfolding centres array_problem
       steady {limit} N =
           record {
             stay = λ h up low. record { front = subst (Front cs count) (sym (stays Q g h limit up low (spread N))) C.front };
           }
 
-      pub pairs-ahead : {limit : ℕ} → Next (InPairs d cs count count) g noRadius limit → Ahead P limit
-      pairs-ahead N =
+      pub pairs_ahead : {limit : ℕ} → Next (InPairs d cs count count) g no_radius limit → Ahead P limit
+      pairs_ahead N =
           ⊎_elim (λ e. inl e)
           (λ q. let v = q.0 in
           let w = v.2 in
           inr (Memᴰ.cast w.3
-          (dist-candidate Q (get_or cs v.0 0) (get_or cs w.0 0) (front_below C v.0 v.1) (front_below C w.0 w.2))))
+          (dist_candidate Q (get_or cs v.0 0) (get_or cs w.0 0) (front_below C v.0 v.1) (front_below C w.0 w.2))))
           N.is
 
     -- more blocks than the tides allow
-    none-many : {g limit : ℕ} (b : ℕ) → AtLeast n b E → Steady d n g limit count cs → n < count * b → NoneTo P g limit
-    none-many b least S many h up low xs B =
+    none_many : {g limit : ℕ} (b : ℕ) → AtLeast n b E → Steady d n g limit count cs → n < count * b → NoneTo P g limit
+    none_many b least S many h up low xs B =
         let May : ℕ → ℕ → Type 0 = λ t m. t ≡ t in
-        let asg = assigning-by Q h count cs (listed (S.stay h up low)) May (λ t m tl ml l. refl) xs B in
-        omega (arith, enough-tides n count b E May (λ t. labels xs t - 1) least asg)
+        let asg = assigning_by Q h count cs (listed (S.stay h up low)) May (λ t m tl ml l. refl) xs B in
+        omega (arith, enough_tides n count b E May (λ t. labels xs t - 1) least asg)
 
-    pub many-lowest : {g limit b : ℕ} → 0 < n → AtLeast n b E → Lowest P g → CentresAt d n g count cs → Next (InPairs d cs count count) g noRadius limit
+    pub many_lowest : {g limit b : ℕ} → 0 < n → AtLeast n b E → Lowest P g → CentresAt d n g count cs → Next (InPairs d cs count count) g no_radius limit
         → n < count * b → Lowest P limit
-    many-lowest {g} {limit} {b} pos least L C N many =
-        lowest-next Q pos g limit L (none-many b least (steady C N) many) (pairs-ahead C N)
+    many_lowest {g} {limit} {b} pos least L C N many =
+        lowest_next Q pos g limit L (none_many b least (steady C N) many) (pairs_ahead C N)
 
     -- ---- one radius
 
@@ -149,12 +149,12 @@ module _ {d : List ℕ} {n : ℕ} {E : Test} (Q : ValidArrays d n E) where
         record {
           table = A;
           found = R.found;
-          none = λ e xs B. R.none e (λ t. labels xs t - 1) (allowed-by Q g count cs (listed C) allowed A.here xs B);
+          none = λ e xs B. R.none e (λ t. labels xs t - 1) (allowed_by Q g count cs (listed C) allowed A.here xs B);
         }
 
-    pub tried-some : {g : ℕ} {old allowed list : List ℕ} {r : Bool} → CentresAt d n g count cs → RadiusTried d n E cs count g old allowed list r
+    pub tried_some : {g : ℕ} {old allowed list : List ℕ} {r : Bool} → CentresAt d n g count cs → RadiusTried d n E cs count g old allowed list r
         → r ≡ true → Some P g
-    tried-some {g} {allowed = allowed} {list = list} C A e = (
+    tried_some {g} {allowed = allowed} {list = list} C A e = (
       numbered n (labels list),
       assigns Q g count cs (listed C) allowed A.table.here (labels list) (A.found e),
     )
@@ -173,8 +173,8 @@ module _ {d : List ℕ} {n : ℕ} {E : Test} (Q : ValidArrays d n E) where
           → Some P g → Some P h
       moved g h a b c e w B = (
         numbered n (λ t. labels B.0 t - 1),
-        assigns-by Q h count cs (near h c e) (Within h) (λ t m tl ml l. l) (λ t. labels B.0 t - 1)
-            (assigning-by Q g count cs (near g a b) (Within h) w B.0 B.1),
+        assigns_by Q h count cs (near h c e) (Within h) (λ t m tl ml l. l) (λ t. labels B.0 t - 1)
+            (assigning_by Q g count cs (near g a b) (Within h) w B.0 B.1),
       )
 
       pub none_below : {mid : ℕ} → start ≤ mid → mid < limit → Empty P mid → NoneTo P start (mid + 1)
@@ -182,9 +182,9 @@ module _ {d : List ℕ} {n : ℕ} {E : Test} (Q : ValidArrays d n E) where
           let r = moved h mid up (omega arith) a b (λ t m tl ml l. omega arith) (xs, B) in
           none r.0 r.1
 
-      pub bracket-no : {low mid high : ℕ} → low ≤ mid → mid < high → Bracketed d n E start limit low high → Empty P mid
+      pub bracket_no : {low mid high : ℕ} → low ≤ mid → mid < high → Bracketed d n E start limit low high → Empty P mid
           → Bracketed d n E start limit (mid + 1) high
-      bracket-no l k B none =
+      bracket_no l k B none =
           record {
             up = omega (arith, B.up);
             order = omega arith;
@@ -203,56 +203,56 @@ module _ {d : List ℕ} {n : ℕ} {E : Test} (Q : ValidArrays d n E) where
         nearer x l u = ⊎_elim (λ k. omega arith) (λ k. absurd (T_not (eqb x r) u (eq→eqb x r (omega arith)))) (split x r)
 
         -- no tide of any centre is at r
-        abbrev none-at : Bool
-        none-at = every count (λ m. every n (elsewhere m))
+        abbrev none_at : Bool
+        none_at = every count (λ m. every n (elsewhere m))
 
-        by : start < r → T none-at ⊎ T (not none-at) → r among candidates P
+        by : start < r → T none_at ⊎ T (not none_at) → r among candidates P
         unfolding elsewhere
         by l (inl u) =
             let apart : (t m : ℕ) → t < n → m < count → T (elsewhere m t) =
-            λ t m tl ml. every-at n (elsewhere m) (every-at count (λ m. every n (elsewhere m)) u m ml) t tl in
+            λ t m tl ml. every_at n (elsewhere m) (every_at count (λ m. every n (elsewhere m)) u m ml) t tl in
             let w = moved r (r - 1) L.up L.most (omega arith) (omega (arith, L.most))
             (λ t m tl ml k. nearer (cell d (get_or cs m 0) t) k (apart t m tl ml)) L.here in
             absurd (L.none (r - 1) (omega arith) (omega arith) w.0 w.1)
         by l (inr u) =
-            let p = not-every count (λ m. every n (elsewhere m)) u in
-            let q = not-every n (elsewhere p.0) p.2 in
+            let p = not_every count (λ m. every n (elsewhere m)) u in
+            let q = not_every n (elsewhere p.0) p.2 in
             let x = cell d (get_or cs p.0 0) q.0 in
-            Memᴰ.cast (sym (eqb→eq x r (not-not (eqb x r) q.2)))
-            (dist-candidate Q (get_or cs p.0 0) q.0 (front_below (S.stay r L.up L.most) p.0 p.1) q.1)
+            Memᴰ.cast (sym (eqb→eq x r (not_not (eqb x r) q.2)))
+            (dist_candidate Q (get_or cs p.0 0) q.0 (front_below (S.stay r L.up L.most) p.0 p.1) q.1)
 
-        pub least-candidate : start among candidates P → r among candidates P
-        least-candidate first =
-            ⊎_elim (λ l. by l (test none-at)) (λ l. Memᴰ.cast (omega (arith, L.up)) first) (split start r)
+        pub least_candidate : start among candidates P → r among candidates P
+        least_candidate first =
+            ⊎_elim (λ l. by l (test none_at)) (λ l. Memᴰ.cast (omega (arith, L.up)) first) (split start r)
 
 -- ---- the radii up to limit
 
 module _ {d : List ℕ} {n : ℕ} {E : Test} (Q : ValidArrays d n E) (pos : 0 < n) {cs : List ℕ} {count start limit : ℕ}
-    (S : Steady d n start limit count cs) (L : Lowest (arrayProblem d n E) start) where
+    (S : Steady d n start limit count cs) (L : Lowest (array_problem d n E) start) where
   -- none up to limit
-  pub ascent-none : {lent old allowed list : List ℕ} {r : Bool} → start < limit → Ahead (arrayProblem d n E) limit
+  pub ascent_none : {lent old allowed list : List ℕ} {r : Bool} → start < limit → Ahead (array_problem d n E) limit
       → RadiusTried d n E cs count (limit - 1) old allowed list r → r ≡ false → length old ≡ length lent
       → Ascent d n E cs count start limit limit lent allowed list
-  ascent-none low end A e q =
+  ascent_none low end A e q =
       record {
         up = omega arith;
         most = omega arith;
         same_length = A.table.same_length ∙ q;
-        lowest = lowest-next Q pos start limit L
+        lowest = lowest_next Q pos start limit L
             (λ h up l. none_below Q S (omega arith) (omega arith) (A.none e) h up (omega arith)) end;
         table = λ h. absurd (omega arith);
         found = λ h. absurd (omega arith);
       }
 
   -- the least
-  pub ascent-found : {g : ℕ} {lent old allowed list : List ℕ} {r : Bool} → Bisected d n E start limit g → RadiusTried d n E cs count g old allowed list r
+  pub ascent_found : {g : ℕ} {lent old allowed list : List ℕ} {r : Bool} → Bisected d n E start limit g → RadiusTried d n E cs count g old allowed list r
       → length old ≡ length lent → Ascent d n E cs count start limit g lent allowed list
-  ascent-found {g} {allowed = allowed} {list = list} {r = r} B A q =
+  ascent_found {g} {allowed = allowed} {list = list} {r = r} B A q =
       record {
         up = B.up;
         most = omega (arith, B.most);
         same_length = A.table.same_length ∙ q;
-        lowest = lowest-next Q pos start g L B.none (inr (least-candidate Q S B L.held));
+        lowest = lowest_next Q pos start g L B.none (inr (least_candidate Q S B L.held));
         table = λ _. record { same_length = A.table.same_length ∙ q; here = A.table.here };
         found = λ _. by r refl;
       }
@@ -265,29 +265,29 @@ module _ {d : List ℕ} {n : ℕ} {E : Test} (Q : ValidArrays d n E) (pos : 0 < 
 
 module _ {d : List ℕ} {n : ℕ} {E : Test} (Q : ValidArrays d n E) (pos : 0 < n) where
   -- a candidate is a distance, or 0
-  pub lowest-small : {g : ℕ} → Lowest (arrayProblem d n E) g → g < noRadius
-  lowest-small {g} L = omega (arith, candidate-small Q g L.held)
+  pub lowest_small : {g : ℕ} → Lowest (array_problem d n E) g → g < no_radius
+  lowest_small {g} L = omega (arith, candidate_small Q g L.held)
 
   -- the least candidate from the lower bound on
-  pub first-lowest : {low r : ℕ} → Bounded d n E low → FirstFrom d n low r → Lowest (arrayProblem d n E) r
-  first-lowest {low} {r} B F =
+  pub first_lowest : {low r : ℕ} → Bounded d n E low → FirstFrom d n low r → Lowest (array_problem d n E) r
+  first_lowest {low} {r} B F =
       lowest_start Q pos low r (B.none Q)
-      (λ h m k. F.least h (⊎_elim (λ e. inl e) (λ q. inr (q.0, q.2, (q.1, q.3, q.4))) (candidate-is Q h m)) k)
-      (⊎_elim (λ e. inl e) (λ q. inr (⊎_elim (λ e. Memᴰ.cast e (zero-candidate Q)) distance q)) F.is)
+      (λ h m k. F.least h (⊎_elim (λ e. inl e) (λ q. inr (q.0, q.2, (q.1, q.3, q.4))) (candidate_is Q h m)) k)
+      (⊎_elim (λ e. inl e) (λ q. inr (⊎_elim (λ e. Memᴰ.cast e (zero_candidate Q)) distance q)) F.is)
     where
-      distance : InAll d n r → r among candidates (arrayProblem d n E)
-      distance w = Memᴰ.cast w.2.2 (dist-candidate Q w.0 w.2.0 w.1 w.2.1)
+      distance : InAll d n r → r among candidates (array_problem d n E)
+      distance w = Memᴰ.cast w.2.2 (dist_candidate Q w.0 w.2.0 w.1 w.2.1)
 
 -- none up to limit: the search goes on there
 pub ascended : {d : List ℕ} {n : ℕ} {E : Test} {g limit count r : ℕ} {cs old allowed list : List ℕ}
-    → Ascent d n E cs count g limit r old allowed list → limit ≤ r → Lowest (arrayProblem d n E) limit
-ascended {d} {n} {E} A l = subst (Lowest (arrayProblem d n E)) (omega (arith, A.most)) A.lowest
+    → Ascent d n E cs count g limit r old allowed list → limit ≤ r → Lowest (array_problem d n E) limit
+ascended {d} {n} {E} A l = subst (Lowest (array_problem d n E)) (omega (arith, A.most)) A.lowest
 
 -- the table is long as the one that was lent
-pub least-found : {d : List ℕ} {n : ℕ} {E : Test} {g limit count r : ℕ} {cs lent old allowed list : List ℕ}
+pub least_found : {d : List ℕ} {n : ℕ} {E : Test} {g limit count r : ℕ} {cs lent old allowed list : List ℕ}
     → Steady d n g limit count cs → length old ≡ length lent → Ascent d n E cs count g limit r old allowed list → r < limit
     → Least d n E r count cs lent allowed list
-least-found {r = r} S q A l =
+least_found {r = r} S q A l =
     record {
       centres = S.stay r A.up l;
       table = record { same_length = A.same_length ∙ q; here = (A.table l).here };

@@ -7,11 +7,11 @@ use mathlib.Core.List.{List}
 use lib.ListN.{get_or}
 use Rattle.lists.proofs.Tests.{split}
 use Rattle.study.specs.Limits.{cell}
-use Rattle.radius_theory.specs.Radii.{noRadius}
+use Rattle.radius_theory.specs.Radii.{no_radius}
 use Rattle.radius_search.specs.Next.{Next, InRow, InRows, InLater, InPairs, InAll, FirstFrom}
 
-pub next-none : (Of : ℕ → Type 0) (g start : ℕ) → ((x : ℕ) → Of x → ⊥) → Next Of g start start
-next-none Of g start f = record { most = omega arith; least = λ x v. absurd (f x v); is = inl refl }
+pub next_none : (Of : ℕ → Type 0) (g start : ℕ) → ((x : ℕ) → Of x → ⊥) → Next Of g start start
+next_none Of g start f = record { most = omega arith; least = λ x v. absurd (f x v); is = inl refl }
 
 pub next_up : {Of : ℕ → Type 0} {g start r : ℕ} → g < start → Next Of g start r → g < r
 next_up l N = ⊎_elim (λ e. omega arith) (λ q. q.1) N.is
@@ -49,18 +49,18 @@ module _ (d : List ℕ) {g start best r : ℕ} where
       (λ x w. last (λ i. InRow d (f i) n x) (InRows d n f m x ⊎ InRow d (f m) n x) m w.0 w.1 (λ k. inl (w.0, k, w.2)) (λ e. inr e) w.2)
       (λ x v. (v.0, omega (arith, v.1), v.2)) (λ x u. (m, omega arith, u))
 
-  pub later-step : (cs : List ℕ) (i m : ℕ) → i < m → Next (InLater d cs i m) g start best
+  pub later_step : (cs : List ℕ) (i m : ℕ) → i < m → Next (InLater d cs i m) g start best
       → Next (λ y. y ≡ cell d (get_or cs i 0) (get_or cs m 0)) g best r
       → Next (InLater d cs i (m + 1)) g start r
-  later-step cs i m h =
+  later_step cs i m h =
       next_more (InLater d cs i m) (λ y. y ≡ cell d (get_or cs i 0) (get_or cs m 0)) (InLater d cs i (m + 1))
       (λ x w. last (λ j. x ≡ cell d (get_or cs i 0) (get_or cs j 0)) (InLater d cs i m x ⊎ (x ≡ cell d (get_or cs i 0) (get_or cs m 0)))
       m w.0 w.2 (λ k. inl (w.0, w.1, k, w.3)) (λ e. inr e) w.3)
       (λ x v. (v.0, v.1, omega (arith, v.2), v.3)) (λ x e. (m, h, omega arith, e))
 
-  pub pairs-step : (cs : List ℕ) (count k : ℕ) → Next (InPairs d cs count k) g start best → Next (InLater d cs k count) g best r
+  pub pairs_step : (cs : List ℕ) (count k : ℕ) → Next (InPairs d cs count k) g start best → Next (InLater d cs k count) g best r
       → Next (InPairs d cs count (k + 1)) g start r
-  pairs-step cs count k =
+  pairs_step cs count k =
       next_more (InPairs d cs count k) (InLater d cs k count) (InPairs d cs count (k + 1))
       (λ x w. last (λ i. InLater d cs i count x) (InPairs d cs count k x ⊎ InLater d cs k count x)
       k w.0 w.1 (λ q. inl (w.0, q, w.2)) (λ e. inr e) w.2)
@@ -68,10 +68,10 @@ module _ (d : List ℕ) {g start best r : ℕ} where
 
 -- ---- the least candidate from g on
 
-pub first-zero : (d : List ℕ) (n : ℕ) → FirstFrom d n 0 0
-first-zero d n = record { least = λ x v l. omega arith; is = inr (inl refl) }
+pub first_zero : (d : List ℕ) (n : ℕ) → FirstFrom d n 0 0
+first_zero d n = record { least = λ x v l. omega arith; is = inr (inl refl) }
 
-pub first_next : (d : List ℕ) (n g : ℕ) {r : ℕ} → 0 < g → Next (InAll d n) (g - 1) noRadius r → FirstFrom d n g r
+pub first_next : (d : List ℕ) (n g : ℕ) {r : ℕ} → 0 < g → Next (InAll d n) (g - 1) no_radius r → FirstFrom d n g r
 first_next d n g l N =
     record {
       least = λ x v k. ⊎_elim (λ e. absurd (omega arith)) (λ w. N.least x w (omega arith)) v;

@@ -1,4 +1,4 @@
--- The table of allowed pairs, a row of maxTides for each block: tide t may go to block m whose centre is at most g away. Assumes nothing.
+-- The table of allowed pairs, a row of max_tides for each block: tide t may go to block m whose centre is at most g away. Assumes nothing.
 use Prim.Native.Nat.{ℕ, ◌+◌, ◌*◌, ◌≤◌, ◌<◌}
 use native.Mathlib.Omega.{arith}
 use mathlib.Core.Path.{◌≡◌, refl, ◌∙◌, subst}
@@ -9,11 +9,11 @@ use lib.ListN.{length, get_or, set, length-set}
 use lib.Seq.{get_or-set_same, get_or-set_other}
 use Rattle.lists.specs.Lists.{bit}
 use Rattle.lists.proofs.Tests.{split}
-use Rattle.study.specs.Limits.{cell, maxTides}
+use Rattle.study.specs.Limits.{cell, max_tides}
 use Rattle.radius_search.specs.Table.{entry, RowTo, Table}
 
-pub row-none : (d : List ℕ) (c g m : ℕ) (old : List ℕ) → RowTo d c g m 0 old old
-row-none d c g m old = record { same_length = refl; other = λ y t l e. refl; here = λ t l. absurd (omega arith) }
+pub row_none : (d : List ℕ) (c g m : ℕ) (old : List ℕ) → RowTo d c g m 0 old old
+row_none d c g m old = record { same_length = refl; other = λ y t l e. refl; here = λ t l. absurd (omega arith) }
 
 pub row_more : {d : List ℕ} {c g m i : ℕ} {old new : List ℕ} (v : ℕ) → RowTo d c g m i old new → i < 120 → (m + 1) * 120 ≤ length old
     → v ≡ bit (leb (cell d c i) g) → RowTo d c g m (i + 1) old (set new (m * 120 + i) v)
@@ -35,7 +35,7 @@ row_done {d} {c} {g} {m} {old = old} {new = new} e R = subst (λ z. RowTo d c g 
 pub table_none : (d cs : List ℕ) (g n : ℕ) (old : List ℕ) → Table d cs g 0 n old old
 table_none d cs g n old = record { same_length = refl; here = λ t m l k. absurd (omega arith) }
 
-pub table_more : {d cs : List ℕ} {g m n : ℕ} {old mid new : List ℕ} → n ≤ maxTides → Table d cs g m n old mid → RowTo d (get_or cs m 0) g m n mid new
+pub table_more : {d cs : List ℕ} {g m n : ℕ} {old mid new : List ℕ} → n ≤ max_tides → Table d cs g m n old mid → RowTo d (get_or cs m 0) g m n mid new
     → Table d cs g (m + 1) n old new
 table_more {d} {cs} {g} {m} {n} {old} {mid} {new} few A R =
     record {

@@ -10,42 +10,42 @@ use lib.Dec.{leb, eqb}
 use lib.ListN.{length, get_or, set, replicate, length-replicate, get_or-replicate, length-set}
 use lib.Seq.{ext_get_or, get_or-set_same, get_or-set_other}
 use borrow.Author.Tests.{eq-eqb, ne_eqb}
-use Rattle.lists.specs.Lists.{bit, countBelow}
-use Rattle.lists.proofs.Tests.{every-same}
+use Rattle.lists.specs.Lists.{bit, count_below}
+use Rattle.lists.proofs.Tests.{every_same}
 use Rattle.lists.proofs.Counting.{count_next}
-use Rattle.lists.proofs.Counts.{count-zero, count_most}
-use Rattle.lists.proofs.Tables.{length-tabulate, get_d_tabulate}
-use Rattle.study.specs.Limits.{maxTides}
+use Rattle.lists.proofs.Counts.{count_zero, count_most}
+use Rattle.lists.proofs.Tables.{length_tabulate, get_d_tabulate}
+use Rattle.study.specs.Limits.{max_tides}
 use Rattle.study.specs.declared.Minima.{Minima}
 use Rattle.study.specs.Study.{meets}
 use Rattle.radius_search.specs.Tally.{tally, Tallied, TallyRoom, TallyStep, met}
 
 module _ (s : List ℕ) (p : ℕ → Bool) where
-  tally-length : (t : ℕ) → length (tally s p t) ≡ 9
+  tally_length : (t : ℕ) → length (tally s p t) ≡ 9
   unfolding tally
-  tally-length t = length-tabulate 9 (λ j. countBelow t (λ u. p u && eqb (get_or s u 0) j))
+  tally_length t = length_tabulate 9 (λ j. count_below t (λ u. p u && eqb (get_or s u 0) j))
 
-  tally-at : (t j : ℕ) → j < 9 → get_or (tally s p t) j 0 ≡ countBelow t (λ u. p u && eqb (get_or s u 0) j)
+  tally_at : (t j : ℕ) → j < 9 → get_or (tally s p t) j 0 ≡ count_below t (λ u. p u && eqb (get_or s u 0) j)
   unfolding tally
-  tally-at t j l = get_d_tabulate 9 (λ j. countBelow t (λ u. p u && eqb (get_or s u 0) j)) j 0 l
+  tally_at t j l = get_d_tabulate 9 (λ j. count_below t (λ u. p u && eqb (get_or s u 0) j)) j 0 l
 
-  pub tallied-none : {counts : List ℕ} → counts ≡ replicate 9 0 → Tallied s p 0 0 counts
-  tallied-none e =
+  pub tallied_none : {counts : List ℕ} → counts ≡ replicate 9 0 → Tallied s p 0 0 counts
+  tallied_none e =
       record {
-        found-is = sym (count-zero p);
-        counts-are =
+        found_is = sym (count_zero p);
+        counts_are =
             e
-            ∙ ext_get_or 0 (replicate 9 0) (tally s p 0) (length-replicate {A = ℕ} 9 0 ∙ sym (tally-length 0))
+            ∙ ext_get_or 0 (replicate 9 0) (tally s p 0) (length-replicate {A = ℕ} 9 0 ∙ sym (tally_length 0))
             (λ j l. let k : j < 9 = omega (arith, length-replicate {A = ℕ} 9 0) in
-            get_or-replicate 9 j 0 0 k ∙ sym (tally-at 0 j k ∙ count-zero (λ u. p u && eqb (get_or s u 0) j)));
+            get_or-replicate 9 j 0 0 k ∙ sym (tally_at 0 j k ∙ count_zero (λ u. p u && eqb (get_or s u 0) j)));
       }
 
   -- tide t of setting r is counted, or not
-  tally-add : (t r : ℕ) → r ≡ get_or s t 0 → r < 9 → set (tally s p t) r (get_or (tally s p t) r 0 + bit (p t)) ≡ tally s p (t + 1)
-  tally-add t r e l =
-      ext_get_or 0 _ (tally s p (t + 1)) (simp length-set (tally-length t ∙ sym (tally-length (t + 1))))
-      (λ j k. let q : j < 9 = omega (arith, tally-length t, rw length-set at k) in
-      side j q (ℕ_discrete j r) ∙ sym (tally-at (t + 1) j q ∙ count_next t (λ u. p u && eqb (get_or s u 0) j)))
+  tally_add : (t r : ℕ) → r ≡ get_or s t 0 → r < 9 → set (tally s p t) r (get_or (tally s p t) r 0 + bit (p t)) ≡ tally s p (t + 1)
+  tally_add t r e l =
+      ext_get_or 0 _ (tally s p (t + 1)) (simp length-set (tally_length t ∙ sym (tally_length (t + 1))))
+      (λ j k. let q : j < 9 = omega (arith, tally_length t, rw length-set at k) in
+      side j q (ℕ_discrete j r) ∙ sym (tally_at (t + 1) j q ∙ count_next t (λ u. p u && eqb (get_or s u 0) j)))
     where
       own : (b : Bool) → bit b ≡ bit (b && eqb (get_or s t 0) r)
       own true = ap bit (sym (eq-eqb (get_or s t 0) r (sym e)))
@@ -56,62 +56,62 @@ module _ (s : List ℕ) (p : ℕ → Bool) where
       other j false f = refl
 
       side : (j : ℕ) → j < 9 → Dec (j ≡ r) → get_or (set (tally s p t) r (get_or (tally s p t) r 0 + bit (p t))) j 0
-          ≡ countBelow t (λ u. p u && eqb (get_or s u 0) j) + bit (p t && eqb (get_or s t 0) j)
+          ≡ count_below t (λ u. p u && eqb (get_or s u 0) j) + bit (p t && eqb (get_or s t 0) j)
       side j q (yes f) =
-          rw f (get_or-set_same (tally s p t) r (get_or (tally s p t) r 0 + bit (p t)) 0 (omega (arith, tally-length t))
-          ∙ ap₂ (λ a b. a + b) (tally-at t r l) (own (p t)))
+          rw f (get_or-set_same (tally s p t) r (get_or (tally s p t) r 0 + bit (p t)) 0 (omega (arith, tally_length t))
+          ∙ ap₂ (λ a b. a + b) (tally_at t r l) (own (p t)))
       side j q (no f) =
           get_or-set_other (tally s p t) r j (get_or (tally s p t) r 0 + bit (p t)) 0 f
-          ∙ tally-at t j q
+          ∙ tally_at t j q
           ∙ let z = other j (p t) f in omega arith
 
 module _ {s : List ℕ} {p : ℕ → Bool} where
-  tallied-more : {t found : ℕ} {counts : List ℕ} (x r : ℕ) → Tallied s p t found counts → x ≡ bit (p t) → r ≡ get_or s t 0 → r < 9
+  tallied_more : {t found : ℕ} {counts : List ℕ} (x r : ℕ) → Tallied s p t found counts → x ≡ bit (p t) → r ≡ get_or s t 0 → r < 9
       → Tallied s p (t + 1) (found + x) (set counts r (get_or counts r 0 + x))
-  tallied-more {t} x r A e f l =
+  tallied_more {t} x r A e f l =
       record {
-        found-is = ap₂ (λ a b. a + b) A.found-is e ∙ sym (count_next t p);
-        counts-are = rw (A.counts-are, e) (tally-add s p t r f l);
+        found_is = ap₂ (λ a b. a + b) A.found_is e ∙ sym (count_next t p);
+        counts_are = rw (A.counts_are, e) (tally_add s p t r f l);
       }
 
-  pub tallied-done : {t n found : ℕ} {counts : List ℕ} → t ≡ n → Tallied s p t found counts → Tallied s p n found counts
-  tallied-done {found = found} {counts = counts} e A = subst (λ z. Tallied s p z found counts) e A
+  pub tallied_done : {t n found : ℕ} {counts : List ℕ} → t ≡ n → Tallied s p t found counts → Tallied s p n found counts
+  tallied_done {found = found} {counts = counts} e A = subst (λ z. Tallied s p z found counts) e A
 
-  pub tallied-long : {t found : ℕ} {counts : List ℕ} → Tallied s p t found counts → length counts ≡ 9
-  tallied-long {t} A = ap length A.counts-are ∙ tally-length s p t
+  pub tallied_long : {t found : ℕ} {counts : List ℕ} → Tallied s p t found counts → length counts ≡ 9
+  tallied_long {t} A = ap length A.counts_are ∙ tally_length s p t
 
   -- no count exceeds the number of tides
-  pub tallied-few : {t found : ℕ} {counts : List ℕ} → Tallied s p t found counts → found ≤ t
-  tallied-few {t} A = omega (arith, A.found-is, count_most t p)
+  pub tallied_few : {t found : ℕ} {counts : List ℕ} → Tallied s p t found counts → found ≤ t
+  tallied_few {t} A = omega (arith, A.found_is, count_most t p)
 
-  pub tallied-small : {t found : ℕ} {counts : List ℕ} → Tallied s p t found counts → (j : ℕ) → j < 9 → get_or counts j 0 ≤ t
-  tallied-small {t} A j l = rw A.counts-are (omega (arith, tally-at s p t j l, count_most t (λ u. p u && eqb (get_or s u 0) j)))
+  pub tallied_small : {t found : ℕ} {counts : List ℕ} → Tallied s p t found counts → (j : ℕ) → j < 9 → get_or counts j 0 ≤ t
+  tallied_small {t} A j l = rw A.counts_are (omega (arith, tally_at s p t j l, count_most t (λ u. p u && eqb (get_or s u 0) j)))
 
 -- ---- one more tide, as a step of a loop
 
 -- where tides are few and have one of the settings, the next can be counted
-pub tally-room : {s : List ℕ} {p : ℕ → Bool} {t one found : ℕ} {counts : List ℕ} → t < length s → get_or s t 0 ≤ 8 → t ≤ maxTides → one ≤ 1
+pub tally_room : {s : List ℕ} {p : ℕ → Bool} {t one found : ℕ} {counts : List ℕ} → t < length s → get_or s t 0 ≤ 8 → t ≤ max_tides → one ≤ 1
     → Tallied s p t found counts → TallyRoom s t one found counts
-tally-room l h k o A =
+tally_room l h k o A =
     record {
       inside = l;
-      setting-high = h;
-      long = tallied-long A;
-      small = λ j q. omega (arith, tallied-small A j q);
-      few = omega (arith, tallied-few A);
+      setting_high = h;
+      long = tallied_long A;
+      small = λ j q. omega (arith, tallied_small A j q);
+      few = omega (arith, tallied_few A);
       once = o;
     }
 
-pub tally-step : {s counts : List ℕ} {t one found : ℕ} (r : ℕ) → r ≡ get_or s t 0 → get_or s t 0 ≤ 8
+pub tally_step : {s counts : List ℕ} {t one found : ℕ} (r : ℕ) → r ≡ get_or s t 0 → get_or s t 0 ≤ 8
     → TallyStep s t one found counts (found + one) (set counts r (get_or counts r 0 + one))
-tally-step {one = one} r e h = record { more = λ p A q. tallied-more one r A q e (omega arith) }
+tally_step {one = one} r e h = record { more = λ p A q. tallied_more one r A q e (omega arith) }
 
 -- ---- the minima, from the counts
 
-pub met-meets : (M : Minima) {s : List ℕ} {p : ℕ → Bool} {n found : ℕ} {counts : List ℕ} → Tallied s p n found counts
+pub met_meets : (M : Minima) {s : List ℕ} {p : ℕ → Bool} {n found : ℕ} {counts : List ℕ} → Tallied s p n found counts
     → met M found counts ≡ meets M n (λ t. get_or s t 0) p
 unfolding met meets
-met-meets M {s} {p} {n} A =
-    rw (A.found-is, A.counts-are)
-    (ap (λ z. leb M.b0 (countBelow n p) && z)
-    (every-same 8 _ _ (λ j l. ap (leb (get_or M.b j 0)) (rw (add-one j) (tally-at s p n (suc j) (omega arith))))))
+met_meets M {s} {p} {n} A =
+    rw (A.found_is, A.counts_are)
+    (ap (λ z. leb M.b0 (count_below n p) && z)
+    (every_same 8 _ _ (λ j l. ap (leb (get_or M.b j 0)) (rw (add-one j) (tally_at s p n (suc j) (omega arith))))))

@@ -3,7 +3,7 @@ use Rattle.std.specs.Prelude.{ℕ, ◌≤◌, ◌<◌, ◌≡◌, Bool, true, fa
 use Rattle.study.specs.Problem.{Problem, centres, labels}
 use Rattle.study.specs.Theorems.{Assignment}
 use Rattle.promise.specs.Promise.{Test, Assigned}
-use Rattle.radius_theory.specs.Arrays.{arrayProblem}
+use Rattle.radius_theory.specs.Arrays.{array_problem}
 use Rattle.radius_theory.specs.Radii.{Empty, Lowest, NoneTo}
 use Rattle.radius_search.specs.Front.{CentresAt}
 use Rattle.radius_search.specs.Table.{Table}
@@ -20,21 +20,21 @@ Some P g = (xs : List ℕ) × Assignment P g xs
 pub record RadiusTried (d : List ℕ) (n : ℕ) (E : Test) (cs : List ℕ) (count g : ℕ) (old allowed list : List ℕ) (r : Bool) : Type 0 where
   pub table : Table d cs g count n old allowed
   pub found : r ≡ true → Assigned n count E allowed (labels list)
-  pub none : r ≡ false → Empty (arrayProblem d n E) g
+  pub none : r ≡ false → Empty (array_problem d n E) g
 
 -- r is the least radius from start up to limit with an assignment
 pub record Bisected (d : List ℕ) (n : ℕ) (E : Test) (start limit r : ℕ) : Type 0 where
   pub up : start ≤ r
   pub most : r < limit
-  pub none : NoneTo (arrayProblem d n E) start r
-  pub here : Some (arrayProblem d n E) r
+  pub none : NoneTo (array_problem d n E) start r
+  pub here : Some (array_problem d n E) r
 
 -- no candidate below r has an assignment, and r is limit, or list is an assignment in the table of r
 pub record Ascent (d : List ℕ) (n : ℕ) (E : Test) (cs : List ℕ) (count start limit r : ℕ) (old allowed list : List ℕ) : Type 0 where
   pub up : start ≤ r
   pub most : r ≤ limit
   pub same_length : length allowed ≡ length old
-  pub lowest : Lowest (arrayProblem d n E) r
+  pub lowest : Lowest (array_problem d n E) r
   pub table : r < limit → Table d cs r count n old allowed
   pub found : r < limit → Assigned n count E allowed (labels list)
 
@@ -43,4 +43,4 @@ pub record Least (d : List ℕ) (n : ℕ) (E : Test) (g count : ℕ) (cs old all
   pub centres : CentresAt d n g count cs
   pub table : Table d cs g count n old allowed
   pub found : Assigned n count E allowed (labels list)
-  pub lowest : Lowest (arrayProblem d n E) g
+  pub lowest : Lowest (array_problem d n E) g

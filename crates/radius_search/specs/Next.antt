@@ -1,7 +1,7 @@
 -- The least number above g of those that Of holds of, or start where none of them is less. Assumes nothing.
 use Rattle.std.specs.Prelude.{ℕ, ◌≤◌, ◌<◌, ◌≡◌, ◌⊎◌, List, get_or}
 use Rattle.study.specs.Limits.{cell}
-use Rattle.radius_theory.specs.Radii.{noRadius}
+use Rattle.radius_theory.specs.Radii.{no_radius}
 
 -- r is the least number above g and below start of those that Of holds of, or start
 pub record Next (Of : ℕ → Type 0) (g start r : ℕ) : Type 0 where
@@ -29,7 +29,7 @@ InPairs d cs count k x = (i : ℕ) × (i < k) × InLater d cs i count x
 abbrev pub InAll : List ℕ → ℕ → ℕ → Type 0
 InAll d n = InRows d n (λ i. i) n
 
--- r is the least candidate from g on, or noRadius
+-- r is the least candidate from g on, or no_radius
 pub record FirstFrom (d : List ℕ) (n g r : ℕ) : Type 0 where
   pub least : (x : ℕ) → (x ≡ 0) ⊎ InAll d n x → g ≤ x → r ≤ x
-  pub is : (r ≡ noRadius) ⊎ ((r ≡ 0) ⊎ InAll d n r)
+  pub is : (r ≡ no_radius) ⊎ ((r ≡ 0) ⊎ InAll d n r)

@@ -1,6 +1,6 @@
 // The centres at a radius.
 ghost use Rattle.std.specs.Prelude.{◌≡◌, ◌<◌, length};
-ghost use Rattle.study.specs.Limits.{maxTides};
+ghost use Rattle.study.specs.Limits.{max_tides};
 ghost use Rattle.radius_search.specs.Front.{CentresAt, FarFrom};
 ghost use Rattle.radius_theory.specs.Arrays.{DistanceRows, TidesIn};
 
@@ -17,7 +17,7 @@ fn far_from(
 ) -> bool
     requires distance_rows { DistanceRows distances.now n }
     requires tides_in { TidesIn centres.now count n }
-    requires centres_len { (length centres.now ≡ maxTides) × (t < n) }
+    requires centres_len { (length centres.now ≡ max_tides) × (t < n) }
     ensures { FarFrom distances.now n g t count centres.now result }
 {
     let mut m = 0;
@@ -33,7 +33,7 @@ fn far_from(
 // Writes the centres at g to the front of the table, and tells how many there are.
 pub fn find_centres(distances: &[u32], n: usize, g: u32, centres: &mut [usize; MAX_TIDES]) -> usize
     requires distance_rows { DistanceRows distances.now n }
-    requires centres_len { length centres.old ≡ maxTides }
+    requires centres_len { length centres.old ≡ max_tides }
     ensures { CentresAt distances.now n g result centres.new }
 {
     let mut count = 0;

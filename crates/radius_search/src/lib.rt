@@ -9,7 +9,7 @@ mod table;
 ghost use Rattle.std.specs.Prelude.{◌≡◌, ◌-◌, ◌<◌, length};
 ghost use Rattle.promise.specs.Promise.{meeting};
 ghost use Rattle.radius_theory.specs.Radii.{Lowest, Ahead};
-ghost use Rattle.radius_search.specs.Inputs.{inputProblem, SizedInput, ValidInput, Input, Room, SearchRoom};
+ghost use Rattle.radius_search.specs.Inputs.{input_problem, SizedInput, ValidInput, Input, Room, SearchRoom};
 ghost use Rattle.radius_search.specs.Front.{CentresAt};
 ghost use Rattle.lists.specs.Lists.{TailKept};
 ghost use Rattle.radius_search.specs.Ascents.{Steady, Some, RadiusTried, Bisected, Ascent, Least};
@@ -60,7 +60,7 @@ fn bisect(
 ) -> u32
     requires input { Input distances.now settings.now n minima }
     requires steady { Steady distances.now n start limit count centres.now }
-    requires start_lt_limit { (start < limit) × Some (inputProblem distances.now settings.now n minima) (limit - 1) }
+    requires start_lt_limit { (start < limit) × Some (input_problem distances.now settings.now n minima) (limit - 1) }
     requires room { Room n allowed.old list.old }
     ensures bisected { Bisected distances.now n (meeting minima n settings.now) start limit result }
     ensures allowed_len_unchanged { length allowed.new ≡ length allowed.old }
@@ -97,7 +97,7 @@ fn ascend(
     requires input { Input distances.now settings.now n minima }
     requires steady { Steady distances.now n start limit count centres.now }
     requires n_nonzero { (0 < n) × (start < limit) }
-    requires lowest { Lowest (inputProblem distances.now settings.now n minima) start × Ahead (inputProblem distances.now settings.now n minima) limit }
+    requires lowest { Lowest (input_problem distances.now settings.now n minima) start × Ahead (input_problem distances.now settings.now n minima) limit }
     requires room { Room n allowed.old list.old }
     ensures ascent { Ascent distances.now n (meeting minima n settings.now)
         centres.now count start limit result allowed.old allowed.new list.new }

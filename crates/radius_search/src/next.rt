@@ -1,6 +1,6 @@
 // The next radius to look at: the least above g of some of the distances.
 ghost use Rattle.std.specs.Prelude.{◌≡◌, ℕ, ◌<◌};
-ghost use Rattle.radius_theory.specs.Radii.{noRadius};
+ghost use Rattle.radius_theory.specs.Radii.{no_radius};
 ghost use Rattle.radius_theory.specs.Arrays.{DistanceRows, TidesIn};
 ghost use Rattle.radius_search.specs.Next.{Next, InRow, InLater, InPairs, InAll, FirstFrom};
 
@@ -72,7 +72,7 @@ pub fn next_in_pairs(
 ) -> u32
     requires distance_rows { DistanceRows distances.now n }
     requires tides_in { TidesIn tides.now count n }
-    ensures { Next (InPairs distances.now tides.now count count) g noRadius result }
+    ensures { Next (InPairs distances.now tides.now count count) g no_radius result }
 {
     let mut best = NO_RADIUS;
     let mut i = 0;
@@ -86,7 +86,7 @@ pub fn next_in_pairs(
 // Over all distances.
 fn next_of_all(distances: &[u32], n: usize, g: u32) -> u32
     requires { DistanceRows distances.now n }
-    ensures { Next (InAll distances.now n) g noRadius result }
+    ensures { Next (InAll distances.now n) g no_radius result }
 {
     let mut best = NO_RADIUS;
     let mut c = 0;

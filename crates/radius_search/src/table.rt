@@ -1,7 +1,7 @@
 // Which tide may go to which block: a row of MAX_TIDES places for each block.
 ghost use Rattle.std.specs.Prelude.{◌≡◌, ◌<◌, ◌≤◌, leb, length};
 ghost use Rattle.lists.specs.Lists.{bit};
-ghost use Rattle.study.specs.Limits.{maxTides, tableSize};
+ghost use Rattle.study.specs.Limits.{max_tides, table_size};
 ghost use Rattle.radius_theory.specs.Arrays.{DistanceRows, TidesIn};
 ghost use Rattle.radius_search.specs.Table.{Table, RowTo};
 
@@ -20,7 +20,7 @@ fn mark(x: u32, g: u32) -> u8
 // Row m: the tides at most g from tide c, the centre of block m.
 fn allow_block(distances: &[u32], n: usize, c: usize, g: u32, m: usize, allowed: &mut [u8])
     requires distance_rows { DistanceRows distances.now n }
-    requires c_lt_n { (c < n) × (m < maxTides) × (tableSize ≤ length allowed.old) }
+    requires c_lt_n { (c < n) × (m < max_tides) × (table_size ≤ length allowed.old) }
     ensures { RowTo distances.now c g m n allowed.old allowed.new }
 {
     let mut t = 0;
@@ -41,7 +41,7 @@ pub fn allow(
 )
     requires distance_rows { DistanceRows distances.now n }
     requires tides_in { TidesIn centres.now count n }
-    requires table_size_in_bounds { tableSize ≤ length allowed.old }
+    requires table_size_in_bounds { table_size ≤ length allowed.old }
     ensures { Table distances.now centres.now g count n allowed.old allowed.new }
 {
     let mut m = 0;

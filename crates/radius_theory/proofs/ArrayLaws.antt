@@ -10,9 +10,9 @@ use Rattle.lists.proofs.Tests.{and_T, T-left, T-right, cond_yes, cond_no}
 use Rattle.study.specs.Limits.{cell}
 use Rattle.radius_theory.specs.Arrays.{within}
 
-pub within-is : (d : List ℕ) (n i j : ℕ) → i < n → j < n → within d n i j ≡ cell d i j
+pub within_is : (d : List ℕ) (n i j : ℕ) → i < n → j < n → within d n i j ≡ cell d i j
 unfolding within
-within-is d n i j a b = cond_yes (ltb i n && ltb j n) (cell d i j) 0 (and_T (ltb i n) (ltb j n) (lt→ltb i n a) (lt→ltb j n b))
+within_is d n i j a b = cond_yes (ltb i n && ltb j n) (cell d i j) 0 (and_T (ltb i n) (ltb j n) (lt→ltb i n a) (lt→ltb j n b))
 
 pub within_none : (d : List ℕ) (n i j : ℕ) → (n ≤ i) ⊎ (n ≤ j) → within d n i j ≡ 0
 unfolding within

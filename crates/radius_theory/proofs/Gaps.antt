@@ -11,11 +11,11 @@ use lib.Dec.{T, ltb, le→leb, ltb→lt, lt→ltb, eqb→eq}
 use lib.ListN.{length, get_or}
 use Rattle.lists.specs.Lists.{◌among◌, all_of}
 use Rattle.lists.proofs.Tests.{split}
-use Rattle.lists.proofs.Members.{all-at, all-of, getD-mem, place}
+use Rattle.lists.proofs.Members.{all_at, all_of_lem, getD_mem, place}
 use Rattle.study.specs.Limits.{cell}
-use Rattle.study.specs.Problem.{Problem, centresAmong, centres, centreOf, block, labels}
+use Rattle.study.specs.Problem.{Problem, centres_among, centres, centre_of, block, labels}
 use Rattle.study.specs.Theorems.{Assignment}
-use Rattle.study.proofs.ProblemLaws.{centre-below, among_below, apart}
+use Rattle.study.proofs.ProblemLaws.{centre_below, among_below, apart}
 use Rattle.promise.specs.Promise.{Test}
 use Rattle.radius_theory.specs.Arrays.{Represents, ball}
 
@@ -27,32 +27,32 @@ same_test true false f h = absurd (f tt)
 same_test false true f h = absurd (h tt)
 same_test false false f h = refl
 
-mem-more : (b : Bool) (cs : List ℕ) (t : ℕ) {c : ℕ} → c among cs → c among cond b (cs ++ (t ∷ [])) cs
-mem-more true cs t m = Memᴰ.append_left (t ∷ []) m
-mem-more false cs t m = m
+mem_more : (b : Bool) (cs : List ℕ) (t : ℕ) {c : ℕ} → c among cs → c among cond b (cs ++ (t ∷ [])) cs
+mem_more true cs t m = Memᴰ.append_left (t ∷ []) m
+mem_more false cs t m = m
 
-mem-last : (b : Bool) (cs : List ℕ) (t : ℕ) → T b → t among cond b (cs ++ (t ∷ [])) cs
-mem-last true cs t s = Memᴰ.append_right cs (here refl)
-mem-last false cs t s = absurd s
+mem_last : (b : Bool) (cs : List ℕ) (t : ℕ) → T b → t among cond b (cs ++ (t ∷ [])) cs
+mem_last true cs t s = Memᴰ.append_right cs (here refl)
+mem_last false cs t s = absurd s
 
 module _ (P : Problem) (g : ℕ) where
-  among-more : (t k : ℕ) {c : ℕ} → c among centresAmong P.dist g t → c among centresAmong P.dist g (t + k)
-  unfolding centresAmong
-  among-more t zero {c} m = let e : t ≡ t + 0 = omega arith in subst (λ z. c among centresAmong P.dist g z) e m
-  among-more t (suc k) {c} m =
+  among_more : (t k : ℕ) {c : ℕ} → c among centres_among P.dist g t → c among centres_among P.dist g (t + k)
+  unfolding centres_among
+  among_more t zero {c} m = let e : t ≡ t + 0 = omega arith in subst (λ z. c among centres_among P.dist g z) e m
+  among_more t (suc k) {c} m =
       let e : suc (t + k) ≡ t + suc k = omega arith in
-      subst (λ z. c among centresAmong P.dist g z) e
-      (mem-more (all_of (λ c. ltb g (P.dist c (t + k))) (centresAmong P.dist g (t + k))) (centresAmong P.dist g (t + k)) (t + k) (among-more t k m))
+      subst (λ z. c among centres_among P.dist g z) e
+      (mem_more (all_of (λ c. ltb g (P.dist c (t + k))) (centres_among P.dist g (t + k))) (centres_among P.dist g (t + k)) (t + k) (among_more t k m))
 
-  among-centres : (t : ℕ) → t ≤ P.size → {c : ℕ} → c among centresAmong P.dist g t → c among centres P g
+  among_centres : (t : ℕ) → t ≤ P.size → {c : ℕ} → c among centres_among P.dist g t → c among centres P g
   unfolding centres
-  among-centres t l {c} m =
+  among_centres t l {c} m =
       let e : t + (P.size - t) ≡ P.size = omega arith in
-      subst (λ z. c among centresAmong P.dist g z) e (among-more t (P.size - t) m)
+      subst (λ z. c among centres_among P.dist g z) e (among_more t (P.size - t) m)
 
   -- two centres, by their numbers as tides, are farther than g apart
-  pub apart-mem : ((i j : ℕ) → P.dist i j ≡ P.dist j i) → (c t : ℕ) → c among centres P g → t among centres P g → c < t → g < P.dist c t
-  apart-mem sm c t m k l = by (split p.0 q.0) (split q.0 p.0)
+  pub apart_mem : ((i j : ℕ) → P.dist i j ≡ P.dist j i) → (c t : ℕ) → c among centres P g → t among centres P g → c < t → g < P.dist c t
+  apart_mem sm c t m k l = by (split p.0 q.0) (split q.0 p.0)
     where
       p : (i : ℕ) × (i < length (centres P g)) × (get_or (centres P g) i 0 ≡ c)
       p = place 0 (centres P g) m
@@ -69,19 +69,19 @@ module _ (P : Problem) (g : ℕ) where
           absurd (omega (arith, f, l))
 
 -- the first tide is the first centre
-pub first-centre : (P : Problem) (g : ℕ) → 0 < P.size → get_or (centres P g) 0 0 ≡ 0
-unfolding centres centresAmong
-first-centre P g pos =
+pub first_centre : (P : Problem) (g : ℕ) → 0 < P.size → get_or (centres P g) 0 0 ≡ 0
+unfolding centres centres_among
+first_centre P g pos =
     let e : suc (P.size - 1) ≡ P.size = omega arith in
     let r = first (P.size - 1) in
-    ap (λ z. get_or (centresAmong P.dist g z) 0 0) (sym e) ∙ ap (λ (cs : List ℕ). get_or cs 0 0) r.1
+    ap (λ z. get_or (centres_among P.dist g z) 0 0) (sym e) ∙ ap (λ (cs : List ℕ). get_or cs 0 0) r.1
   where
-    first : (t : ℕ) → (cs : List ℕ) × (centresAmong P.dist g (suc t) ≡ 0 ∷ cs)
+    first : (t : ℕ) → (cs : List ℕ) × (centres_among P.dist g (suc t) ≡ 0 ∷ cs)
     first zero = ([], refl)
-    first (suc t) = by (all_of (λ c. ltb g (P.dist c (suc t))) (centresAmong P.dist g (suc t))) (first t)
+    first (suc t) = by (all_of (λ c. ltb g (P.dist c (suc t))) (centres_among P.dist g (suc t))) (first t)
       where
-        by : (b : Bool) → (cs : List ℕ) × (centresAmong P.dist g (suc t) ≡ 0 ∷ cs)
-            → (cs : List ℕ) × (cond b (centresAmong P.dist g (suc t) ++ (suc t ∷ [])) (centresAmong P.dist g (suc t)) ≡ 0 ∷ cs)
+        by : (b : Bool) → (cs : List ℕ) × (centres_among P.dist g (suc t) ≡ 0 ∷ cs)
+            → (cs : List ℕ) × (cond b (centres_among P.dist g (suc t) ++ (suc t ∷ [])) (centres_among P.dist g (suc t)) ≡ 0 ∷ cs)
         by true r = (r.0 ++ (suc t ∷ []), ap (λ (cs : List ℕ). cs ++ (suc t ∷ [])) r.1)
         by false r = r
 
@@ -93,24 +93,24 @@ module _ (P : Problem) (g h : ℕ) (up : g ≤ h) where
   far : ℕ → ℕ → ℕ → Bool
   far r t c = ltb r (P.dist c t)
 
-  same-among : Wide → (t : ℕ) → t ≤ P.size → centresAmong P.dist h t ≡ centresAmong P.dist g t
-  unfolding centresAmong far
-  same-among w zero l = refl
-  same-among w (suc t) l =
-      ap (λ (cs : List ℕ). cond (all_of (far h t) cs) (cs ++ (t ∷ [])) cs) (same-among w t (omega arith))
-      ∙ ap (λ (b : Bool). cond b (centresAmong P.dist g t ++ (t ∷ [])) (centresAmong P.dist g t))
-      (same_test (all_of (far g t) (centresAmong P.dist g t)) (all_of (far h t) (centresAmong P.dist g t))
-      (λ s. all-of (far h t) (centresAmong P.dist g t) (λ c m.
-      lt→ltb h (P.dist c t) (w c t (among-centres P g t (omega arith) m)
-      (among-centres P g (suc t) l (mem-last (all_of (far g t) (centresAmong P.dist g t)) (centresAmong P.dist g t) t s))
+  same_among : Wide → (t : ℕ) → t ≤ P.size → centres_among P.dist h t ≡ centres_among P.dist g t
+  unfolding centres_among far
+  same_among w zero l = refl
+  same_among w (suc t) l =
+      ap (λ (cs : List ℕ). cond (all_of (far h t) cs) (cs ++ (t ∷ [])) cs) (same_among w t (omega arith))
+      ∙ ap (λ (b : Bool). cond b (centres_among P.dist g t ++ (t ∷ [])) (centres_among P.dist g t))
+      (same_test (all_of (far g t) (centres_among P.dist g t)) (all_of (far h t) (centres_among P.dist g t))
+      (λ s. all_of_lem (far h t) (centres_among P.dist g t) (λ c m.
+      lt→ltb h (P.dist c t) (w c t (among_centres P g t (omega arith) m)
+      (among_centres P g (suc t) l (mem_last (all_of (far g t) (centres_among P.dist g t)) (centres_among P.dist g t) t s))
       (among_below P g t m))))
-      (λ s. all-of (far g t) (centresAmong P.dist g t) (λ c m.
-      let k = ltb→lt h (P.dist c t) (all-at (far h t) (centresAmong P.dist g t) s m) in
+      (λ s. all_of_lem (far g t) (centres_among P.dist g t) (λ c m.
+      let k = ltb→lt h (P.dist c t) (all_at (far h t) (centres_among P.dist g t) s m) in
       lt→ltb g (P.dist c t) (omega arith))))
 
-  pub same-centres : Wide → centres P h ≡ centres P g
+  pub same_centres : Wide → centres P h ≡ centres P g
   unfolding centres
-  same-centres w = same-among w P.size (omega arith)
+  same_centres w = same_among w P.size (omega arith)
 
 -- ---- what every assignment shows
 
@@ -119,15 +119,15 @@ module _ {d : List ℕ} {n : ℕ} {E : Test} {P : Problem} (Q : Represents d n E
   blocks = length (centres P g)
 
   -- a block lies in its centre's ball of any radius from g on, so that ball is sufficient
-  pub ball-full : (h : ℕ) → g ≤ h → (m : ℕ) → 1 ≤ m → m ≤ blocks → T (P.enough (ball d (centreOf (centres P g) m) h))
-  unfolding block centreOf
-  ball-full h up m a k =
+  pub ball_full : (h : ℕ) → g ≤ h → (m : ℕ) → 1 ≤ m → m ≤ blocks → T (P.enough (ball d (centre_of (centres P g) m) h))
+  unfolding block centre_of
+  ball_full h up m a k =
       let c = get_or (centres P g) (m - 1) 0 in
-      let below : c < P.size = centre-below P g (getD-mem 0 (centres P g) (m - 1) (omega arith)) in
+      let below : c < P.size = centre_below P g (getD_mem 0 (centres P g) (m - 1) (omega arith)) in
       Q.lawful.upward (block (labels xs) m) (ball d c h)
       (λ t l u.
       let e : labels xs t ≡ m = eqb→eq (labels xs t) m u in
-      let q : P.dist c t ≤ g = subst (λ z. P.dist (get_or (centres P g) (z - 1) 0) t ≤ g) e (A.in-radius t l) in
+      let q : P.dist c t ≤ g = subst (λ z. P.dist (get_or (centres P g) (z - 1) 0) t ≤ g) e (A.in_radius t l) in
       let z : P.dist c t ≡ cell d c t = Q.dist c t (omega (arith, Q.size)) (omega (arith, Q.size)) in
       le→leb (cell d c t) h (omega arith))
       (A.enough m a k)

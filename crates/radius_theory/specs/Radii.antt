@@ -15,12 +15,12 @@ pub record Lowest (P : Problem) (g : ℕ) : Type 0 where
   pub below : (h : ℕ) → h among candidates P → h < g → Empty P h
 
 -- one more than the greatest distance: no radius is so great
-abbrev pub noRadius : ℕ
-noRadius = 1048576
+abbrev pub no_radius : ℕ
+no_radius = 1048576
 
 -- r is a candidate, or above every distance
 abbrev pub Ahead : Problem → ℕ → Type 0
-Ahead P r = (r ≡ noRadius) ⊎ (r among candidates P)
+Ahead P r = (r ≡ no_radius) ⊎ (r among candidates P)
 
 -- no radius from g up to r has an assignment
 abbrev pub NoneTo : Problem → ℕ → ℕ → Type 0

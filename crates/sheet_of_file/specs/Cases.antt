@@ -2,12 +2,12 @@
 -- CasesProof.antt proves the statement, by computation. Assumes nothing.
 use Rattle.std.specs.Prelude.{◌≡◌, [], ◌∷◌, ◌++◌, map, replicate}
 use Rattle.sheet_text.specs.Text.{ascii}
-use Rattle.sheet_of_file.specs.Sheet.{sheetOf}
+use Rattle.sheet_of_file.specs.Sheet.{sheet_of}
 
 -- each file and its sheet
 abbrev pub Sheets : Type 0
 Sheets =
-    map sheetOf
+    map sheet_of
     -- one tide, k = 1, b0 = 1
     ((0x55 ∷ 0x02 ∷ 0x20 ∷ 0x40 ∷ replicate 9 0)
     -- the same after 65,535 withdrawals by user 1, 1 by user 2, 20 by user 3 and 300 by user 4

@@ -1,9 +1,9 @@
 // The printed sheet of any bytes: they are read as a study file, its tides are blocked, and the answer becomes text.
 ghost use Rattle.std.specs.Prelude.{◌≡◌, ◌≤◌};
 ghost use Rattle.study.specs.Refusals.{numbered};
-ghost use Rattle.validity.specs.Memory.{entryState};
-ghost use Rattle.sheet_text.specs.Text.{refusedText, laidOut};
-ghost use Rattle.sheet_of_file.specs.Sheet.{sheetOf, blockedText};
+ghost use Rattle.validity.specs.Memory.{entry_state};
+ghost use Rattle.sheet_text.specs.Text.{refused_text, laid_out};
+ghost use Rattle.sheet_of_file.specs.Sheet.{sheet_of, blocked_text};
 
 use blocking::records::block_by_value;
 use sheet_text::{Text, sheet_text};
@@ -28,7 +28,7 @@ pub fn blank() -> Dataset {
 
 // No block is printed of a refusal, so its records are blank.
 fn refused_sheet(why: Refusal) -> Text
-    ensures { (result.length ≤ 2855) × (result ≡ laidOut (refusedText (numbered why))) }
+    ensures { (result.length ≤ 2855) × (result ≡ laid_out (refused_text (numbered why))) }
 {
     let none = BlockRecord {
         centre: 0,
@@ -40,7 +40,7 @@ fn refused_sheet(why: Refusal) -> Text
 
 // The sheet of what Block answers.
 fn blocked_sheet(dataset: Dataset, distances: &[u32], settings: &[u8]) -> Text
-    ensures { (result.length ≤ 2855) × (result ≡ laidOut (blockedText (entryState dataset distances settings))) }
+    ensures { (result.length ≤ 2855) × (result ≡ laid_out (blocked_text (entry_state dataset distances settings))) }
 {
     let mut list = [0u8; MAX_TIDES];
     let blocked = block_by_value(dataset, distances, settings, &mut list);
@@ -53,7 +53,7 @@ fn blocked_sheet(dataset: Dataset, distances: &[u32], settings: &[u8]) -> Text
 // The sheet of any bytes: a study file's blocks, or why there are none.
 pub fn sheet(file: &[u8]) -> Text
     ensures fits { result.length ≤ 2855 }
-    ensures text { result ≡ laidOut (sheetOf file.now) }
+    ensures text { result ≡ laid_out (sheet_of file.now) }
 {
     let before = blank();
     let mut distances = [0u32; TABLE_SIZE];

@@ -7,15 +7,15 @@ use mathlib.Core.List.{List, [], ◌∷◌, ◌++◌, append-nil, append_assoc}
 use lib.ListN.{length, take, drop, replicate, get_or, set, length-append, length-set, take-append-drop}
 use lib.Seq.{length-take-le, take_at, drop_at, drop-drop, set_split, take-suc, take_all, append_snoc}
 use Rattle.sheet_text.specs.declared.Text.{Text}
-use Rattle.sheet_text.specs.Text.{overZeros, laidOut}
+use Rattle.sheet_text.specs.Text.{over_zeros, laid_out}
 use Rattle.sheet_text.specs.Putting.{PutText}
 
 pub puts_none : (l : List ℕ) (at : ℕ) → at ≤ length l → PutText l at [] at l
 puts_none l at h =
     record { is = sym (ap (λ x. x ++ drop at l) (append-nil (take at l)) ∙ take-append-drop at l); ends = omega arith; room = h; same = refl }
 
-pub puts-byte : (l : List ℕ) (at b : ℕ) → at < length l → PutText l at (b ∷ []) (at + 1) (set l at b)
-puts-byte l at b h =
+pub puts_byte : (l : List ℕ) (at b : ℕ) → at < length l → PutText l at (b ∷ []) (at + 1) (set l at b)
+puts_byte l at b h =
     record {
       is = set_split l at b h ∙ sym (append_snoc (take at l) b (drop (suc at) l)) ∙ ap (λ n. take at l ++ (b ∷ []) ++ drop n l) (sym (add-one at));
       ends = omega arith;
@@ -44,36 +44,36 @@ puts_then {l} {m} {n} {at} {mid} {end} {a} {b} p q =
         ∙ ap (drop (length b)) (ap (drop mid) p.is ∙ drop_at (take at l ++ a) (drop mid l) mid long)
         ∙ drop-drop (length b) mid l ∙ ap (λ e. drop e l) (sym q.ends)
 
-pub puts-as : {l m : List ℕ} {at end end' : ℕ} {a b : List ℕ} → PutText l at a end m → a ≡ b → end ≡ end' → PutText l at b end' m
-puts-as {l} {m} {at} {end} {end'} {a} {b} p e f = subst (λ x. PutText l at b x m) f (subst (λ x. PutText l at x end m) e p)
+pub puts_as : {l m : List ℕ} {at end end' : ℕ} {a b : List ℕ} → PutText l at a end m → a ≡ b → end ≡ end' → PutText l at b end' m
+puts_as {l} {m} {at} {end} {end'} {a} {b} p e f = subst (λ x. PutText l at b x m) f (subst (λ x. PutText l at x end m) e p)
 
 -- zeros filled from the first place on
-pub puts-over-zeros : (room : ℕ) {bytes : List ℕ} {end : ℕ} {text : List ℕ} → PutText (replicate room 0) 0 text end bytes
-    → (bytes ≡ overZeros room text) × (end ≡ length text)
-unfolding overZeros
-puts-over-zeros room {bytes} {end} {text} p =
+pub puts_over_zeros : (room : ℕ) {bytes : List ℕ} {end : ℕ} {text : List ℕ} → PutText (replicate room 0) 0 text end bytes
+    → (bytes ≡ over_zeros room text) × (end ≡ length text)
+unfolding over_zeros
+puts_over_zeros room {bytes} {end} {text} p =
     let e : end ≡ length text = omega (arith, p.ends) in
     (p.is ∙ ap (λ n. text ++ drop n (replicate room 0)) e, e)
 
 -- such bytes, and where the text ends
-abbrev with-end : List ℕ → ℕ → Text
-with-end bytes end = record { bytes = bytes; length = end }
+abbrev with_end : List ℕ → ℕ → Text
+with_end bytes end = record { bytes = bytes; length = end }
 
-pub puts-text : {bytes : List ℕ} {end : ℕ} {text : List ℕ} → PutText (replicate 2855 0) 0 text end bytes → with-end bytes end ≡ laidOut text
-unfolding laidOut
-puts-text p = let q = puts-over-zeros 2855 p in ap₂ with-end q.0 q.1
+pub puts_text : {bytes : List ℕ} {end : ℕ} {text : List ℕ} → PutText (replicate 2855 0) 0 text end bytes → with_end bytes end ≡ laid_out text
+unfolding laid_out
+puts_text p = let q = puts_over_zeros 2855 p in ap₂ with_end q.0 q.1
 
 -- ---- a loop that copies a text byte by byte
 
 module _ (l : List ℕ) (at : ℕ) (text : List ℕ) (room : at + length text ≤ length l) where
   pub copied_none : PutText l at (take 0 text) (at + 0) l
-  copied_none = puts-as (puts_none l at (omega arith)) refl (omega arith)
+  copied_none = puts_as (puts_none l at (omega arith)) refl (omega arith)
 
   pub copied_more : {m : List ℕ} (i : ℕ) → i < length text → PutText l at (take i text) (at + i) m
       → PutText l at (take (i + 1) text) (at + (i + 1)) (set m (at + i) (get_or text i 0))
   copied_more {m} i h p =
-      puts-as (puts_then p (puts-byte m (at + i) (get_or text i 0) (omega (arith, p.same))))
+      puts_as (puts_then p (puts_byte m (at + i) (get_or text i 0) (omega (arith, p.same))))
       (sym (take-suc text i 0 h) ∙ ap (λ n. take n text) (sym (add-one i))) (omega arith)
 
-  pub copied-done : {m : List ℕ} (i : ℕ) → length text ≤ i → PutText l at (take i text) (at + i) m → PutText l at text (at + i) m
-  copied-done i h p = puts-as p (take_all i text h) refl
+  pub copied_done : {m : List ℕ} (i : ℕ) → length text ≤ i → PutText l at (take i text) (at + i) m → PutText l at text (at + i) m
+  copied_done i h p = puts_as p (take_all i text h) refl

@@ -36,9 +36,9 @@ spaced x = ascii " " ++ decimal x
 -- ---- lines
 
 -- one for each of what is numbered n, n + 1, ..
-unfoldable pub eachLine : {A : Type 0} → (ℕ → A → List ℕ) → ℕ → List A → List ℕ
-eachLine line n [] = []
-eachLine line n (x ∷ xs) = line n x ++ eachLine line (suc n) xs
+unfoldable pub each_line : {A : Type 0} → (ℕ → A → List ℕ) → ℕ → List A → List ℕ
+each_line line n [] = []
+each_line line n (x ∷ xs) = line n x ++ each_line line (suc n) xs
 
 -- the first line
 unfoldable pub heading : List ℕ
@@ -51,7 +51,7 @@ line n r =
 
 -- of the blocks n, n + 1, ..
 abbrev pub lines : ℕ → List BlockRecord → List ℕ
-lines n rs = eachLine line n rs
+lines n rs = each_line line n rs
 
 -- the last line: radius (document 01: reach), widest and each user's withdrawals
 unfoldable pub closing : ℕ → ℕ → List ℕ → List ℕ
@@ -61,18 +61,18 @@ closing radius widest withdrawn =
 -- ---- the sheet
 
 -- the refusal alone: its number as document 01 gives it
-unfoldable pub refusedText : Numbered → List ℕ
-refusedText r = ascii "refused " ++ decimal (number_of r) ++ ascii "\n"
+unfoldable pub refused_text : Numbered → List ℕ
+refused_text r = ascii "refused " ++ decimal (number_of r) ++ ascii "\n"
 
 -- what is printed of Block's answer, its records and each user's withdrawals: a line for each block, or the refusal alone
-abbrev pub sheetText : Reply Figures → List BlockRecord → List ℕ → List ℕ
-sheetText (value F) records withdrawn = heading ++ lines 1 (take F.blocks records) ++ closing F.radius F.widest withdrawn
-sheetText (refusal r) records withdrawn = refusedText r
+abbrev pub sheet_text : Reply Figures → List BlockRecord → List ℕ → List ℕ
+sheet_text (value F) records withdrawn = heading ++ lines 1 (take F.blocks records) ++ closing F.radius F.widest withdrawn
+sheet_text (refusal r) records withdrawn = refused_text r
 
 -- a text over the front of so many zeros
-unfoldable pub overZeros : ℕ → List ℕ → List ℕ
-overZeros room text = text ++ drop (length text) (replicate room 0)
+unfoldable pub over_zeros : ℕ → List ℕ → List ℕ
+over_zeros room text = text ++ drop (length text) (replicate room 0)
 
 -- a text by value: its bytes over the front of 2,855 zeros, and its length
-unfoldable pub laidOut : List ℕ → Text
-laidOut text = record { bytes = overZeros 2855 text; length = length text }
+unfoldable pub laid_out : List ℕ → Text
+laid_out text = record { bytes = over_zeros 2855 text; length = length text }

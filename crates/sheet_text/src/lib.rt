@@ -7,8 +7,8 @@ mod lines;
 pub mod putting;
 
 ghost use Rattle.std.specs.Prelude.{◌≡◌, ◌≤◌, length};
-ghost use Rattle.study.specs.Calls.{blockedOf};
-ghost use Rattle.sheet_text.specs.Text.{sheetText, laidOut};
+ghost use Rattle.study.specs.Calls.{blocked_of};
+ghost use Rattle.sheet_text.specs.Text.{sheet_text, laid_out};
 ghost use Rattle.sheet_text.specs.Putting.{PutText};
 
 // The text is the first `length` bytes, zeros stand after it: at most 26 of heading, 120 lines of 23 and a last line of 69.
@@ -26,7 +26,7 @@ fn put_sheet(
     withdrawn: [u16; MAX_USERS],
 ) -> usize
     requires { 2855 ≤ length out.old }
-    ensures { (result ≤ 2855) × PutText out.old 0 (sheetText (blockedOf answer) records withdrawn) result out.new }
+    ensures { (result ≤ 2855) × PutText out.old 0 (sheet_text (blocked_of answer) records withdrawn) result out.new }
 {
     match answer {
         Blocked::Refused(why) => put_refusal(out, 0, why),
@@ -45,7 +45,7 @@ pub fn sheet_text(
     withdrawn: [u16; MAX_USERS],
 ) -> Text
     ensures fits { result.length ≤ 2855 }
-    ensures text { result ≡ laidOut (sheetText (blockedOf answer) records withdrawn) }
+    ensures text { result ≡ laid_out (sheet_text (blocked_of answer) records withdrawn) }
 {
     let mut bytes = [0u8; 2855];
     let length = put_sheet(&mut bytes, answer, records, withdrawn);

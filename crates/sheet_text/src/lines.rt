@@ -1,7 +1,7 @@
 // The lines of the sheet after its heading.
 ghost use mathlib.Core.List.{flat_map};
 ghost use Rattle.std.specs.Prelude.{◌+◌, ◌≤◌, length, take};
-ghost use Rattle.study.specs.Limits.{maxTides};
+ghost use Rattle.study.specs.Limits.{max_tides};
 ghost use Rattle.sheet_text.specs.Text.{spaced, line, lines, closing};
 ghost use Rattle.sheet_text.specs.Putting.{PutText};
 
@@ -10,7 +10,7 @@ use study::{BlockRecord, MAX_TIDES, MAX_USERS};
 
 // The line of one block.
 fn put_line(out: &mut [u8], at: usize, number: u32, block: BlockRecord) -> usize
-    requires { (number ≤ maxTides) × (at + 23 ≤ length out.old) }
+    requires { (number ≤ max_tides) × (at + 23 ≤ length out.old) }
     ensures { (result ≤ at + 23) × PutText out.old at (line number block) result out.new }
 {
     let after_number = put_field(out, at, number, b' ');

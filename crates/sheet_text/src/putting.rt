@@ -1,7 +1,7 @@
 // Text is put into lent memory from a place on; the answer is the place after it.
 ghost use Rattle.std.specs.Prelude.{[], ◌∷◌, ◌+◌, ◌≤◌, ◌<◌, length};
 ghost use Rattle.study.specs.Refusals.{numbered};
-ghost use Rattle.sheet_text.specs.Text.{decimal, refusedText};
+ghost use Rattle.sheet_text.specs.Text.{decimal, refused_text};
 ghost use Rattle.sheet_text.specs.Lines.{field, named};
 ghost use Rattle.sheet_text.specs.Putting.{PutText};
 
@@ -63,7 +63,7 @@ pub fn put_named(out: &mut [u8], at: usize, name: &[u8], x: u32, mark: u8) -> us
 // The line of a refusal.
 pub fn put_refusal(out: &mut [u8], at: usize, why: Refusal) -> usize
     requires { at + 19 ≤ length out.old }
-    ensures { (result ≤ at + 19) × PutText out.old at (refusedText (numbered why)) result out.new }
+    ensures { (result ≤ at + 19) × PutText out.old at (refused_text (numbered why)) result out.new }
 {
     put_named(out, at, b"refused ", number_of(why), b'\n')
 }

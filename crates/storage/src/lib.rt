@@ -1,16 +1,16 @@
 // What the calls write into lent memory.
 ghost use Rattle.std.specs.Prelude.{◌≡◌, ◌≤◌, ◌<◌, length};
 ghost use Rattle.lists.specs.Lists.{at, overwrite};
-ghost use Rattle.study.specs.Limits.{maxTides, tableSize};
+ghost use Rattle.study.specs.Limits.{max_tides, table_size};
 ghost use Rattle.study.specs.Calls.{skip};
-ghost use Rattle.storage.specs.Places.{with_row, movedDistance, movedSetting};
+ghost use Rattle.storage.specs.Places.{with_row, moved_distance, moved_setting};
 
 use study::{MAX_TIDES, TABLE_SIZE};
 
 // All places of the distances are 0.
 pub fn clear_distances(distances: &mut [u32])
-    requires { tableSize ≤ length distances.old }
-    ensures { distances.new ≡ overwrite tableSize (λ _. 0) distances.old }
+    requires { table_size ≤ length distances.old }
+    ensures { distances.new ≡ overwrite table_size (λ _. 0) distances.old }
 {
     let mut p: usize = 0;
     while p < TABLE_SIZE {
@@ -21,8 +21,8 @@ pub fn clear_distances(distances: &mut [u32])
 
 // All places of the settings are 0.
 pub fn clear_settings(settings: &mut [u8])
-    requires { maxTides ≤ length settings.old }
-    ensures { settings.new ≡ overwrite maxTides (λ _. 0) settings.old }
+    requires { max_tides ≤ length settings.old }
+    ensures { settings.new ≡ overwrite max_tides (λ _. 0) settings.old }
 {
     let mut i: usize = 0;
     while i < MAX_TIDES {
@@ -33,8 +33,8 @@ pub fn clear_settings(settings: &mut [u8])
 
 // All places of one table, into another.
 pub fn copy_distances(distances: &mut [u32], matrix: &[u32])
-    requires { (tableSize ≤ length distances.old) × (tableSize ≤ length matrix.now) }
-    ensures { distances.new ≡ overwrite tableSize (at matrix.now) distances.old }
+    requires { (table_size ≤ length distances.old) × (table_size ≤ length matrix.now) }
+    ensures { distances.new ≡ overwrite table_size (at matrix.now) distances.old }
 {
     let mut p: usize = 0;
     while p < TABLE_SIZE {
@@ -45,8 +45,8 @@ pub fn copy_distances(distances: &mut [u32], matrix: &[u32])
 
 // All settings of one list, into another.
 pub fn copy_settings(settings: &mut [u8], vector: &[u8])
-    requires { (maxTides ≤ length settings.old) × (maxTides ≤ length vector.now) }
-    ensures { settings.new ≡ overwrite maxTides (at vector.now) settings.old }
+    requires { (max_tides ≤ length settings.old) × (max_tides ≤ length vector.now) }
+    ensures { settings.new ≡ overwrite max_tides (at vector.now) settings.old }
 {
     let mut i: usize = 0;
     while i < MAX_TIDES {
@@ -57,8 +57,8 @@ pub fn copy_settings(settings: &mut [u8], vector: &[u8])
 
 // The distances of a new tide with those before it, both ways: its row and its column.
 pub fn put_row(distances: &mut [u32], row: &[u32])
-    requires table_size_in_bounds { tableSize ≤ length distances.old }
-    requires row_len_bound { length row.now < maxTides }
+    requires table_size_in_bounds { table_size ≤ length distances.old }
+    requires row_len_bound { length row.now < max_tides }
     ensures { distances.new ≡ with_row row.now (length row.now) distances.old }
 {
     let n = row.len();
@@ -73,8 +73,8 @@ pub fn put_row(distances: &mut [u32], row: &[u32])
 
 // The number that tide t had before tide m went.
 fn number_before(m: usize, t: usize) -> usize
-    requires { t < maxTides }
-    ensures { (result ≡ skip m t) × (result ≤ maxTides) }
+    requires { t < max_tides }
+    ensures { (result ≡ skip m t) × (result ≤ max_tides) }
 {
     if t < m {
         return t;
@@ -84,9 +84,9 @@ fn number_before(m: usize, t: usize) -> usize
 
 // What place p holds once tide m is gone.
 fn moved_distance(distances: &[u32], m: usize, p: usize) -> u32
-    requires table_size_in_bounds { tableSize ≤ length distances.now }
-    requires p_lt_table_size { p < tableSize }
-    ensures { result ≡ movedDistance distances.now m p }
+    requires table_size_in_bounds { table_size ≤ length distances.now }
+    requires p_lt_table_size { p < table_size }
+    ensures { result ≡ moved_distance distances.now m p }
 {
     let i = number_before(m, p / MAX_TIDES);
     let j = number_before(m, p % MAX_TIDES);
@@ -101,9 +101,9 @@ fn moved_distance(distances: &[u32], m: usize, p: usize) -> u32
 
 // What setting t is once tide m is gone.
 fn moved_setting(settings: &[u8], m: usize, t: usize) -> u8
-    requires max_tides_in_bounds { maxTides ≤ length settings.now }
-    requires t_lt_max_tides { t < maxTides }
-    ensures { result ≡ movedSetting settings.now m t }
+    requires max_tides_in_bounds { max_tides ≤ length settings.now }
+    requires t_lt_max_tides { t < max_tides }
+    ensures { result ≡ moved_setting settings.now m t }
 {
     let i = number_before(m, t);
     if MAX_TIDES <= i {
@@ -114,8 +114,8 @@ fn moved_setting(settings: &[u8], m: usize, t: usize) -> u8
 
 // Tide m's row and column go, and those after it move down by one.
 pub fn remove_row(distances: &mut [u32], m: usize)
-    requires { tableSize ≤ length distances.old }
-    ensures { distances.new ≡ overwrite tableSize (movedDistance distances.old m) distances.old }
+    requires { table_size ≤ length distances.old }
+    ensures { distances.new ≡ overwrite table_size (moved_distance distances.old m) distances.old }
 {
     let mut p: usize = 0;
     while p < TABLE_SIZE {
@@ -126,8 +126,8 @@ pub fn remove_row(distances: &mut [u32], m: usize)
 
 // Tide m's setting goes, and those after it move down by one.
 pub fn remove_setting(settings: &mut [u8], m: usize)
-    requires { maxTides ≤ length settings.old }
-    ensures { settings.new ≡ overwrite maxTides (movedSetting settings.old m) settings.old }
+    requires { max_tides ≤ length settings.old }
+    ensures { settings.new ≡ overwrite max_tides (moved_setting settings.old m) settings.old }
 {
     let mut i: usize = 0;
     while i < MAX_TIDES {

@@ -8,7 +8,7 @@ use mathlib.Core.List.{List, [], ◌∷◌, map}
 use lib.Dec.{T, leb, leb→le, le→leb, T_not}
 use Rattle.lists.specs.Lists.{iota, filter, is_empty}
 use Rattle.lists.proofs.Tests.{test, split, each_at, each_of}
-use Rattle.lists.proofs.Members.{filter-mem, mem-filter, map-mem, mem-map, flatMap-mem, mem-flatMap, nonempty, empty_of, range-mem, mem-range}
+use Rattle.lists.proofs.Members.{filter_mem, mem_filter, map_mem, mem_map, flat_map_mem, mem_flat_map, nonempty, empty_of, range_mem, mem_range}
 use Rattle.study.specs.Calls.{triangle, Pair, violations}
 use Rattle.study.specs.Triangle.{Triangle}
 
@@ -41,29 +41,29 @@ module _ (dist : ℕ → ℕ → ℕ) (n : ℕ) (new : ℕ → ℕ) where
       ⊎_elim (λ t. (triangle-T (dist i j) (new i) (new j)).0 t)
       (λ t. absurd (T_not (is_empty (violations dist n new))
       (nonempty (violations dist n new)
-      (mem-flatMap pairs (iota 0 n) (mem-range 0 n i (omega arith) (omega arith))
-      (mem-map (λ j. record { lower = i; upper = j }) (filter (broken? i) (rest i))
-      (mem-filter (broken? i) (rest i) (mem-range (suc i) (n - suc i) j (omega arith) (omega arith)) t)))) h))
+      (mem_flat_map pairs (iota 0 n) (mem_range 0 n i (omega arith) (omega arith))
+      (mem_map (λ j. record { lower = i; upper = j }) (filter (broken? i) (rest i))
+      (mem_filter (broken? i) (rest i) (mem_range (suc i) (n - suc i) j (omega arith) (omega arith)) t)))) h))
       (test (triangle (dist i j) (new i) (new j)))
 
-  pub obeyed-of : ((i j : ℕ) → i < j → j < n → Triangle (dist i j) (new i) (new j)) → T (is_empty (violations dist n new))
+  pub obeyed_of : ((i j : ℕ) → i < j → j < n → Triangle (dist i j) (new i) (new j)) → T (is_empty (violations dist n new))
   unfolding violations
-  obeyed-of f =
+  obeyed_of f =
       empty_of (violations dist n new) (λ p m.
-      let r = flatMap-mem pairs (iota 0 n) m in
-      let q = map-mem (λ j. record { lower = r.0; upper = j }) (filter (broken? r.0) (rest r.0)) r.2 in
-      let k = filter-mem (broken? r.0) (rest r.0) q.1 in
-      let b = range-mem (suc r.0) (n - suc r.0) k.0 in
+      let r = flat_map_mem pairs (iota 0 n) m in
+      let q = map_mem (λ j. record { lower = r.0; upper = j }) (filter (broken? r.0) (rest r.0)) r.2 in
+      let k = filter_mem (broken? r.0) (rest r.0) q.1 in
+      let b = range_mem (suc r.0) (n - suc r.0) k.0 in
       T_not (triangle (dist r.0 q.0) (new r.0) (new q.0)) k.1
       ((triangle-T (dist r.0 q.0) (new r.0) (new q.0)).1 (f r.0 q.0 (omega (arith, b.0)) (omega (arith, b.0, b.1)))))
 
 -- ---- all triples
 
 -- the triple of any three tides obeys the rule where the distances do
-pub triangle-of : (dist : ℕ → ℕ → ℕ) → ((t u : ℕ) → dist t u ≡ dist u t) → (n : ℕ)
+pub triangle_of : (dist : ℕ → ℕ → ℕ) → ((t u : ℕ) → dist t u ≡ dist u t) → (n : ℕ)
     → ((t u v : ℕ) → t < n → u < n → v < n → dist t v ≤ dist t u + dist u v)
     → (i j l : ℕ) → i < n → j < n → l < n → Triangle (dist i j) (dist i l) (dist j l)
-triangle-of dist sm n O i j l a b c =
+triangle_of dist sm n O i j l a b c =
     record {
       first = omega (arith, O i l j a c b, sm l j);
       second = omega (arith, O i j l a b c);
@@ -88,8 +88,8 @@ module _ (dist : ℕ → ℕ → ℕ) (sm : (t u : ℕ) → dist t u ≡ dist u 
   order : (a b : ℕ) → (a ≤ b) ⊎ (b ≤ a)
   order a b = ⊎_elim (λ l. inl (omega arith)) (λ l. inr l) (split a b)
 
-  pub ordered-triangle : (t u v : ℕ) → t < n → u < n → v < n → dist t v ≤ dist t u + dist u v
-  ordered-triangle t u v a b c = by (order t u) (order u v) (order t v)
+  pub ordered_triangle : (t u v : ℕ) → t < n → u < n → v < n → dist t v ≤ dist t u + dist u v
+  ordered_triangle t u v a b c = by (order t u) (order u v) (order t v)
     where
       by : (t ≤ u) ⊎ (u ≤ t) → (u ≤ v) ⊎ (v ≤ u) → (t ≤ v) ⊎ (v ≤ t) → dist t v ≤ dist t u + dist u v
       by (inl p) (inl q) r = omega (arith, (below t u v p q c).second)

@@ -2,53 +2,53 @@
 -- and the counts of withdrawals, or finds in it. A tide's number in a call is from 1, in a study from 0. Assumes nothing.
 use Rattle.std.specs.Prelude.{ℕ, zero, suc, ◌+◌, ◌-◌, Bool, true, cond, not, ◌&&◌, leb, eqb, ltb, length, get_or, set, replicate}
 use mathlib.Core.List.{List, [], ◌∷◌, ◌++◌, map, flat_map}
-use Rattle.lists.specs.Lists.{between, each, iota, every, any, sumBelow, countBelow, tabulate, over, filter, is_empty}
-use Rattle.study.specs.Limits.{maxTides, maxSettings, maxDistance, maxUsers, maxWithdrawals}
+use Rattle.lists.specs.Lists.{between, each, iota, every, any, sum_below, count_below, tabulate, over, filter, is_empty}
+use Rattle.study.specs.Limits.{max_tides, max_settings, max_distance, max_users, max_withdrawals}
 use Rattle.study.specs.declared.Minima.{Minima}
 use Rattle.study.specs.declared.BlockRecord.{BlockRecord}
 use Rattle.study.specs.declared.Blocked.{Blocked}
 use Rattle.study.specs.declared.Blocked.TheVariants as BlockedCase
 use Rattle.study.specs.declared.Judged.{Judged}
 use Rattle.study.specs.declared.Judged.TheVariants as JudgedCase
-use Rattle.study.specs.Problem.{centres, nearestDistance, nearestBlock, block, labels, radius, blocking, diameter, greatestDiameter, feasible}
-use Rattle.study.specs.Study.{Tide, Study, Contents, withTides, withStudy, size, tide, distance, sufficient, problem, validMinima}
+use Rattle.study.specs.Problem.{centres, nearest_distance, nearest_block, block, labels, radius, blocking, diameter, greatest_diameter, feasible}
+use Rattle.study.specs.Study.{Tide, Study, Contents, with_tides, with_study, size, tide, distance, sufficient, problem, valid_minima}
 use Rattle.study.specs.Refusals.{Numbered, number, seven, numbered, Reply, value, refusal, Reason, ◌⇒◌}
 
 -- ---- Open
 
 -- 2: k is not 1 to 8
-unfoldable pub openReasons : ℕ → List Reason
-openReasons k = (not (between 1 maxSettings k) ⇒ number 2) ∷ []
+unfoldable pub open_reasons : ℕ → List Reason
+open_reasons k = (not (between 1 max_settings k) ⇒ number 2) ∷ []
 
 -- empty, b0 = 1, every b = 0
 unfoldable pub opened : ℕ → Study
-opened k = record { k = k; minima = record { b0 = 1; b = replicate maxSettings 0 }; tides = [] }
+opened k = record { k = k; minima = record { b0 = 1; b = replicate max_settings 0 }; tides = [] }
 
 -- nothing withdrawn
 unfoldable pub opening : ℕ → Contents
-opening k = record { study = opened k; withdrawals = replicate maxUsers 0 }
+opening k = record { study = opened k; withdrawals = replicate max_users 0 }
 
 -- ---- Minima
 
 -- the b's together
-abbrev pub sumOfParts : Minima → ℕ
-sumOfParts M = sumBelow maxSettings (λ j. get_or M.b j 0)
+abbrev pub sum_of_parts : Minima → ℕ
+sum_of_parts M = sum_below max_settings (λ j. get_or M.b j 0)
 
 -- document 02, 2.2: the record as Minima understands it: b0 is the sum of the b's where it is 1 or more and below that sum
 unfoldable pub understood : Minima → Minima
-understood M = cond (leb 1 M.b0 && ltb M.b0 (sumOfParts M)) (record { b0 = sumOfParts M; b = M.b }) M
+understood M = cond (leb 1 M.b0 && ltb M.b0 (sum_of_parts M)) (record { b0 = sum_of_parts M; b = M.b }) M
 
 -- 3: minima, as understood, that no study with this k has
-unfoldable pub minimaReasons : Study → Minima → List Reason
-minimaReasons S M = (not (validMinima S.k (understood M)) ⇒ number 3) ∷ []
+unfoldable pub minima_reasons : Study → Minima → List Reason
+minima_reasons S M = (not (valid_minima S.k (understood M)) ⇒ number 3) ∷ []
 
 -- other minima
-unfoldable pub withMinima : Minima → Study → Study
-withMinima M S = record { k = S.k; minima = M; tides = S.tides }
+unfoldable pub with_minima : Minima → Study → Study
+with_minima M S = record { k = S.k; minima = M; tides = S.tides }
 
 -- those understood; the counts stay
-unfoldable pub settingMinima : Minima → Contents → Contents
-settingMinima M H = withStudy (withMinima (understood M) H.study) H
+unfoldable pub setting_minima : Minima → Contents → Contents
+setting_minima M H = with_study (with_minima (understood M) H.study) H
 
 -- ---- Enter
 
@@ -68,9 +68,9 @@ violations dist n new =
     (iota 0 n)
 
 -- 7 and the first such pair
-abbrev pub firstViolation : List Pair → Numbered
-firstViolation [] = number 7
-firstViolation (p ∷ ps) = seven (suc p.lower) (suc p.upper)
+abbrev pub first_violation : List Pair → Numbered
+first_violation [] = number 7
+first_violation (p ∷ ps) = seven (suc p.lower) (suc p.upper)
 
 -- document 02, 2.8: tides of settings x and y, d apart, are duplicates (twins): at distance 0, of the same setting
 abbrev pub alike : ℕ → ℕ → ℕ → Bool
@@ -81,39 +81,39 @@ unfoldable pub duplicated : (ℕ → ℕ) → ℕ → ℕ → (ℕ → ℕ) → 
 duplicated settings n setting new = any n (λ i. alike (settings i) setting (new i))
 
 -- a study holds a duplicate: some tide is one of a tide before it. Such a study is a study like any other
-unfoldable pub holdsDuplicate : Study → Bool
-holdsDuplicate S = any (size S) (λ u. duplicated (λ t. (tide S t).setting) u (tide S u).setting (distance S u))
+unfoldable pub holds_duplicate : Study → Bool
+holds_duplicate S = any (size S) (λ u. duplicated (λ t. (tide S t).setting) u (tide S u).setting (distance S u))
 
 -- 22 full, 4 a row of another length, 5 the setting, 6 a distance, 7 the first violation, 15 a duplicate
-unfoldable pub enterReasons : Study → ℕ → List ℕ → List Reason
-enterReasons S setting row =
+unfoldable pub enter_reasons : Study → ℕ → List ℕ → List Reason
+enter_reasons S setting row =
     let new : ℕ → ℕ = λ i. get_or row i 0 in
     let violated = violations (distance S) (size S) new in
-    (leb maxTides (size S) ⇒ number 22)
+    (leb max_tides (size S) ⇒ number 22)
     ∷ (not (eqb (length row) (size S)) ⇒ number 4)
     ∷ (not (between 1 S.k setting) ⇒ number 5)
-    ∷ (not (every (length row) (λ i. leb (get_or row i 0) maxDistance)) ⇒ number 6)
-    ∷ (not (is_empty violated) ⇒ firstViolation violated)
+    ∷ (not (every (length row) (λ i. leb (get_or row i 0) max_distance)) ⇒ number 6)
+    ∷ (not (is_empty violated) ⇒ first_violation violated)
     ∷ (duplicated (λ i. (tide S i).setting) (size S) setting new ⇒ number 15)
     ∷ []
 
 -- a tide whose distances may break the triangle inequality, and which may be a duplicate (document 02, 2.1: a measured table): 22, 4, 5, 6 as
 -- above
-unfoldable pub measuredReasons : Study → ℕ → List ℕ → List Reason
-measuredReasons S setting row =
-    (leb maxTides (size S) ⇒ number 22)
+unfoldable pub measured_reasons : Study → ℕ → List ℕ → List Reason
+measured_reasons S setting row =
+    (leb max_tides (size S) ⇒ number 22)
     ∷ (not (eqb (length row) (size S)) ⇒ number 4)
     ∷ (not (between 1 S.k setting) ⇒ number 5)
-    ∷ (not (every (length row) (λ i. leb (get_or row i 0) maxDistance)) ⇒ number 6)
+    ∷ (not (every (length row) (λ i. leb (get_or row i 0) max_distance)) ⇒ number 6)
     ∷ []
 
 -- one more tide at the end
 unfoldable pub entered : ℕ → List ℕ → Study → Study
-entered setting row S = withTides (S.tides ++ (record { setting = setting; row = row } ∷ [])) S
+entered setting row S = with_tides (S.tides ++ (record { setting = setting; row = row } ∷ [])) S
 
 -- the counts stay
 unfoldable pub entering : ℕ → List ℕ → Contents → Contents
-entering setting row H = withStudy (entered setting row H.study) H
+entering setting row H = with_study (entered setting row H.study) H
 
 -- ---- Withdraw, by a user
 
@@ -122,25 +122,25 @@ abbrev pub count_of : List ℕ → ℕ → ℕ
 count_of ws u = get_or ws (u - 1) 0
 
 -- 23 no tide of that number, 26 this user's count is at its limit
-unfoldable pub withdrawReasons : Contents → ℕ → ℕ → List Reason
-withdrawReasons H u t =
+unfoldable pub withdraw_reasons : Contents → ℕ → ℕ → List Reason
+withdraw_reasons H u t =
     (not (between 1 (size H.study) t) ⇒ number 23)
-    ∷ (leb maxWithdrawals (count_of H.withdrawals u) ⇒ number 26)
+    ∷ (leb max_withdrawals (count_of H.withdrawals u) ⇒ number 26)
     ∷ []
 
 -- the list without place i
-abbrev pub removeAt : {A : Type 0} → ℕ → List A → List A
-removeAt i [] = []
-removeAt zero (x ∷ xs) = xs
-removeAt (suc i) (x ∷ xs) = x ∷ removeAt i xs
+abbrev pub remove_at : {A : Type 0} → ℕ → List A → List A
+remove_at i [] = []
+remove_at zero (x ∷ xs) = xs
+remove_at (suc i) (x ∷ xs) = x ∷ remove_at i xs
 
 -- a tide whose row has lost place i
 unfoldable pub shortened : ℕ → Tide → Tide
-shortened i x = record { setting = x.setting; row = removeAt i x.row }
+shortened i x = record { setting = x.setting; row = remove_at i x.row }
 
 -- tide i goes, and its place in every row
 unfoldable pub withdrawn : ℕ → Study → Study
-withdrawn i S = withTides (map (shortened i) (removeAt i S.tides)) S
+withdrawn i S = with_tides (map (shortened i) (remove_at i S.tides)) S
 
 -- one withdrawal more of user u; the other counts stay
 unfoldable pub counted : ℕ → List ℕ → List ℕ
@@ -163,42 +163,42 @@ pub record CentreLists : Type 0 where
   pub away : List ℕ
 
 -- each has a place for every tide
-abbrev pub allRoomy : Study → CentreLists → Bool
-allRoomy S l = each (leb (size S) (length l.list) ∷ leb (size S) (length l.nearest) ∷ leb (size S) (length l.away) ∷ [])
+abbrev pub all_roomy : Study → CentreLists → Bool
+all_roomy S l = each (leb (size S) (length l.list) ∷ leb (size S) (length l.nearest) ∷ leb (size S) (length l.away) ∷ [])
 
 -- 24 no tides, 1 a list of fewer than n places
-unfoldable pub centresReasons : Study → CentreLists → List Reason
-centresReasons S l =
+unfoldable pub centres_reasons : Study → CentreLists → List Reason
+centres_reasons S l =
     (eqb (size S) 0 ⇒ number 24)
-    ∷ (not (allRoomy S l) ⇒ number 1)
+    ∷ (not (all_roomy S l) ⇒ number 1)
     ∷ []
 
 -- the centres' tide numbers
-unfoldable pub centreNumbers : Study → ℕ → List ℕ
-centreNumbers S g = map suc (centres (problem S) g)
+unfoldable pub centre_numbers : Study → ℕ → List ℕ
+centre_numbers S g = map suc (centres (problem S) g)
 
 -- each tide's nearest block among the centres at g
-unfoldable pub nearestNumbers : Study → ℕ → List ℕ
-nearestNumbers S g = tabulate (size S) (nearestBlock (distance S) (centres (problem S) g))
+unfoldable pub nearest_numbers : Study → ℕ → List ℕ
+nearest_numbers S g = tabulate (size S) (nearest_block (distance S) (centres (problem S) g))
 
 -- and its distance from that block's centre
-unfoldable pub nearestDistances : Study → ℕ → List ℕ
-nearestDistances S g = tabulate (size S) (nearestDistance (distance S) (centres (problem S) g))
+unfoldable pub nearest_distances : Study → ℕ → List ℕ
+nearest_distances S g = tabulate (size S) (nearest_distance (distance S) (centres (problem S) g))
 
 -- the lists after an accepted call: the places past what is written stay
-unfoldable pub centresWritten : Study → ℕ → CentreLists → CentreLists
-centresWritten S g l =
+unfoldable pub centres_written : Study → ℕ → CentreLists → CentreLists
+centres_written S g l =
     record {
-      list = over (centreNumbers S g) l.list;
-      nearest = over (nearestNumbers S g) l.nearest;
-      away = over (nearestDistances S g) l.away;
+      list = over (centre_numbers S g) l.list;
+      nearest = over (nearest_numbers S g) l.nearest;
+      away = over (nearest_distances S g) l.away;
     }
 
 -- ---- Block, lent a list and records of these lengths
 
 -- 24 no tides, 25 too few of them, 1 a list or records of fewer than n places
-unfoldable pub blockReasons : Study → ℕ → ℕ → List Reason
-blockReasons S list records =
+unfoldable pub block_reasons : Study → ℕ → ℕ → List Reason
+block_reasons S list records =
     (eqb (size S) 0 ⇒ number 24)
     ∷ (not (sufficient S (λ t. true)) ⇒ number 25)
     ∷ (not (leb (size S) list && leb (size S) records) ⇒ number 1)
@@ -214,25 +214,25 @@ pub record Figures : Type 0 where
 unfoldable pub figures : Study → Figures
 figures S =
     let P = problem S in
-    record { blocks = length (centres P (radius P)); radius = radius P; widest = greatestDiameter P (labels (blocking P)) }
+    record { blocks = length (centres P (radius P)); radius = radius P; widest = greatest_diameter P (labels (blocking P)) }
 
 -- the record of block i, from 0: centre, number of tides, diameter
-unfoldable pub blockRecord : Study → ℕ → BlockRecord
-blockRecord S i =
+unfoldable pub block_record : Study → ℕ → BlockRecord
+block_record S i =
     let P = problem S in
     let D = labels (blocking P) in
-    record { centre = suc (get_or (centres P (radius P)) i 0); tides = countBelow P.size (block D (suc i)); diameter = diameter P D (suc i) }
+    record { centre = suc (get_or (centres P (radius P)) i 0); tides = count_below P.size (block D (suc i)); diameter = diameter P D (suc i) }
 
 -- the code's answer, by document 01's number and values
-abbrev pub blockedOf : Blocked → Reply Figures
-blockedOf (BlockedCase.Done c r w) = value (record { blocks = c; radius = r; widest = w })
-blockedOf (BlockedCase.Refused r) = refusal (numbered r)
+abbrev pub blocked_of : Blocked → Reply Figures
+blocked_of (BlockedCase.Done c r w) = value (record { blocks = c; radius = r; widest = w })
+blocked_of (BlockedCase.Refused r) = refusal (numbered r)
 
 -- ---- Judge, given a list
 
 -- 24 no tides, 12 a list of another length
-unfoldable pub judgeReasons : Study → List ℕ → List Reason
-judgeReasons S list =
+unfoldable pub judge_reasons : Study → List ℕ → List Reason
+judge_reasons S list =
     (eqb (size S) 0 ⇒ number 24)
     ∷ (not (eqb (length list) (size S)) ⇒ number 12)
     ∷ []
@@ -248,10 +248,10 @@ pub data Judgement : Type 0 where
 
 -- of a list that is judged
 unfoldable pub judgement : Study → List ℕ → Judgement
-judgement S list = cond (approved S list) (approval (greatestDiameter (problem S) (labels list))) disapproval
+judgement S list = cond (approved S list) (approval (greatest_diameter (problem S) (labels list))) disapproval
 
 -- the code's answer, by document 01's number and values
-abbrev pub judgedOf : Judged → Reply Judgement
-judgedOf (JudgedCase.Approved w) = value (approval w)
-judgedOf JudgedCase.Declined = value disapproval
-judgedOf (JudgedCase.Refused r) = refusal (numbered r)
+abbrev pub judged_of : Judged → Reply Judgement
+judged_of (JudgedCase.Approved w) = value (approval w)
+judged_of JudgedCase.Declined = value disapproval
+judged_of (JudgedCase.Refused r) = refusal (numbered r)

@@ -1,7 +1,7 @@
 -- Refusals by the numbers of documents 01 and 02, and lists of reasons of which the first that holds counts. Assumes nothing.
 use Rattle.std.specs.Prelude.{ℕ, ◌≡◌, Bool, true, false, cond, not, List, [], ◌∷◌, ◌++◌}
 use Rattle.lists.specs.Lists.{◌among◌, between, all_of}
-use Rattle.study.specs.Limits.{maxUsers}
+use Rattle.study.specs.Limits.{max_users}
 use Rattle.study.specs.declared.Refusal.{Refusal}
 use Rattle.study.specs.declared.Refusal.TheVariants as RefusalCase
 use Rattle.study.specs.declared.Answer.{Answer}
@@ -44,9 +44,9 @@ numbered RefusalCase.TooFewTides = number 25
 numbered RefusalCase.WithdrawalLimit = number 26
 
 -- the code's answer, by document 01's number and values
-abbrev pub verdictOf : Answer → Verdict
-verdictOf Done = accepted
-verdictOf (Refused r) = refused (numbered r)
+abbrev pub verdict_of : Answer → Verdict
+verdict_of Done = accepted
+verdict_of (Refused r) = refused (numbered r)
 
 -- what stands after a call: the new where it is accepted, the old where it is refused
 abbrev pub settled : {A : Type 0} → Verdict → A → A → A
@@ -59,9 +59,9 @@ pub data Reply (A : Type 0) : Type 0 where
   refusal : Numbered → Reply A
 
 -- the numbers that the value stands for
-abbrev pub inNumbers : {A : Type 0} → (A → List ℕ) → Reply A → Reply (List ℕ)
-inNumbers f (value x) = value (f x)
-inNumbers f (refusal r) = refusal r
+abbrev pub in_numbers : {A : Type 0} → (A → List ℕ) → Reply A → Reply (List ℕ)
+in_numbers f (value x) = value (f x)
+in_numbers f (refusal r) = refusal r
 
 -- the value of an accepted call
 abbrev pub replied : {A : Type 0} → Verdict → A → Reply A
@@ -93,13 +93,13 @@ IsFirst rs (refused x) =
 -- ---- the ladder of every call: the reasons that calls share, in the documents' order, and then the call's own
 
 -- Open and Read: short memory (1) first
-unfoldable pub freshReasons : Bool → List Reason → List Reason
-freshReasons tooShort own = (tooShort ⇒ number 1) ∷ own
+unfoldable pub fresh_reasons : Bool → List Reason → List Reason
+fresh_reasons is_too_short own = (is_too_short ⇒ number 1) ∷ own
 
 -- a user (document 02, 2.7: keeper) is 1 to 4
-abbrev pub isUser : ℕ → Bool
-isUser u = between 1 maxUsers u
+abbrev pub is_user : ℕ → Bool
+is_user u = between 1 max_users u
 
 -- every other call, by the users that it names: short memory (1), a user who is none (14), then what is no dataset (21)
-unfoldable pub heldReasons : Bool → List ℕ → Bool → List Reason → List Reason
-heldReasons tooShort users good own = freshReasons tooShort ((not (all_of isUser users) ⇒ number 14) ∷ (not good ⇒ number 21) ∷ own)
+unfoldable pub held_reasons : Bool → List ℕ → Bool → List Reason → List Reason
+held_reasons is_too_short users good own = fresh_reasons is_too_short ((not (all_of is_user users) ⇒ number 14) ∷ (not good ⇒ number 21) ∷ own)

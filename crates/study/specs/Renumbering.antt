@@ -3,7 +3,7 @@
 -- at the end. Assumes nothing.
 use Rattle.std.specs.Prelude.{ℕ, ◌*◌, ◌≤◌, ◌<◌, ◌≡◌}
 use Rattle.lists.specs.Lists.{tabulate}
-use Rattle.study.specs.Problem.{labels, radius, blocking, greatestDiameter, Feasible}
+use Rattle.study.specs.Problem.{labels, radius, blocking, greatest_diameter, Feasible}
 use Rattle.study.specs.Study.{Tide, Study, size, tide, distance, problem, Valid, Renumbered}
 
 -- an order of n tides: a bijection of the numbers below n, and its inverse
@@ -16,17 +16,17 @@ pub record Permutation (n : ℕ) : Type 0 where
   pub back_to : (t : ℕ) → t < n → back (to t) ≡ t
 
 -- tide `to t` of S as tide t: its setting, and its distances to the tides that now stand before it
-unfoldable pub renumberedTide : (ℕ → ℕ) → Study → ℕ → Tide
-renumberedTide to S t = record { setting = (tide S (to t)).setting; row = tabulate t (λ u. distance S (to u) (to t)) }
+unfoldable pub renumbered_tide : (ℕ → ℕ) → Study → ℕ → Tide
+renumbered_tide to S t = record { setting = (tide S (to t)).setting; row = tabulate t (λ u. distance S (to u) (to t)) }
 
 -- the tides of S in another order; k and the minima stay
 unfoldable pub renumbered : (ℕ → ℕ) → Study → Study
-renumbered to S = record { k = S.k; minima = S.minima; tides = tabulate (size S) (renumberedTide to S) }
+renumbered to S = record { k = S.k; minima = S.minima; tides = tabulate (size S) (renumbered_tide to S) }
 
 -- of every study and every order of its tides
 pub record Renumberings : Type 0 where
   -- every study has its tides in every order
-  pub in-any-order : (S : Study) (B : Permutation (size S))
+  pub in_any_order : (S : Study) (B : Permutation (size S))
       → (N : Renumbered S (renumbered B.to S)) × (N.to ≡ B.to) × (N.back ≡ B.back)
   -- and is valid in every order where it is in one
   pub valid : (S : Study) (B : Permutation (size S)) → Valid S → Valid (renumbered B.to S)
@@ -34,5 +34,5 @@ pub record Renumberings : Type 0 where
   pub itself : (S : Study) → Renumbered S S
   -- so the bound holds against every feasible partition of the study itself
   pub bounded : (S : Study) → Valid S → (D : ℕ → ℕ) → Feasible (problem S) D
-      → (radius (problem S) ≤ greatestDiameter (problem S) D)
-      × (greatestDiameter (problem S) (labels (blocking (problem S))) ≤ 2 * greatestDiameter (problem S) D)
+      → (radius (problem S) ≤ greatest_diameter (problem S) D)
+      × (greatest_diameter (problem S) (labels (blocking (problem S))) ≤ 2 * greatest_diameter (problem S) D)

@@ -1,8 +1,8 @@
 -- "The study and its rivals" of document 01: the study, when it is valid, the problem that it poses, and the same tides in another
 -- order. Tides are numbered from 0 here. Assumes nothing.
 use Rattle.std.specs.Prelude.{ℕ, suc, ◌+◌, ◌≤◌, ◌<◌, ◌≡◌, Bool, true, cond, ◌&&◌, List, [], ◌∷◌, T, leb, ltb, eqb, length, get_or}
-use Rattle.lists.specs.Lists.{between, each, every, sumBelow, countBelow}
-use Rattle.study.specs.Limits.{maxTides, maxDistance, maxSettings, maxUsers, maxWithdrawals}
+use Rattle.lists.specs.Lists.{between, each, every, sum_below, count_below}
+use Rattle.study.specs.Limits.{max_tides, max_distance, max_settings, max_users, max_withdrawals}
 use Rattle.study.specs.declared.Minima.{Minima}
 use Rattle.study.specs.Problem.{Problem}
 
@@ -23,24 +23,24 @@ pub record Contents : Type 0 where
   pub withdrawals : List ℕ
 
 -- the same k and minima, other tides
-abbrev pub withTides : List Tide → Study → Study
-withTides tides S = record { k = S.k; minima = S.minima; tides = tides }
+abbrev pub with_tides : List Tide → Study → Study
+with_tides tides S = record { k = S.k; minima = S.minima; tides = tides }
 
 -- the same counts, another study
-abbrev pub withStudy : Study → Contents → Contents
-withStudy S H = record { study = S; withdrawals = H.withdrawals }
+abbrev pub with_study : Study → Contents → Contents
+with_study S H = record { study = S; withdrawals = H.withdrawals }
 
 -- how many tides there are
 abbrev pub size : Study → ℕ
 size S = length S.tides
 
 -- where no tide stands
-unfoldable pub noTide : Tide
-noTide = record { setting = 0; row = [] }
+unfoldable pub no_tide : Tide
+no_tide = record { setting = 0; row = [] }
 
 -- tide t, from 0
 unfoldable pub tide : Study → ℕ → Tide
-tide S t = get_or S.tides t noTide
+tide S t = get_or S.tides t no_tide
 
 -- the distance of two tides, which the later one's row holds; 0 from a tide to itself
 unfoldable pub distance : Study → ℕ → ℕ → ℕ
@@ -48,7 +48,7 @@ distance S t u = cond (ltb t u) (get_or (tide S u).row t 0) (cond (ltb u t) (get
 
 -- of n tides with these settings, the set p has at least b0 tides, and at least b of each setting
 unfoldable pub meets : Minima → ℕ → (ℕ → ℕ) → (ℕ → Bool) → Bool
-meets M n setting p = leb M.b0 (countBelow n p) && every maxSettings (λ j. leb (get_or M.b j 0) (countBelow n (λ t. p t && eqb (setting t) (suc j))))
+meets M n setting p = leb M.b0 (count_below n p) && every max_settings (λ j. leb (get_or M.b j 0) (count_below n (λ t. p t && eqb (setting t) (suc j))))
 
 -- whether a set of tides meets the study's minima
 unfoldable pub sufficient : Study → (ℕ → Bool) → Bool
@@ -61,13 +61,13 @@ problem S = record { size = size S; dist = distance S; enough = sufficient S }
 -- ---- a study as document 01 describes it
 
 -- b0 is 1 to 120, there is a b for each of the 8 settings, together they are at most b0, those above k are 0
-unfoldable pub validMinima : ℕ → Minima → Bool
-validMinima k M =
+unfoldable pub valid_minima : ℕ → Minima → Bool
+valid_minima k M =
     each
-    (between 1 maxTides M.b0
-    ∷ eqb (length M.b) maxSettings
-    ∷ leb (sumBelow maxSettings (λ j. get_or M.b j 0)) M.b0
-    ∷ every maxSettings (λ j. cond (ltb j k) true (eqb (get_or M.b j 0) 0))
+    (between 1 max_tides M.b0
+    ∷ eqb (length M.b) max_settings
+    ∷ leb (sum_below max_settings (λ j. get_or M.b j 0)) M.b0
+    ∷ every max_settings (λ j. cond (ltb j k) true (eqb (get_or M.b j 0) 0))
     ∷ [])
 
 -- the triangle inequality (document 01: the three-tide rule): for any three tides, no distance exceeds the sum of the other two
@@ -76,31 +76,31 @@ TriangleInequality S = (t u v : ℕ) → t < size S → u < size S → v < size 
 
 -- document 01's sentences on what a book holds
 pub record Valid (S : Study) : Type 0 where
-  pub k-low : 1 ≤ S.k
-  pub k-high : S.k ≤ maxSettings
-  pub few : size S ≤ maxTides
-  pub minima : T (validMinima S.k S.minima)
-  pub setting-low : (t : ℕ) → t < size S → 1 ≤ (tide S t).setting
-  pub setting-high : (t : ℕ) → t < size S → (tide S t).setting ≤ S.k
-  pub row-length : (t : ℕ) → t < size S → length (tide S t).row ≡ t
-  pub distance_high : (t u : ℕ) → t < size S → u < size S → distance S t u ≤ maxDistance
+  pub k_low : 1 ≤ S.k
+  pub k_high : S.k ≤ max_settings
+  pub few : size S ≤ max_tides
+  pub minima : T (valid_minima S.k S.minima)
+  pub setting_low : (t : ℕ) → t < size S → 1 ≤ (tide S t).setting
+  pub setting_high : (t : ℕ) → t < size S → (tide S t).setting ≤ S.k
+  pub row_length : (t : ℕ) → t < size S → length (tide S t).row ≡ t
+  pub distance_high : (t u : ℕ) → t < size S → u < size S → distance S t u ≤ max_distance
   pub triangle : TriangleInequality S
 
 -- the same but for the triangle inequality: a study whose distances are as they were measured (document 02, 2.1)
 pub record MeasuredStudy (S : Study) : Type 0 where
-  pub k-low : 1 ≤ S.k
-  pub k-high : S.k ≤ maxSettings
-  pub few : size S ≤ maxTides
-  pub minima : T (validMinima S.k S.minima)
-  pub setting-low : (t : ℕ) → t < size S → 1 ≤ (tide S t).setting
-  pub setting-high : (t : ℕ) → t < size S → (tide S t).setting ≤ S.k
-  pub row-length : (t : ℕ) → t < size S → length (tide S t).row ≡ t
-  pub distance_high : (t u : ℕ) → t < size S → u < size S → distance S t u ≤ maxDistance
+  pub k_low : 1 ≤ S.k
+  pub k_high : S.k ≤ max_settings
+  pub few : size S ≤ max_tides
+  pub minima : T (valid_minima S.k S.minima)
+  pub setting_low : (t : ℕ) → t < size S → 1 ≤ (tide S t).setting
+  pub setting_high : (t : ℕ) → t < size S → (tide S t).setting ≤ S.k
+  pub row_length : (t : ℕ) → t < size S → length (tide S t).row ≡ t
+  pub distance_high : (t u : ℕ) → t < size S → u < size S → distance S t u ≤ max_distance
 
 -- document 02, 2.7: a count for each of the four users, 0 to 65,535
 pub record ValidCounts (ws : List ℕ) : Type 0 where
-  pub four : length ws ≡ maxUsers
-  pub high : (i : ℕ) → i < maxUsers → get_or ws i 0 ≤ maxWithdrawals
+  pub four : length ws ≡ max_users
+  pub high : (i : ℕ) → i < max_users → get_or ws i 0 ≤ max_withdrawals
 
 -- ---- the same tides in another order
 

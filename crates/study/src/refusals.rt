@@ -1,7 +1,7 @@
 // The numbers of the refusals, as documents 01 and 02 give them.
 ghost use Rattle.std.specs.Prelude.{◌≡◌};
-ghost use Rattle.study.specs.Refusals.{numbered, verdictOf};
-ghost use Rattle.study.specs.Numbers.{saidBy, number_of, refusalNumber};
+ghost use Rattle.study.specs.Refusals.{numbered, verdict_of};
+ghost use Rattle.study.specs.Numbers.{said_by, number_of, refusal_number};
 
 use crate::{Answer, Refusal};
 
@@ -14,7 +14,7 @@ pub enum Number {
 
 // The number of a refusal; of 7 with its pair.
 pub fn numbered(refusal: Refusal) -> Number
-    ensures { saidBy result ≡ numbered refusal }
+    ensures { said_by result ≡ numbered refusal }
 {
     match refusal {
         Refusal::ShortMemory => Number::Alone(1),
@@ -56,7 +56,7 @@ pub fn number_of(refusal: Refusal) -> u32
 
 // 0 where a call is done, else the number of its refusal, without the pair.
 pub fn refusal_number(answer: Answer) -> u8
-    ensures { result ≡ refusalNumber (verdictOf answer) }
+    ensures { result ≡ refusal_number (verdict_of answer) }
 {
     match answer {
         Answer::Done => 0,

@@ -11,47 +11,47 @@ use Rattle.study.specs.declared.Dataset.{Dataset}
 use Rattle.study.specs.declared.Refusal.{Refusal}
 use Rattle.study.specs.declared.Answer.{Answer}
 use Rattle.study.specs.declared.Answer.TheVariants.{Done, Refused}
-use Rattle.study.specs.Refusals.{number, refused, verdictOf, numbered, first_of}
+use Rattle.study.specs.Refusals.{number, refused, verdict_of, numbered, first_of}
 use Rattle.file_format.specs.Bits.{bits_at}
-use Rattle.file_format.specs.File.{decoded, headReasons, readReasons}
-use Rattle.file_format.proofs.DecodedLaws.{decoded-size}
+use Rattle.file_format.specs.File.{decoded, head_reasons, read_reasons}
+use Rattle.file_format.proofs.DecodedLaws.{decoded_size}
 use Rattle.file_format.specs.Head.{Head}
-use Rattle.file_format.proofs.ReadLaws.{head-T, refused-head}
-use Rattle.validity.specs.Memory.{State, state_of, short, recordOf, stored}
+use Rattle.file_format.proofs.ReadLaws.{head-T, refused_head}
+use Rattle.validity.specs.Memory.{State, state_of, short, record_of, stored}
 use Rattle.access.specs.Calls.{answer, made, after}
-use Rattle.access.proofs.AccessLaws.{unmoved, stays, leaves, source-short, source-own}
-use Rattle.study_file.specs.Calls.{readsFile}
+use Rattle.access.proofs.AccessLaws.{unmoved, stays, leaves, source_short, source_own}
+use Rattle.study_file.specs.Calls.{reads_file}
 use Rattle.bit_reader.specs.declared.Place.{Place}
 use Rattle.file_fields.specs.Heading.{HeadRecord}
 use Rattle.file_fields.specs.Loading.{Loaded, Reading, TidesRead}
-use Rattle.file_fields.proofs.LoadingLaws.{loaded-none, loaded-accepted, copied-distances, copied-settings}
+use Rattle.file_fields.proofs.LoadingLaws.{loaded_none, loaded_accepted, copied_distances, copied_settings}
 
 -- ---- on the way
 
-count-is : (s : List ℕ) (o : Dataset) {r : Dataset} → r ≡ recordOf (decoded s) o → r.n ≡ bits_at s 8 7
-unfolding recordOf
-count-is s o e = ap (λ (r : Dataset). r.n) e ∙ decoded-size s
+count_is : (s : List ℕ) (o : Dataset) {r : Dataset} → r ≡ record_of (decoded s) o → r.n ≡ bits_at s 8 7
+unfolding record_of
+count_is s o e = ap (λ (r : Dataset). r.n) e ∙ decoded_size s
 
-k-is : (s : List ℕ) (o : Dataset) {r : Dataset} → r ≡ recordOf (decoded s) o → r.k ≡ bits_at s 15 4
-unfolding recordOf decoded
-k-is s o e = ap (λ (r : Dataset). r.k) e
+k_is : (s : List ℕ) (o : Dataset) {r : Dataset} → r ≡ record_of (decoded s) o → r.k ≡ bits_at s 15 4
+unfolding record_of decoded
+k_is s o e = ap (λ (r : Dataset). r.k) e
 
 blank : (x n i : ℕ) → x ≡ 0 → get_or (replicate n x) i 0 ≡ 0
 blank x n i e =
     ⊎_elim (λ l. get_or-replicate n i x 0 l ∙ e) (λ l. get_or-eq_default (replicate n x) 0 (subst (λ z. z ≤ i) (sym (length-replicate n x)) l)) (split i n)
 
 -- where the reasons before any tide have passed
-module _ (s : List ℕ) {a : Answer} (answered : verdictOf a ≡ first_of (headReasons s)) (q : a ≡ Done) where
+module _ (s : List ℕ) {a : Answer} (answered : verdict_of a ≡ first_of (head_reasons s)) (q : a ≡ Done) where
   head_passed : Head s
-  head_passed = (head-T s).0 (sym answered ∙ ap verdictOf q)
+  head_passed = (head-T s).0 (sym answered ∙ ap verdict_of q)
 
-  pub tides-begin : {o r : Dataset} {p : Place} → HeadRecord s o r p → {matrix vector : List ℕ} → matrix ≡ replicate 14400 0 → vector ≡ replicate 120 0
+  pub tides_begin : {o r : Dataset} {p : Place} → HeadRecord s o r p → {matrix vector : List ℕ} → matrix ≡ replicate 14400 0 → vector ≡ replicate 120 0
       → (r.k ≡ bits_at s 15 4) × (r.n ≡ bits_at s 8 7) × TidesRead s 0 p matrix vector
-  tides-begin {o} H {matrix} {vector} x y = (
-    k-is s o H.is,
-    count-is s o H.is,
+  tides_begin {o} H {matrix} {vector} x y = (
+    k_is s o H.is,
+    count_is s o H.is,
     record {
-      loaded = loaded-none s matrix vector head_passed (sym answered ∙ ap verdictOf q)
+      loaded = loaded_none s matrix vector head_passed (sym answered ∙ ap verdict_of q)
           (ap length x ∙ length-replicate {A = ℕ} 14400 0) (ap length y ∙ length-replicate {A = ℕ} 120 0)
           (λ i. ap (λ (l : List ℕ). get_or l i 0) x ∙ blank 0 14400 i refl) (λ i. ap (λ (l : List ℕ). get_or l i 0) y ∙ blank 0 120 i refl);
       here = H.first;
@@ -61,41 +61,41 @@ module _ (s : List ℕ) {a : Answer} (answered : verdictOf a ≡ first_of (headR
 -- ---- the ways out
 
 module _ (σ : State) (file : List ℕ) where
-  pub read_short : short σ ≡ true → (refused (number 1) ≡ answer σ (readsFile file)) × (σ ≡ after σ (readsFile file))
-  unfolding readsFile
-  read_short e = let a = source-short σ _ e in (a, unmoved σ _ a)
+  pub read_short : short σ ≡ true → (refused (number 1) ≡ answer σ (reads_file file)) × (σ ≡ after σ (reads_file file))
+  unfolding reads_file
+  read_short e = let a = source_short σ _ e in (a, unmoved σ _ a)
 
   module _ (long : short σ ≡ false) where
-    own : first_of (readReasons file) ≡ answer σ (readsFile file)
-    unfolding readsFile
-    own = source-own σ _ long
+    own : first_of (read_reasons file) ≡ answer σ (reads_file file)
+    unfolding reads_file
+    own = source_own σ _ long
 
-    refuses : {a : Answer} {why : Refusal} → a ≡ Refused why → first_of (readReasons file) ≡ refused (numbered why)
-        → (verdictOf a ≡ answer σ (readsFile file)) × (σ ≡ after σ (readsFile file))
-    refuses q f = let a = ap verdictOf q ∙ sym f ∙ own in (a, stays σ (readsFile file) q a)
+    refuses : {a : Answer} {why : Refusal} → a ≡ Refused why → first_of (read_reasons file) ≡ refused (numbered why)
+        → (verdict_of a ≡ answer σ (reads_file file)) × (σ ≡ after σ (reads_file file))
+    refuses q f = let a = ap verdict_of q ∙ sym f ∙ own in (a, stays σ (reads_file file) q a)
 
     -- before any tide
-    pub read_head : {a : Answer} {why : Refusal} → verdictOf a ≡ first_of (headReasons file) → a ≡ Refused why
-        → (verdictOf a ≡ answer σ (readsFile file)) × (σ ≡ after σ (readsFile file))
-    read_head {a} {why} e q = refuses q (refused-head file (sym e ∙ ap verdictOf q))
+    pub read_head : {a : Answer} {why : Refusal} → verdict_of a ≡ first_of (head_reasons file) → a ≡ Refused why
+        → (verdict_of a ≡ answer σ (reads_file file)) × (σ ≡ after σ (reads_file file))
+    read_head {a} {why} e q = refuses q (refused_head file (sym e ∙ ap verdict_of q))
 
     -- while a tide is read
-    pub read-tide : {a : Answer} {why : Refusal} {n : ℕ} {x y : List ℕ} → Reading file n a x y → a ≡ Refused why
-        → (verdictOf a ≡ answer σ (readsFile file)) × (σ ≡ after σ (readsFile file))
-    read-tide {why = why} r q = refuses q (r.stops why q)
+    pub read_tide : {a : Answer} {why : Refusal} {n : ℕ} {x y : List ℕ} → Reading file n a x y → a ≡ Refused why
+        → (verdict_of a ≡ answer σ (reads_file file)) × (σ ≡ after σ (reads_file file))
+    read_tide {why = why} r q = refuses q (r.stops why q)
 
-    pub read_done : {a : Answer} {r : Dataset} {x y d g : List ℕ} → Reading file r.n a x y → a ≡ Done → r ≡ recordOf (decoded file) σ.dataset
+    pub read_done : {a : Answer} {r : Dataset} {x y d g : List ℕ} → Reading file r.n a x y → a ≡ Done → r ≡ record_of (decoded file) σ.dataset
         → d ≡ overwrite 14400 (at x) σ.distances → g ≡ overwrite 120 (at y) σ.settings
-        → (verdictOf a ≡ answer σ (readsFile file)) × (state_of r d g ≡ after σ (readsFile file))
-    unfolding stored readsFile made
+        → (verdict_of a ≡ answer σ (reads_file file)) × (state_of r d g ≡ after σ (reads_file file))
+    unfolding stored reads_file made
     read_done {r = r} {x} {y} t q e f h =
-        let count : r.n ≡ bits_at file 8 7 = count-is file σ.dataset e in
+        let count : r.n ≡ bits_at file 8 7 = count_is file σ.dataset e in
         let L : Loaded file (bits_at file 8 7) x y = subst (λ n. Loaded file n x y) count (t.goes q) in
-        let a = sym (loaded-accepted file x y L) ∙ own in (
-          ap verdictOf q ∙ a,
+        let a = sym (loaded_accepted file x y L) ∙ own in (
+          ap verdict_of q ∙ a,
           (λ i. record {
             dataset = e i;
-            distances = (f ∙ copied-distances file x y L σ.distances) i;
-            settings = (h ∙ copied-settings file x y L σ.settings) i;
-          }) ∙ leaves σ (readsFile file) a,
+            distances = (f ∙ copied_distances file x y L σ.distances) i;
+            settings = (h ∙ copied_settings file x y L σ.settings) i;
+          }) ∙ leaves σ (reads_file file) a,
         )

@@ -8,12 +8,12 @@ use lib.Dec.{ltb}
 use lib.ListN.{length}
 use Rattle.lists.specs.Lists.{over}
 use Rattle.study.specs.Refusals.{number, Verdict, accepted, refused, settled, value, refusal, replied, first_of}
-use Rattle.file_format.specs.File.{fileOf}
-use Rattle.validity.specs.Memory.{State, contentsOf}
-use Rattle.access.specs.Calls.{Output, firstList, answer, reply, listAfter}
+use Rattle.file_format.specs.File.{file_of}
+use Rattle.validity.specs.Memory.{State, contents_of}
+use Rattle.access.specs.Calls.{Output, first_list, answer, reply, list_after}
 use Rattle.access.specs.Passed.{Passed}
-use Rattle.access.proofs.AccessLaws.{inquiry-own, reply-tells, output-tells}
-use Rattle.study_file.specs.Calls.{writeReasons, writesFile}
+use Rattle.access.proofs.AccessLaws.{inquiry_own, reply_tells, output_tells}
+use Rattle.study_file.specs.Calls.{write_reasons, writes_file}
 
 -- the output with these bytes in the file
 abbrev told : List ℕ → List ℕ → Output
@@ -21,30 +21,30 @@ told numbers bytes = record { numbers = numbers; lists = bytes ∷ []; records =
 
 module _ {s : State} (P : Passed s) (bytes : List ℕ) where
   abbrev pub file : List ℕ
-  file = fileOf (contentsOf s)
+  file = file_of (contents_of s)
 
   abbrev pub short? : Bool
   short? = ltb (length bytes) (length file)
 
-  write-verdict : answer s (writesFile bytes) ≡ cond short? (refused (number 1)) accepted
-  unfolding writesFile writeReasons first_of
-  write-verdict = sym (inquiry-own s _ P refl)
+  write_verdict : answer s (writes_file bytes) ≡ cond short? (refused (number 1)) accepted
+  unfolding writes_file write_reasons first_of
+  write_verdict = sym (inquiry_own s _ P refl)
 
-  pub write-reply : reply s (writesFile bytes) ≡ cond short? (refusal (number 1)) (value (length file ∷ []))
-  unfolding writesFile
-  write-reply = reply-tells s _ ∙ ap (λ v. replied v (length file ∷ [])) write-verdict ∙ by short?
+  pub write_reply : reply s (writes_file bytes) ≡ cond short? (refusal (number 1)) (value (length file ∷ []))
+  unfolding writes_file
+  write_reply = reply_tells s _ ∙ ap (λ v. replied v (length file ∷ [])) write_verdict ∙ by short?
     where
       by : (t : Bool) → replied (cond t (refused (number 1)) accepted) (length file ∷ []) ≡ cond t (refusal (number 1)) (value (length file ∷ []))
       by true = refl
       by false = refl
 
-  pub write-leaves : {new : List ℕ} → new ≡ listAfter s (writesFile bytes) → new ≡ cond short? bytes (over file bytes)
-  unfolding writesFile
-  write-leaves e =
-      e ∙ ap (λ (o : Output). firstList o.lists) (output-tells s _) ∙ by (answer s (writesFile bytes)) short? write-verdict
+  pub write_leaves : {new : List ℕ} → new ≡ list_after s (writes_file bytes) → new ≡ cond short? bytes (over file bytes)
+  unfolding writes_file
+  write_leaves e =
+      e ∙ ap (λ (o : Output). first_list o.lists) (output_tells s _) ∙ by (answer s (writes_file bytes)) short? write_verdict
     where
       by : (v : Verdict) (t : Bool) → v ≡ cond t (refused (number 1)) accepted
-          → firstList (settled v (told (length file ∷ []) (over file bytes)) (told [] bytes)).lists ≡ cond t bytes (over file bytes)
+          → first_list (settled v (told (length file ∷ []) (over file bytes)) (told [] bytes)).lists ≡ cond t bytes (over file bytes)
       by accepted true e = absurd (let z : ◌≡◌ {A = ℕ} 0 1 = cc in omega arith)
       by accepted false e = refl
       by (refused r) true e = refl

@@ -12,63 +12,63 @@ use Rattle.study.specs.declared.Refusal.{Refusal}
 use Rattle.study.specs.declared.Answer.{Answer}
 use Rattle.study.specs.declared.Answer.TheVariants.{Refused}
 use Rattle.study.specs.Study.{Contents, size}
-use Rattle.study.specs.Refusals.{number, Numbered, accepted, refused, value, refusal, verdictOf, numbered, first_of}
-use Rattle.file_format.specs.File.{fileOf, byteLength}
-use Rattle.file_format.proofs.WrittenLaws.{file-length}
-use Rattle.validity.specs.Memory.{State, studyOf, contentsOf}
-use Rattle.validity.proofs.ValidityLaws.{study-size}
-use Rattle.access.specs.Calls.{nobody, Output, firstList, lent, answer, reply, listAfter}
-use Rattle.access.specs.Passed.{Passed, heldAnswer}
-use Rattle.access.proofs.AccessLaws.{held-refused, passed-valid, inquiry-answer, inquiry-own, replies-refusal, unwritten, replies, writes}
-use Rattle.study_file.specs.Calls.{writeReasons, writesFile}
-use Rattle.file_fields.specs.Putting.{PutFields, Writable, fileFields}
-use Rattle.file_fields.proofs.PuttingLaws.{file-written}
+use Rattle.study.specs.Refusals.{number, Numbered, accepted, refused, value, refusal, verdict_of, numbered, first_of}
+use Rattle.file_format.specs.File.{file_of, byte_length}
+use Rattle.file_format.proofs.WrittenLaws.{file_length}
+use Rattle.validity.specs.Memory.{State, study_of, contents_of}
+use Rattle.validity.proofs.ValidityLaws.{study_size}
+use Rattle.access.specs.Calls.{nobody, Output, first_list, lent, answer, reply, list_after}
+use Rattle.access.specs.Passed.{Passed, held_answer}
+use Rattle.access.proofs.AccessLaws.{held_refused, passed_valid, inquiry_answer, inquiry_own, replies_refusal, unwritten, replies, writes}
+use Rattle.study_file.specs.Calls.{write_reasons, writes_file}
+use Rattle.file_fields.specs.Putting.{PutFields, Writable, file_fields}
+use Rattle.file_fields.proofs.PuttingLaws.{file_written}
 
 -- a refused call answers no length, and leaves the lent bytes
 module _ (σ : State) (file : List ℕ) where
-  refuses : {x : Numbered} → refused x ≡ answer σ (writesFile file)
-      → (refusal x ≡ reply σ (writesFile file)) × (file ≡ listAfter σ (writesFile file))
-  unfolding writesFile lent
-  refuses e = (replies-refusal σ (writesFile file) e, ap (λ (o : Output). firstList o.lists) (unwritten σ (writesFile file) e))
+  refuses : {x : Numbered} → refused x ≡ answer σ (writes_file file)
+      → (refusal x ≡ reply σ (writes_file file)) × (file ≡ list_after σ (writes_file file))
+  unfolding writes_file lent
+  refuses e = (replies_refusal σ (writes_file file) e, ap (λ (o : Output). first_list o.lists) (unwritten σ (writes_file file) e))
 
   -- short memory, or no dataset
-  pub write-refused : {a : Answer} {why : Refusal} → a ≡ Refused why → verdictOf a ≡ heldAnswer σ nobody (λ _. [])
-      → (refusal (numbered why) ≡ reply σ (writesFile file)) × (file ≡ listAfter σ (writesFile file))
-  unfolding writesFile
-  write-refused {a} {why} e f =
-      refuses (sym (ap verdictOf e) ∙ held-refused σ nobody _ e f ∙ sym (inquiry-answer σ _))
+  pub write_refused : {a : Answer} {why : Refusal} → a ≡ Refused why → verdict_of a ≡ held_answer σ nobody (λ _. [])
+      → (refusal (numbered why) ≡ reply σ (writes_file file)) × (file ≡ list_after σ (writes_file file))
+  unfolding writes_file
+  write_refused {a} {why} e f =
+      refuses (sym (ap verdict_of e) ∙ held_refused σ nobody _ e f ∙ sym (inquiry_answer σ _))
 
 module _ {σ : State} (P : Passed σ) where
   abbrev H : Contents
-  H = contentsOf σ
+  H = contents_of σ
 
-  size_is : length (fileOf (contentsOf σ)) ≡ byteLength 4 σ.dataset.k σ.dataset.n
-  unfolding contentsOf studyOf
-  size_is = file-length H (passed-valid σ P) ∙ ap (byteLength 4 σ.dataset.k) (study-size σ)
+  size_is : length (file_of (contents_of σ)) ≡ byte_length 4 σ.dataset.k σ.dataset.n
+  unfolding contents_of study_of
+  size_is = file_length H (passed_valid σ P) ∙ ap (byte_length 4 σ.dataset.k) (study_size σ)
 
-  own : (file : List ℕ) (b : Bool) → ltb (length file) (length (fileOf (contentsOf σ))) ≡ b
-      → cond b (refused (number 1)) accepted ≡ answer σ (writesFile file)
-  unfolding writesFile writeReasons first_of
+  own : (file : List ℕ) (b : Bool) → ltb (length file) (length (file_of (contents_of σ))) ≡ b
+      → cond b (refused (number 1)) accepted ≡ answer σ (writes_file file)
+  unfolding writes_file write_reasons first_of
   own file b q =
       ap (λ b. cond b (refused (number 1)) accepted) (sym q)
-      ∙ inquiry-own σ _ P refl
+      ∙ inquiry_own σ _ P refl
 
-  module _ {file : List ℕ} {size : ℕ} (e : size ≡ byteLength 4 σ.dataset.k σ.dataset.n) where
-    pub write-short : length file < size → (refusal (number 1) ≡ reply σ (writesFile file)) × (file ≡ listAfter σ (writesFile file))
-    write-short l = refuses σ file (own file true (T_true _ (lt→ltb _ _ (subst (λ n. length file < n) (e ∙ sym size_is) l))))
+  module _ {file : List ℕ} {size : ℕ} (e : size ≡ byte_length 4 σ.dataset.k σ.dataset.n) where
+    pub write_short : length file < size → (refusal (number 1) ≡ reply σ (writes_file file)) × (file ≡ list_after σ (writes_file file))
+    write_short l = refuses σ file (own file true (T_true _ (lt→ltb _ _ (subst (λ n. length file < n) (e ∙ sym size_is) l))))
 
     -- there is room
     module _ (room : size ≤ length file) where
       pub writable : Writable σ file
-      unfolding byteLength
+      unfolding byte_length
       writable = record { study = P.study; long = P.long; room = omega (arith, e, room) }
 
-      pub write_done : {new : List ℕ} → PutFields file 0 (fileFields (contentsOf σ)) new
-          → (value (size ∷ []) ≡ reply σ (writesFile file)) × (new ≡ listAfter σ (writesFile file))
-      unfolding writesFile
+      pub write_done : {new : List ℕ} → PutFields file 0 (file_fields (contents_of σ)) new
+          → (value (size ∷ []) ≡ reply σ (writes_file file)) × (new ≡ list_after σ (writes_file file))
+      unfolding writes_file
       write_done a =
           let fits = subst (λ n. n ≤ length file) (e ∙ sym size_is) room in
           let w = own file false (T_false _ (le→nltb _ _ fits)) in (
             ap (λ n. value (n ∷ [])) (e ∙ sym size_is) ∙ replies σ _ P w,
-            file-written H a ∙ ap (λ (o : Output). firstList o.lists) (writes σ _ P w),
+            file_written H a ∙ ap (λ (o : Output). first_list o.lists) (writes σ _ P w),
           )

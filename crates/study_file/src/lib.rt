@@ -1,10 +1,10 @@
 // Read and Write: for any record, memory and bytes of any length, the answer and what stands afterwards.
 ghost use Rattle.std.specs.Prelude.{◌≡◌};
-ghost use Rattle.validity.specs.Memory.{state_of, entryState, exitState};
-ghost use Rattle.access.specs.Calls.{answer, after, reply, listAfter};
+ghost use Rattle.validity.specs.Memory.{state_of, entry_state, exit_state};
+ghost use Rattle.access.specs.Calls.{answer, after, reply, list_after};
 ghost use Rattle.access.specs.Passed.{Passed};
-ghost use Rattle.study.specs.Refusals.{verdictOf};
-ghost use Rattle.study_file.specs.Calls.{readsFile, writesFile, written_of};
+ghost use Rattle.study.specs.Refusals.{verdict_of};
+ghost use Rattle.study_file.specs.Calls.{reads_file, writes_file, written_of};
 
 use file_fields::head::read_head;
 use file_fields::tides::read_tides;
@@ -22,8 +22,8 @@ pub enum Written {
 
 // The dataset that a file holds. It is read into memory of its own, and copied into the lent memory once nothing can refuse it any more.
 pub fn read(dataset: Dataset, distances: &mut [u32], settings: &mut [u8], file: &[u8]) -> Outcome
-    ensures answer { verdictOf result.answer ≡ answer (entryState dataset distances settings) (readsFile file.now) }
-    ensures leaves { exitState result.dataset distances settings ≡ after (entryState dataset distances settings) (readsFile file.now) }
+    ensures answer { verdict_of result.answer ≡ answer (entry_state dataset distances settings) (reads_file file.now) }
+    ensures leaves { exit_state result.dataset distances settings ≡ after (entry_state dataset distances settings) (reads_file file.now) }
 {
     if is_short(distances, settings) {
         return Outcome {
@@ -64,8 +64,8 @@ pub fn read(dataset: Dataset, distances: &mut [u32], settings: &mut [u8], file: 
 // The file of a dataset, where there is room for it.
 fn write_file(dataset: Dataset, distances: &[u32], settings: &[u8], file: &mut [u8]) -> Written
     requires { Passed (state_of dataset distances.now settings.now) }
-    ensures reply { written_of result ≡ reply (entryState dataset distances settings) (writesFile file.old) }
-    ensures leaves { file.new ≡ listAfter (entryState dataset distances settings) (writesFile file.old) }
+    ensures reply { written_of result ≡ reply (entry_state dataset distances settings) (writes_file file.old) }
+    ensures leaves { file.new ≡ list_after (entry_state dataset distances settings) (writes_file file.old) }
 {
     let size = byte_length(dataset.k as usize, dataset.n);
     if file.len() < size {
@@ -77,8 +77,8 @@ fn write_file(dataset: Dataset, distances: &[u32], settings: &[u8], file: &mut [
 
 // The file over the front of the lent bytes; those past it stay.
 pub fn write(dataset: Dataset, distances: &[u32], settings: &[u8], file: &mut [u8]) -> Written
-    ensures reply { written_of result ≡ reply (entryState dataset distances settings) (writesFile file.old) }
-    ensures leaves { file.new ≡ listAfter (entryState dataset distances settings) (writesFile file.old) }
+    ensures reply { written_of result ≡ reply (entry_state dataset distances settings) (writes_file file.old) }
+    ensures leaves { file.new ≡ list_after (entry_state dataset distances settings) (writes_file file.old) }
 {
     let answer = access::check(dataset, distances, settings);
     match answer {

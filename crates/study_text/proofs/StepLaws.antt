@@ -14,79 +14,79 @@ use Rattle.text_words.specs.declared.Word.TheVariants as WordCase
 use Rattle.study_text.specs.declared.numbers.Given.{Given}
 use Rattle.study_text.specs.declared.numbers.Given.TheVariants as GivenCase
 use Rattle.text_words.specs.Words.{next_of, CursorWithin}
-use Rattle.text_words.proofs.WordLaws.{next-within}
-use Rattle.study_text.specs.Packing.{Report, reportOf, Got, got, stop, numberFrom, number_of, onward, numbersOf}
+use Rattle.text_words.proofs.WordLaws.{next_within}
+use Rattle.study_text.specs.Packing.{Report, report_of, Got, got, stop, number_from, number_of, onward, numbers_of}
 use Rattle.study_text.specs.Steps.{given_of}
 
 -- ---- one number
 
-pub number_is : {g : Got ℕ} (text : List ℕ) (c : Cursor) {w v : Word} → w ≡ next_of text c → w ≡ v → g ≡ numberFrom v → g ≡ number_of text c
+pub number_is : {g : Got ℕ} (text : List ℕ) (c : Cursor) {w v : Word} → w ≡ next_of text c → w ≡ v → g ≡ number_from v → g ≡ number_of text c
 unfolding number_of
-number_is text c e f h = h ∙ ap numberFrom (sym f ∙ e)
+number_is text c e f h = h ∙ ap number_from (sym f ∙ e)
 
 -- ---- a row of numbers
 
-number-from : (w : Word) {x : ℕ} {d : Cursor} → numberFrom w ≡ got x d → w ≡ WordCase.Number x d
-number-from (WordCase.Number y e) h = cc
-number-from (WordCase.End l) h = absurd (let z : ◌≡◌ {A = ℕ} 0 1 = cc in omega arith)
-number-from (WordCase.Bad l) h = absurd (let z : ◌≡◌ {A = ℕ} 0 1 = cc in omega arith)
-number-from (WordCase.TooLarge l) h = absurd (let z : ◌≡◌ {A = ℕ} 0 1 = cc in omega arith)
+number_from_lem : (w : Word) {x : ℕ} {d : Cursor} → number_from w ≡ got x d → w ≡ WordCase.Number x d
+number_from_lem (WordCase.Number y e) h = cc
+number_from_lem (WordCase.End l) h = absurd (let z : ◌≡◌ {A = ℕ} 0 1 = cc in omega arith)
+number_from_lem (WordCase.Bad l) h = absurd (let z : ◌≡◌ {A = ℕ} 0 1 = cc in omega arith)
+number_from_lem (WordCase.TooLarge l) h = absurd (let z : ◌≡◌ {A = ℕ} 0 1 = cc in omega arith)
 
-pub number-within : {text : List ℕ} {c d : Cursor} {x : ℕ} → CursorWithin text c → number_of text c ≡ got x d → CursorWithin text d
+pub number_within : {text : List ℕ} {c d : Cursor} {x : ℕ} → CursorWithin text c → number_of text c ≡ got x d → CursorWithin text d
 unfolding number_of
-number-within {text} {c} w e = next-within w (number-from (next_of text c) e)
+number_within {text} {c} w e = next_within w (number_from_lem (next_of text c) e)
 
 -- i numbers are read into the row
 pub record ReadTo (text : List ℕ) (from : Cursor) (i : ℕ) (row : List ℕ) (c : Cursor) : Type 0 where
-  pub is : numbersOf text i from ≡ got (take i row) c
+  pub is : numbers_of text i from ≡ got (take i row) c
   pub within : CursorWithin text c
 
 -- what stops n numbers stops more
-stays : (text : List ℕ) (from : Cursor) (n d : ℕ) {t : Report} → numbersOf text n from ≡ stop t → numbersOf text (d + n) from ≡ stop t
-unfolding numbersOf
-stays text from n zero {t} e = subst (λ k. numbersOf text k from ≡ stop t) (sym (zero-add n)) e
+stays : (text : List ℕ) (from : Cursor) (n d : ℕ) {t : Report} → numbers_of text n from ≡ stop t → numbers_of text (d + n) from ≡ stop t
+unfolding numbers_of
+stays text from n zero {t} e = subst (λ k. numbers_of text k from ≡ stop t) (sym (zero-add n)) e
 stays text from n (suc d) {t} e = rw (suc-add d n, stays text from n d e)
 
 module _ {text : List ℕ} {from : Cursor} where
-  pub row-none : {row : List ℕ} → CursorWithin text from → ReadTo text from 0 row from
-  unfolding numbersOf
-  row-none w = record { is = refl; within = w }
+  pub row_none : {row : List ℕ} → CursorWithin text from → ReadTo text from 0 row from
+  unfolding numbers_of
+  row_none w = record { is = refl; within = w }
 
   pub row_more : {row : List ℕ} {i x : ℕ} {c d : Cursor} {g : Given} → ReadTo text from i row c → given_of g ≡ number_of text c → g ≡ GivenCase.Number x d
       → i < length row → ReadTo text from (i + 1) (set row i x) d
-  unfolding numbersOf
+  unfolding numbers_of
   row_more {row} {i} {x} {c} {d} {g} e f h l =
       record {
-        is = ap (λ k. numbersOf text k from) (add-one i)
+        is = ap (λ k. numbers_of text k from) (add-one i)
             ∙ rw (e.is, ← f, h) (ap (λ xs. got xs d) (sym (ap (λ k. take k (set row i x)) (add-one i) ∙ take-suc-set row i x l)));
-        within = number-within e.within (sym f ∙ ap given_of h);
+        within = number_within e.within (sym f ∙ ap given_of h);
       }
 
-  one-stops : {row : List ℕ} {i : ℕ} {c : Cursor} {g : Given} {p : Packed} → ReadTo text from i row c → given_of g ≡ number_of text c → g ≡ GivenCase.Stopped p
-      → numbersOf text (suc i) from ≡ stop (reportOf p)
-  unfolding numbersOf
-  one-stops e f h = rw (e.is, ← f, h)
+  one_stops : {row : List ℕ} {i : ℕ} {c : Cursor} {g : Given} {p : Packed} → ReadTo text from i row c → given_of g ≡ number_of text c → g ≡ GivenCase.Stopped p
+      → numbers_of text (suc i) from ≡ stop (report_of p)
+  unfolding numbers_of
+  one_stops e f h = rw (e.is, ← f, h)
 
-  pub row-stops : {row : List ℕ} {i : ℕ} {c : Cursor} {g : Given} {p : Packed} (n : ℕ) → ReadTo text from i row c → given_of g ≡ number_of text c
-      → g ≡ GivenCase.Stopped p → i < n → stop (reportOf p) ≡ numbersOf text n from
-  row-stops {row} {i} {c} {g} {p} n e f h l =
+  pub row_stops : {row : List ℕ} {i : ℕ} {c : Cursor} {g : Given} {p : Packed} (n : ℕ) → ReadTo text from i row c → given_of g ≡ number_of text c
+      → g ≡ GivenCase.Stopped p → i < n → stop (report_of p) ≡ numbers_of text n from
+  row_stops {row} {i} {c} {g} {p} n e f h l =
       let there : n - suc i + suc i ≡ n = omega arith in
-      sym (ap (λ k. numbersOf text k from) (sym there) ∙ stays text from (suc i) (n - suc i) (one-stops e f h))
+      sym (ap (λ k. numbers_of text k from) (sym there) ∙ stays text from (suc i) (n - suc i) (one_stops e f h))
 
-  pub row_read : {row : List ℕ} {i n : ℕ} {c : Cursor} → ReadTo text from i row c → i ≡ length row → length row ≡ n → got row c ≡ numbersOf text n from
+  pub row_read : {row : List ℕ} {i n : ℕ} {c : Cursor} → ReadTo text from i row c → i ≡ length row → length row ≡ n → got row c ≡ numbers_of text n from
   row_read {row} {i} {n} {c} e f h =
-      sym (ap (λ k. numbersOf text k from) (sym (f ∙ h)) ∙ e.is ∙ ap (λ xs. got xs c) (take_all i row (omega arith)))
+      sym (ap (λ k. numbers_of text k from) (sym (f ∙ h)) ∙ e.is ∙ ap (λ xs. got xs c) (take_all i row (omega arith)))
 
-numbers-last : {text : List ℕ} {d : Cursor} {xs : List ℕ} (g : Got (List ℕ)) → ((ys : List ℕ) (c : Cursor) → g ≡ got ys c → CursorWithin text c)
+numbers_last : {text : List ℕ} {d : Cursor} {xs : List ℕ} (g : Got (List ℕ)) → ((ys : List ℕ) (c : Cursor) → g ≡ got ys c → CursorWithin text c)
     → onward g (λ ys c. onward (number_of text c) (λ x e. got (ys ++ (x ∷ [])) e)) ≡ got xs d → CursorWithin text d
-numbers-last (stop t) ok h = absurd (let z : ◌≡◌ {A = ℕ} 0 1 = cc in omega arith)
-numbers-last {text} {d} {xs} (got ys c) ok h = by (number_of text c) refl h
+numbers_last (stop t) ok h = absurd (let z : ◌≡◌ {A = ℕ} 0 1 = cc in omega arith)
+numbers_last {text} {d} {xs} (got ys c) ok h = by (number_of text c) refl h
   where
     by : (g : Got ℕ) → number_of text c ≡ g → onward g (λ x e. got (ys ++ (x ∷ [])) e) ≡ got xs d → CursorWithin text d
     by (stop t) e k = absurd (let z : ◌≡◌ {A = ℕ} 0 1 = cc in omega arith)
-    by (got x e) f k = let q : e ≡ d = cc in subst (CursorWithin text) q (number-within (ok ys c refl) f)
+    by (got x e) f k = let q : e ≡ d = cc in subst (CursorWithin text) q (number_within (ok ys c refl) f)
 
-pub numbers-within : {text : List ℕ} {from d : Cursor} {xs : List ℕ} (n : ℕ) → CursorWithin text from → numbersOf text n from ≡ got xs d → CursorWithin text d
-unfolding numbersOf
-numbers-within {text} {from} {d} zero w e = let q : from ≡ d = cc in subst (CursorWithin text) q w
-numbers-within {text} {from} (suc n) w e = numbers-last (numbersOf text n from) (λ ys c f. numbers-within n w f) e
+pub numbers_within : {text : List ℕ} {from d : Cursor} {xs : List ℕ} (n : ℕ) → CursorWithin text from → numbers_of text n from ≡ got xs d → CursorWithin text d
+unfolding numbers_of
+numbers_within {text} {from} {d} zero w e = let q : from ≡ d = cc in subst (CursorWithin text) q w
+numbers_within {text} {from} (suc n) w e = numbers_last (numbers_of text n from) (λ ys c f. numbers_within n w f) e

@@ -3,12 +3,12 @@
 -- inequality may fail and a tide may be a duplicate: there all but these is asked. Assumes nothing.
 use Rattle.std.specs.Prelude.{ℕ, zero, suc, cond, List, [], ◌∷◌, ◌++◌, ltb, length, drop, get_or}
 use Rattle.lists.specs.Lists.{tabulate}
-use Rattle.study.specs.Limits.{maxSettings}
+use Rattle.study.specs.Limits.{max_settings}
 use Rattle.study.specs.declared.Minima.{Minima}
 use Rattle.study.specs.Study.{Study, Contents, size}
 use Rattle.study.specs.Refusals.{Numbered, number, numbered, Verdict, accepted, refused, Reason, first_of}
-use Rattle.study.specs.Calls.{openReasons, opening, minimaReasons, settingMinima, enterReasons, measuredReasons, entering}
-use Rattle.file_format.specs.File.{fileOf}
+use Rattle.study.specs.Calls.{open_reasons, opening, minima_reasons, setting_minima, enter_reasons, measured_reasons, entering}
+use Rattle.file_format.specs.File.{file_of}
 use Rattle.study_text.specs.declared.Packed.{Packed}
 use Rattle.study_text.specs.declared.Packed.TheVariants as PackedCase
 use Rattle.study_text.specs.declared.Rule.{Rule}
@@ -21,20 +21,20 @@ use Rattle.text_words.specs.Words.{newlines, next_of}
 -- what is said of a text: the file's length, or a line and what is wrong there
 pub data Report : Type 0 where
   done : ℕ → Report
-  refusedAt : ℕ → Numbered → Report
-  notNumber : ℕ → Report
-  tooLarge : ℕ → Report
+  refused_at : ℕ → Numbered → Report
+  not_number : ℕ → Report
+  too_large : ℕ → Report
   missing : ℕ → Report
-  tooLong : ℕ → Report
+  too_long : ℕ → Report
 
 -- the code's answer, by document 01's numbers
-abbrev pub reportOf : Packed → Report
-reportOf (PackedCase.Done n) = done n
-reportOf (PackedCase.Refused l r) = refusedAt l (numbered r)
-reportOf (PackedCase.NotANumber l) = notNumber l
-reportOf (PackedCase.TooLarge l) = tooLarge l
-reportOf (PackedCase.Missing l) = missing l
-reportOf (PackedCase.TooLong l) = tooLong l
+abbrev pub report_of : Packed → Report
+report_of (PackedCase.Done n) = done n
+report_of (PackedCase.Refused l r) = refused_at l (numbered r)
+report_of (PackedCase.NotANumber l) = not_number l
+report_of (PackedCase.TooLarge l) = too_large l
+report_of (PackedCase.Missing l) = missing l
+report_of (PackedCase.TooLong l) = too_long l
 
 -- ---- numbers that must stand next
 
@@ -44,15 +44,15 @@ pub data Got (A : Type 0) : Type 0 where
   stop : Report → Got A
 
 -- a word where a number must stand
-abbrev pub numberFrom : Word → Got ℕ
-numberFrom (WordCase.Number x c) = got x c
-numberFrom (WordCase.End l) = stop (missing l)
-numberFrom (WordCase.Bad l) = stop (notNumber l)
-numberFrom (WordCase.TooLarge l) = stop (tooLarge l)
+abbrev pub number_from : Word → Got ℕ
+number_from (WordCase.Number x c) = got x c
+number_from (WordCase.End l) = stop (missing l)
+number_from (WordCase.Bad l) = stop (not_number l)
+number_from (WordCase.TooLarge l) = stop (too_large l)
 
 -- the number that stands next
 unfoldable pub number_of : List ℕ → Cursor → Got ℕ
-number_of text c = numberFrom (next_of text c)
+number_of text c = number_from (next_of text c)
 
 -- go on with what was read, or stop
 abbrev pub onward : {A B : Type 0} → Got A → (A → Cursor → Got B) → Got B
@@ -60,47 +60,47 @@ onward (got x c) f = f x c
 onward (stop t) f = stop t
 
 -- n numbers: one after n - 1
-unfoldable pub numbersOf : List ℕ → ℕ → Cursor → Got (List ℕ)
-numbersOf text zero c = got [] c
-numbersOf text (suc n) c = onward (numbersOf text n c) (λ xs d. onward (number_of text d) (λ x e. got (xs ++ (x ∷ [])) e))
+unfoldable pub numbers_of : List ℕ → ℕ → Cursor → Got (List ℕ)
+numbers_of text zero c = got [] c
+numbers_of text (suc n) c = onward (numbers_of text n c) (λ xs d. onward (number_of text d) (λ x e. got (xs ++ (x ∷ [])) e))
 
 -- ---- Open and Minima
 
 -- after a call, with the place past the last number that it is given
 abbrev pub called : Verdict → Contents → Cursor → Got Contents
 called accepted H c = got H c
-called (refused r) H c = stop (refusedAt c.line r)
+called (refused r) H c = stop (refused_at c.line r)
 
 -- b0, and the b's; those above k are 0
-unfoldable pub minimaFrom : List ℕ → Minima
-minimaFrom xs = record { b0 = get_or xs 0 0; b = tabulate maxSettings (λ j. get_or xs (suc j) 0) }
+unfoldable pub minima_from : List ℕ → Minima
+minima_from xs = record { b0 = get_or xs 0 0; b = tabulate max_settings (λ j. get_or xs (suc j) 0) }
 
 -- Open with the k that stands next
-unfoldable pub openingOf : List ℕ → Cursor → Got Contents
-openingOf text c = onward (number_of text c) (λ k d. called (first_of (openReasons k)) (opening k) d)
+unfoldable pub opening_of : List ℕ → Cursor → Got Contents
+opening_of text c = onward (number_of text c) (λ k d. called (first_of (open_reasons k)) (opening k) d)
 
 -- Minima with the numbers that stand next: b0, and a b for each setting
-unfoldable pub minimaOf : List ℕ → Contents → Cursor → Got Contents
-minimaOf text H c =
-    onward (numbersOf text (suc H.study.k) c)
-    (λ xs d. called (first_of (minimaReasons H.study (minimaFrom xs))) (settingMinima (minimaFrom xs) H) d)
+unfoldable pub minima_of : List ℕ → Contents → Cursor → Got Contents
+minima_of text H c =
+    onward (numbers_of text (suc H.study.k) c)
+    (λ xs d. called (first_of (minima_reasons H.study (minima_from xs))) (setting_minima (minima_from xs) H) d)
 
 -- both, from the text's first byte
 unfoldable pub head_of : List ℕ → Got Contents
-head_of text = onward (openingOf text (record { at = 0; line = 1 })) (minimaOf text)
+head_of text = onward (opening_of text (record { at = 0; line = 1 })) (minima_of text)
 
 -- ---- tides
 
 -- the reasons by the rule under which the tides come in
-abbrev pub tideReasons : Rule → Study → ℕ → List ℕ → List Reason
-tideReasons RuleCase.Entered S x row = enterReasons S x row
-tideReasons RuleCase.Measured S x row = measuredReasons S x row
+abbrev pub tide_reasons : Rule → Study → ℕ → List ℕ → List Reason
+tide_reasons RuleCase.Entered S x row = enter_reasons S x row
+tide_reasons RuleCase.Measured S x row = measured_reasons S x row
 
 -- the tide that this setting begins
-unfoldable pub tideOf : Rule → List ℕ → Contents → ℕ → Cursor → Got Contents
-tideOf rule text H x c =
-    onward (numbersOf text (size H.study) c)
-    (λ row d. called (first_of (tideReasons rule H.study x row)) (entering x row H) d)
+unfoldable pub tide_of : Rule → List ℕ → Contents → ℕ → Cursor → Got Contents
+tide_of rule text H x c =
+    onward (numbers_of text (size H.study) c)
+    (λ row d. called (first_of (tide_reasons rule H.study x row)) (entering x row H) d)
 
 -- what a turn comes to: one more tide, the text's end with its line, or what stops it
 pub data Turn : Type 0 where
@@ -114,15 +114,15 @@ entered (got H c) = going H c
 entered (stop t) = stopped t
 
 -- a turn by its first word: a tide's setting, the text's end, or no number
-abbrev pub turnFrom : Rule → List ℕ → Contents → Word → Turn
-turnFrom rule text H (WordCase.Number x c) = entered (tideOf rule text H x c)
-turnFrom rule text H (WordCase.End l) = ended H l
-turnFrom rule text H (WordCase.Bad l) = stopped (notNumber l)
-turnFrom rule text H (WordCase.TooLarge l) = stopped (tooLarge l)
+abbrev pub turn_from : Rule → List ℕ → Contents → Word → Turn
+turn_from rule text H (WordCase.Number x c) = entered (tide_of rule text H x c)
+turn_from rule text H (WordCase.End l) = ended H l
+turn_from rule text H (WordCase.Bad l) = stopped (not_number l)
+turn_from rule text H (WordCase.TooLarge l) = stopped (too_large l)
 
 -- the turn from a place on
 unfoldable pub turn_of : Rule → List ℕ → Contents → Cursor → Turn
-turn_of rule text H c = turnFrom rule text H (next_of text c)
+turn_of rule text H c = turn_from rule text H (next_of text c)
 
 -- one more turn, where the last one goes on
 abbrev pub further : Turn → (Contents → Cursor → Turn) → Turn
@@ -131,32 +131,32 @@ further (ended H l) f = ended H l
 further (stopped t) f = stopped t
 
 -- after at most n turns
-unfoldable pub turnsOf : Rule → List ℕ → ℕ → Turn → Turn
-turnsOf rule text zero t = t
-turnsOf rule text (suc n) t = further (turnsOf rule text n t) (turn_of rule text)
+unfoldable pub turns_of : Rule → List ℕ → ℕ → Turn → Turn
+turns_of rule text zero t = t
+turns_of rule text (suc n) t = further (turns_of rule text n t) (turn_of rule text)
 
 -- ---- the whole text
 
 -- 120 tides are the most, so that 121 turns come to an end
 unfoldable pub text_of : Rule → List ℕ → Turn
-text_of rule text = turnsOf rule text 121 (entered (head_of text))
+text_of rule text = turns_of rule text 121 (entered (head_of text))
 
 -- Write, lent `room` bytes; without room it is refused at the text's end. No text is still going after 121 turns
 abbrev pub answered : Turn → ℕ → Report
-answered (ended H l) room = cond (ltb room (length (fileOf H))) (refusedAt l (number 1)) (done (length (fileOf H)))
+answered (ended H l) room = cond (ltb room (length (file_of H))) (refused_at l (number 1)) (done (length (file_of H)))
 answered (stopped t) room = t
-answered (going H c) room = refusedAt c.line (number 22)
+answered (going H c) room = refused_at c.line (number 22)
 
 -- what Write leaves of the lent bytes
 abbrev pub written : Turn → List ℕ → List ℕ
-written (ended H l) bytes = cond (ltb (length bytes) (length (fileOf H))) bytes (fileOf H ++ drop (length (fileOf H)) bytes)
+written (ended H l) bytes = cond (ltb (length bytes) (length (file_of H))) bytes (file_of H ++ drop (length (file_of H)) bytes)
 written (stopped t) bytes = bytes
 written (going H c) bytes = bytes
 
 -- a text above 131,072 bytes is too long; its last whole line is named
-unfoldable pub packAnswer : List ℕ → ℕ → Report
-packAnswer text room = cond (ltb 131072 (length text)) (tooLong (newlines text)) (answered (text_of RuleCase.Entered text) room)
+unfoldable pub pack_answer : List ℕ → ℕ → Report
+pack_answer text room = cond (ltb 131072 (length text)) (too_long (newlines text)) (answered (text_of RuleCase.Entered text) room)
 
 -- the lent bytes: those past the file stay
-unfoldable pub packLeaves : List ℕ → List ℕ → List ℕ
-packLeaves text bytes = cond (ltb 131072 (length text)) bytes (written (text_of RuleCase.Entered text) bytes)
+unfoldable pub pack_leaves : List ℕ → List ℕ → List ℕ
+pack_leaves text bytes = cond (ltb 131072 (length text)) bytes (written (text_of RuleCase.Entered text) bytes)

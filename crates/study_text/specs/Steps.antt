@@ -4,14 +4,14 @@ use Rattle.study_text.specs.declared.numbers.Given.{Given}
 use Rattle.study_text.specs.declared.numbers.Given.TheVariants as GivenCase
 use Rattle.study_text.specs.declared.numbers.Row.{Row}
 use Rattle.study_text.specs.declared.numbers.Row.TheVariants as RowCase
-use Rattle.study_text.specs.Packing.{reportOf, Got, got, stop}
+use Rattle.study_text.specs.Packing.{report_of, Got, got, stop}
 
 -- a number, or what is wrong with it
 abbrev pub given_of : Given → Got ℕ
 given_of (GivenCase.Number x c) = got x c
-given_of (GivenCase.Stopped p) = stop (reportOf p)
+given_of (GivenCase.Stopped p) = stop (report_of p)
 
 -- the numbers stand in the lent row
 abbrev pub read_of : Row → List ℕ → Got (List ℕ)
 read_of (RowCase.Read c) row = got row c
-read_of (RowCase.Stopped p) row = stop (reportOf p)
+read_of (RowCase.Stopped p) row = stop (report_of p)

@@ -1,12 +1,12 @@
 // The calls that a text makes: Open and Minima from its head, then an Enter for each tide; a measured tide comes in without one.
 ghost use Rattle.std.specs.Prelude.{◌≡◌, ◌≤◌, length};
-ghost use Rattle.study.specs.Limits.{maxTides, tableSize};
-ghost use Rattle.validity.specs.Memory.{state_of, contentsOf, entryState, exitState};
+ghost use Rattle.study.specs.Limits.{max_tides, table_size};
+ghost use Rattle.validity.specs.Memory.{state_of, contents_of, entry_state, exit_state};
 ghost use Rattle.access.specs.Passed.{Passed};
-ghost use Rattle.study_text.specs.Packing.{minimaFrom, openingOf, minimaOf, head_of, tideOf, entered, turn_of, turnsOf, text_of, going};
+ghost use Rattle.study_text.specs.Packing.{minima_from, opening_of, minima_of, head_of, tide_of, entered, turn_of, turns_of, text_of, going};
 ghost use Rattle.text_words.specs.Words.{CursorWithin};
-ghost use Rattle.study_text.specs.Reached.{Held, Took, Reaches, Begins, Finishes, stoppedAt, after_call};
-ghost use Rattle.narrowing.specs.Narrowing.{narrowMinima};
+ghost use Rattle.study_text.specs.Reached.{Held, Took, Reaches, Begins, Finishes, stopped_at, after_call};
+ghost use Rattle.narrowing.specs.Narrowing.{narrow_minima};
 
 use crate::measured::measure;
 use crate::numbers::{Given, Row, number, read_row};
@@ -48,7 +48,7 @@ pub struct Finished {
 
 // No more is read.
 fn stopped(why: Packed, dataset: Dataset, cursor: Cursor) -> Reached
-    ensures { result ≡ stoppedAt why dataset cursor }
+    ensures { result ≡ stopped_at why dataset cursor }
 {
     let step = Step::Over(Over::Stopped(why));
     Reached {
@@ -77,8 +77,8 @@ fn called(outcome: Outcome, cursor: Cursor) -> Reached
 // k.
 fn read_open(text: &[u8], distances: &mut [u32], settings: &mut [u8], from: Cursor) -> Reached
     requires cursor_within { CursorWithin text.now from }
-    requires table_size_in_bounds { (tableSize ≤ length distances.old) × (maxTides ≤ length settings.old) }
-    ensures { Begins text.now result distances.new settings.new (openingOf text.now from) }
+    requires table_size_in_bounds { (table_size ≤ length distances.old) × (max_tides ≤ length settings.old) }
+    ensures { Begins text.now result distances.new settings.new (opening_of text.now from) }
 {
     let minima = Minima {
         b0: 1,
@@ -99,7 +99,7 @@ fn read_open(text: &[u8], distances: &mut [u32], settings: &mut [u8], from: Curs
 
 // b0, and the b's, each as a byte.
 fn minima_of(xs: [u32; 9]) -> Minima
-    ensures { result ≡ narrowMinima (minimaFrom xs) }
+    ensures { result ≡ narrow_minima (minima_from xs) }
 {
     let b = [
         narrow(xs[1]),
@@ -127,7 +127,7 @@ fn read_minima(
 ) -> Reached
     requires { CursorWithin text.now from × Passed (state_of dataset distances.now settings.now) }
     ensures { Reaches Rule.Entered text.now result distances.now settings.now
-        (entered (minimaOf text.now (contentsOf (entryState dataset distances settings)) from)) }
+        (entered (minima_of text.now (contents_of (entry_state dataset distances settings)) from)) }
 {
     let mut xs = [0u32; 9];
     let n = dataset.k as usize + 1;
@@ -151,8 +151,8 @@ fn take_tide(
     row: &[u32],
 ) -> Outcome
     requires { Held rule (state_of dataset distances.old settings.old) }
-    ensures { Took rule (entryState dataset distances settings) setting row.now
-        result.answer (exitState result.dataset distances settings) }
+    ensures { Took rule (entry_state dataset distances settings) setting row.now
+        result.answer (exit_state result.dataset distances settings) }
 {
     match rule {
         Rule::Entered => enter(dataset, distances, settings, narrow(setting), row),
@@ -171,9 +171,9 @@ fn read_tide(
     setting: u32,
     from: Cursor,
 ) -> Reached
-    requires { CursorWithin text.now from × Held rule (state_of dataset distances.old settings.old) × (maxTides ≤ length row.old) }
+    requires { CursorWithin text.now from × Held rule (state_of dataset distances.old settings.old) × (max_tides ≤ length row.old) }
     ensures { Reaches rule text.now result distances.new settings.new
-        (entered (tideOf rule text.now (contentsOf (entryState dataset distances settings)) setting from)) }
+        (entered (tide_of rule text.now (contents_of (entry_state dataset distances settings)) setting from)) }
 {
     let n = dataset.n;
     let read = read_row(text, from, &mut row[..n]);
@@ -196,9 +196,9 @@ fn next_tide(
     row: &mut [u32],
     from: Cursor,
 ) -> Reached
-    requires { CursorWithin text.now from × Held rule (state_of dataset distances.old settings.old) × (maxTides ≤ length row.old) }
+    requires { CursorWithin text.now from × Held rule (state_of dataset distances.old settings.old) × (max_tides ≤ length row.old) }
     ensures { Reaches rule text.now result distances.new settings.new
-        (turn_of rule text.now (contentsOf (entryState dataset distances settings)) from) }
+        (turn_of rule text.now (contents_of (entry_state dataset distances settings)) from) }
 {
     let word = next(text, from);
     match word {
@@ -228,8 +228,8 @@ fn read_tides(
     row: &mut [u32],
     from: Cursor,
 ) -> Finished
-    requires cursor_within { CursorWithin text.now from × Held rule (state_of empty distances.old settings.old) × (maxTides ≤ length row.old) }
-    requires text_value { turnsOf rule text.now empty.n (entered (head_of text.now)) ≡ going (contentsOf (state_of empty distances.old settings.old)) from }
+    requires cursor_within { CursorWithin text.now from × Held rule (state_of empty distances.old settings.old) × (max_tides ≤ length row.old) }
+    requires text_value { turns_of rule text.now empty.n (entered (head_of text.now)) ≡ going (contents_of (state_of empty distances.old settings.old)) from }
     ensures { Finishes rule result distances.new settings.new (text_of rule text.now) }
 {
     let mut dataset = empty;
@@ -256,7 +256,7 @@ fn read_tides(
 // Open and Minima.
 fn read_head(text: &[u8], distances: &mut [u32], settings: &mut [u8]) -> Reached
     requires text_len_bound { length text.now ≤ 131072 }
-    requires table_size_in_bounds { (tableSize ≤ length distances.old) × (maxTides ≤ length settings.old) }
+    requires table_size_in_bounds { (table_size ≤ length distances.old) × (max_tides ≤ length settings.old) }
     ensures { Begins text.now result distances.new settings.new (head_of text.now) }
 {
     let first = Cursor { at: 0, line: 1 };
@@ -273,7 +273,7 @@ fn read_head(text: &[u8], distances: &mut [u32], settings: &mut [u8]) -> Reached
 // The whole text.
 pub fn read_text(text: &[u8], rule: Rule, distances: &mut [u32], settings: &mut [u8]) -> Finished
     requires text_len_bound { length text.now ≤ 131072 }
-    requires table_size_in_bounds { (tableSize ≤ length distances.old) × (maxTides ≤ length settings.old) }
+    requires table_size_in_bounds { (table_size ≤ length distances.old) × (max_tides ≤ length settings.old) }
     ensures { Finishes rule result distances.new settings.new (text_of rule text.now) }
 {
     let head = read_head(text, distances, settings);

@@ -9,8 +9,8 @@ mod measured;
 mod numbers;
 
 ghost use Rattle.std.specs.Prelude.{◌≡◌, length};
-ghost use Rattle.study_text.specs.Packing.{reportOf, packAnswer, packLeaves, answered, written};
-ghost use Rattle.study_text.specs.Reached.{Live, finishedOf};
+ghost use Rattle.study_text.specs.Packing.{report_of, pack_answer, pack_leaves, answered, written};
+ghost use Rattle.study_text.specs.Reached.{Live, finished_of};
 
 // How a text's tides come in: by Enter; or as measured, where the triangle inequality may fail and a tide may be a duplicate.
 #[derive(Drop)]
@@ -36,8 +36,8 @@ pub enum Packed {
 // The study that the text ended with, written.
 fn write_study(end: Finished, distances: &[u32], settings: &[u8], file: &mut [u8]) -> Packed
     requires { Live Rule.Entered end distances.now settings.now }
-    ensures told { reportOf result ≡ answered (finishedOf end distances.now settings.now) (length file.old) }
-    ensures leaves { file.new ≡ written (finishedOf end distances.now settings.now) file.old }
+    ensures told { report_of result ≡ answered (finished_of end distances.now settings.now) (length file.old) }
+    ensures leaves { file.new ≡ written (finished_of end distances.now settings.now) file.old }
 {
     let over = end.over;
     let dataset = end.dataset;
@@ -55,8 +55,8 @@ fn write_study(end: Finished, distances: &[u32], settings: &[u8], file: &mut [u8
 
 // The text's study file over the front of the lent bytes; those past it stay, and all of them where there is no file.
 pub fn pack(text: &[u8], file: &mut [u8]) -> Packed
-    ensures told { reportOf result ≡ packAnswer text.now (length file.old) }
-    ensures leaves { file.new ≡ packLeaves text.now file.old }
+    ensures told { report_of result ≡ pack_answer text.now (length file.old) }
+    ensures leaves { file.new ≡ pack_leaves text.now file.old }
 {
     if 131072 < text.len() {
         return Packed::TooLong(whole_lines(text));

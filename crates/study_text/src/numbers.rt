@@ -1,6 +1,6 @@
 // Numbers that the text must have next.
 ghost use Rattle.std.specs.Prelude.{◌≡◌, length};
-ghost use Rattle.study_text.specs.Packing.{number_of, numbersOf};
+ghost use Rattle.study_text.specs.Packing.{number_of, numbers_of};
 ghost use Rattle.study_text.specs.Steps.{given_of, read_of};
 ghost use Rattle.text_words.specs.Words.{CursorWithin};
 
@@ -40,7 +40,7 @@ pub fn number(text: &[u8], from: Cursor) -> Given
 // As many numbers as the row is long; the row is free where something stops the reading.
 pub fn read_row(text: &[u8], from: Cursor, row: &mut [u32]) -> Row
     requires { CursorWithin text.now from }
-    ensures { read_of result row.new ≡ numbersOf text.now (length row.old) from }
+    ensures { read_of result row.new ≡ numbers_of text.now (length row.old) from }
 {
     let mut cursor = from;
     let mut i: usize = 0;

@@ -44,7 +44,7 @@ use denote.Slice.{slice_val, slice_ty, Room, ShrSlice, MutSlice, finally, shr_sl
 use denote.Steps.{owned, peeks, nothing, only}
 use denote.Array.{Array, each, array_val, Array-repeat, Array-Lawful, array_vals}
 use denote.Shadow.{shadow}
-use denote.Struct.Struct.{Plains, layout as struct-layout}
+use denote.Struct.Struct.{Plains, layout as struct_layout}
 use denote.Struct.Declared as DD
 use denote.Struct.Laws as LL
 use denote.Triple.Statement.{Contract, Triple}
@@ -61,25 +61,25 @@ use Rattle.study.specs.contracts.Dataset as S
 use Rattle.study.proofs.Dataset.TheLaws as S'
 use Rattle.study.specs.contracts.BlockRecord as T
 use Rattle.study.proofs.BlockRecord.TheLaws as T'
-use Rattle.blocking.proofs.Arguments.{R, dataset-val, slice-val, OwnV, OwnW, twice, typed-dataset}
-use Rattle.blocking.proofs.Walks.{full, promise, reads, returns-from, asks_nothing, frees_all, table, known, walk-proves}
-use Rattle.blocking.proofs.ArrayLent.{InLocal, lends-array, array_back}
+use Rattle.blocking.proofs.Arguments.{R, dataset_val, slice_val_of, OwnV, OwnW, twice, typed_dataset}
+use Rattle.blocking.proofs.Walks.{full, promise, reads, returns_from, asks_nothing, frees_all, table, known, walk_proves}
+use Rattle.blocking.proofs.ArrayLent.{InLocal, lends_array, array_back}
 use Rattle.blocking.proofs.LentRecords.{PlainType}
 
 -- ---- the records
 
 -- each record as it is lent (`KNOWN`), and its machine value
-abbrev lent-record : BlockRecord
-lent-record = record { centre = 91; tides = 92; diameter = 93 }
+abbrev lent_record : BlockRecord
+lent_record = record { centre = 91; tides = 92; diameter = 93 }
 
-unfoldable lent-records : List BlockRecord
-lent-records = replicate 6 lent-record
+unfoldable lent_records : List BlockRecord
+lent_records = replicate 6 lent_record
 
 abbrev mach₀ : Val
-mach₀ = T'.lowered lent-record
+mach₀ = T'.lowered lent_record
 
-is₀ : Is R lent-record (mach₀ ∷ [])
-is₀ = LL.owes T.the_type T'.the_laws lent-record ((refl, lit< tt), ((refl, lit< tt), ((refl, lit< tt), tt)))
+is₀ : Is R lent_record (mach₀ ∷ [])
+is₀ = LL.owes T.the_type T'.the_laws lent_record ((refl, lit< tt), ((refl, lit< tt), ((refl, lit< tt), tt)))
 
 room : Room R 6
 room = (lit< tt, lit< tt)
@@ -89,15 +89,15 @@ abbrev whole_val : List BlockRecord → Val
 whole_val ws = only (array_vals (LL.vals T.the_type T'.the_laws) ws)
 
 -- an array of records, as a field of a struct has it
-each-into : (ys : List BlockRecord) (us : List Val) → shadow (each R.Denot R.own ys us)
+each_into : (ys : List BlockRecord) (us : List Val) → shadow (each R.Denot R.own ys us)
     → shadow (each (T.the_field).row.Denot (T.the_field).row.own_val (map (T.the_field).into ys) us)
-each-into [] [] s = tt
-each-into [] (u ∷ us) s = absurd s
-each-into (y ∷ ys) [] s = absurd s
-each-into (y ∷ ys) (u ∷ us) s = (s.0, each-into ys us s.1)
+each_into [] [] s = tt
+each_into [] (u ∷ us) s = absurd s
+each_into (y ∷ ys) [] s = absurd s
+each_into (y ∷ ys) (u ∷ us) s = (s.0, each_into ys us s.1)
 
-pub array-into : (n : ℕ) (ys : List BlockRecord) (vs : List Val) → Is (Array R n) ys vs → Is (Array (T.the_field).row n) (map (T.the_field).into ys) vs
-array-into n ys vs p = (p.0, ((p.1.0.0, length-map ys (T.the_field).into ∙ p.1.0.1), each-into ys p.0 p.1.1))
+pub array_into : (n : ℕ) (ys : List BlockRecord) (vs : List Val) → Is (Array R n) ys vs → Is (Array (T.the_field).row n) (map (T.the_field).into ys) vs
+array_into n ys vs p = (p.0, ((p.1.0.0, length-map ys (T.the_field).into ∙ p.1.0.1), each_into ys p.0 p.1.1))
 
 -- ---- what differs from call to call
 
@@ -113,7 +113,7 @@ pub record Returned : Type 2 where
   pub laws : LL.Laws E
   pub facts : Plains (DD.fields E)
   pub returned : Q.row.Denot → List BlockRecord → E.D
-  pub laid : struct-layout (DD.shape E) ≡ ty_struct E.name (tcons Q.mir (tcons (ty_array T'.mir 6) tnil))
+  pub laid : struct_layout (DD.shape E) ≡ ty_struct E.name (tcons Q.mir (tcons (ty_array T'.mir 6) tnil))
   pub is_made : (r : Q.row.Denot) (ws : List BlockRecord) (u m : Val) → Is Q.row r (u ∷ []) → Is (Array R 6) ws (m ∷ [])
       → Is (DD.row E) (returned r ws) (made u m ∷ [])
 
@@ -121,8 +121,8 @@ module _ (P : Returned) where
   abbrev D : RattleType
   D = DD.row P.E
 
-  abbrev mir-d : Ty
-  mir-d = ty_struct P.E.name (tcons P.Q.mir (tcons (ty_array T'.mir 6) tnil))
+  abbrev mir_d : Ty
+  mir_d = ty_struct P.E.name (tcons P.Q.mir (tcons (ty_array T'.mir 6) tnil))
 
   abbrev u32s : {n : ℕ} → Slot n
   u32s = plain (λ _. u32)
@@ -135,8 +135,8 @@ module _ (P : Returned) where
 
   -- ---- the call's contract, and the function's, which says nothing
 
-  abbrev pub call-ended : Ended
-  call-ended = record {
+  abbrev pub call_ended : Ended
+  call_ended = record {
     signature = record {
       lifetimes = 4;
       outlives = [];
@@ -159,10 +159,10 @@ module _ (P : Returned) where
   }
 
   abbrev Says : {M : Type 1} → Ura M → Type 2
-  Says 𝓤 = (κs : Lfts 4) → Args call-ended.signature κs → Unit {0} → Res call-ended.signature κs → AtExit call-ended κs → SProp 𝓤
+  Says 𝓤 = (κs : Lfts 4) → Args call_ended.signature κs → Unit {0} → Res call_ended.signature κs → AtExit call_ended κs → SProp 𝓤
 
-  abbrev pub call-clauses : {M : Type 1} (𝓤 : Ura M) → Says 𝓤 → Clauses 𝓤 call-ended
-  call-clauses 𝓤 says κs a = record { ghost = Unit {0}; requires = λ g. emp 𝓤; ensures = says κs a }
+  abbrev pub call_clauses : {M : Type 1} (𝓤 : Ura M) → Says 𝓤 → Clauses 𝓤 call_ended
+  call_clauses 𝓤 says κs a = record { ghost = Unit {0}; requires = λ g. emp 𝓤; ensures = says κs a }
 
   abbrev pub clauses : {M : Type 1} (𝓤 : Ura M) → Clauses 𝓤 ended
   clauses 𝓤 κs a = record { ghost = Unit {0}; requires = λ g. emp 𝓤; ensures = λ g r e. emp 𝓤 }
@@ -185,7 +185,7 @@ module _ (P : Returned) where
       lifetimes = 3;
       outlives = [];
       params = 4;
-      locals = holds mir-d ∷ holds S'.mir ∷ holds (slice_ty (ty_ref (named 0) imm (ty_int w32))) ∷ holds (slice_ty (ty_ref (named 1) imm (ty_int w8)))
+      locals = holds mir_d ∷ holds S'.mir ∷ holds (slice_ty (ty_ref (named 0) imm (ty_int w32))) ∷ holds (slice_ty (ty_ref (named 1) imm (ty_int w8)))
           ∷ holds (slice_ty (ty_ref (named 2) mut (ty_int w8))) ∷ holds T'.mir ∷ local (ty_array T'.mir 6) memory_slot ∷ holds P.Q.mir
           ∷ holds (ty_ref erased mut (ty_int w8)) ∷ holds (slice_ty (ty_ref erased mut (ty_int w8)))
           ∷ holds (ty_ref erased mut (ty_array (pointee R.written) 6)) ∷ holds (slice_ty (ty_ref erased mut (pointee R.written)))
@@ -206,7 +206,7 @@ module _ (P : Returned) where
   -- ---- the walk
 
   abbrev pub Called : {M : Type 1} {𝓤 : Ura M} (𝓛 : Logic 𝓤) → Says 𝓤 → Contract 𝓤
-  Called {𝓤 = 𝓤} 𝓛 says = promise 𝓛 call-ended (call-clauses 𝓤 says)
+  Called {𝓤 = 𝓤} 𝓛 says = promise 𝓛 call_ended (call_clauses 𝓤 says)
 
   module _ {M : Type 1} {𝓤 : Ura M} (𝓛 : Logic 𝓤) (says : Says 𝓤)
       (κ₀ κ₁ κ₂ : Lft) (q₀ q₁ q₂ : Share) (d : Dataset) (v w l : Bor (List ℕ)) where
@@ -214,16 +214,16 @@ module _ (P : Returned) where
     open 𝓛 use {H, A}
 
     abbrev sd : Val
-    sd = dataset-val d
+    sd = dataset_val d
 
     abbrev sv : Val
-    sv = slice-val v
+    sv = slice_val_of v
 
     abbrev sw : Val
-    sw = slice-val w
+    sw = slice_val_of w
 
     abbrev sl : Val
-    sl = slice-val l
+    sl = slice_val_of l
 
     abbrev Arg : Type 0
     Arg = Dataset × (Bor (List ℕ) × (Bor (List ℕ) × (Bor (List ℕ) × Unit {0})))
@@ -245,7 +245,7 @@ module _ (P : Returned) where
 
     -- the slice of the local array at b, lent for ν under the name γ
     abbrev x : ℕ → GName → MutBor (List BlockRecord)
-    x b γ = record { ref_ptr = (b, 0); ghost_name = γ; now = lent-records }
+    x b γ = record { ref_ptr = (b, 0); ghost_name = γ; now = lent_records }
 
     abbrev sx : ℕ → Val
     sx b = slice_val (b, 0) 6
@@ -254,8 +254,8 @@ module _ (P : Returned) where
     OwnX ν b γ = (MutSlice (named 3) (ν ∷ []) R).own_val (x b γ) (sx b ∷ [])
 
     -- the call
-    abbrev to-call : ℕ → ℕ → GName → (Called 𝓛 says).Ghost
-    to-call ν b γ = (
+    abbrev to_call : ℕ → ℕ → GName → (Called 𝓛 says).Ghost
+    to_call ν b γ = (
       (
         (κ₀, (κ₁, (κ₂, (ν ∷ [], tt)))),
         (q₀, (q₁, (q₂, (full_share, tt)))),
@@ -267,7 +267,7 @@ module _ (P : Returned) where
     )
 
     apart : (ν b : ℕ) (γ : GName) → ent 𝓤 (sep 𝓤 Entry (sep 𝓤 (A.lft (ν ∷ []) full_share) (sem 𝓛 (OwnX ν b γ))))
-        (sep 𝓤 ((Called 𝓛 says).pre (to-call ν b γ)) (sep 𝓤 (sem 𝓛 (OwnV κ₀ v)) (sem 𝓛 (OwnW κ₁ w))))
+        (sep 𝓤 ((Called 𝓛 says).pre (to_call ν b γ)) (sep 𝓤 (sem 𝓛 (OwnV κ₀ v)) (sem 𝓛 (OwnW κ₁ w))))
     apart ν b γ =
         qed 𝓛 (((‵ (flft κ₀ q₀) ⊛ (‵ (flft κ₁ q₁) ⊛ (‵ (flft κ₂ q₂) ⊛ ‵ ftrue)))
         ⊛ ‵ (owns (S.the_row ∷ ShrSlice (named 0) κ₀ u32 ∷ ShrSlice (named 1) κ₁ u8 ∷ MutSlice (named 2) κ₂ u8 ∷ []) a vals))
@@ -280,7 +280,7 @@ module _ (P : Returned) where
         move ! (3 ∷ []) $ split ! $ move ! (1 ∷ []) $ split ! $ move ! (1 ∷ []) $ split ! $
         -- [κ₂; true; κ₁; κ₀; what the call owns; settings; distances; ν]
         move ! (7 ∷ 1 ∷ []) $ join ! $ move ! (1 ∷ 0 ∷ []) $ join ! $ move ! (1 ∷ 0 ∷ []) $ join ! $ move ! (1 ∷ 0 ∷ []) $ join ! $
-        use2 𝓛 (raw ((Called 𝓛 says).pre (to-call ν b γ))) (asks_nothing 𝓤 _) $ frame ! $ move ! (1 ∷ 0 ∷ []) $ done !
+        use2 𝓛 (raw ((Called 𝓛 says).pre (to_call ν b γ))) (asks_nothing 𝓤 _) $ frame ! $ move ! (1 ∷ 0 ∷ []) $ done !
 
     exits : (r : P.Q.row.Denot) (zs : List ℕ) (ws : List BlockRecord) (u m : Val) → length zs ≡ length l.now → Is S.the_row d (sd ∷ [])
         → Is D (P.returned r ws) (made u m ∷ [])
@@ -297,36 +297,36 @@ module _ (P : Returned) where
         owned ! D (Is D) ((LL.makes P.E P.facts) 𝓛) (P.returned r ws) _ is $ done !
 
     -- what lies in the locals is of their types
-    typed-array : (ys : List BlockRecord) (m : Val) → Is (Array R 6) ys (m ∷ []) → Holds (has_ty (ty_array T'.mir 6) m) × WT m
-    typed-array ys m is = ((Array-Lawful 𝓛 R (LL.lawful T.the_type T'.the_laws 𝓛) 6).typed ys _ is).0
+    typed_array : (ys : List BlockRecord) (m : Val) → Is (Array R 6) ys (m ∷ []) → Holds (has_ty (ty_array T'.mir 6) m) × WT m
+    typed_array ys m is = ((Array-Lawful 𝓛 R (LL.lawful T.the_type T'.the_laws 𝓛) 6).typed ys _ is).0
 
-    typed-made : (r : P.E.D) (u : Val) → Is D r (u ∷ []) → Holds (has_ty mir-d u) × WT u
-    typed-made r u is = subst (λ (τ : Ty). Holds (has_ty τ u) × WT u) P.laid ((LL.lawful P.E P.laws 𝓛).typed r _ is).0
+    typed_made : (r : P.E.D) (u : Val) → Is D r (u ∷ []) → Holds (has_ty mir_d u) × WT u
+    typed_made r u is = subst (λ (τ : Ty). Holds (has_ty τ u) × WT u) P.laid ((LL.lawful P.E P.laws 𝓛).typed r _ is).0
 
     -- the local array
-    fills : ent 𝓤 (emp 𝓤) (sem 𝓛 ((Array R 6).own_val lent-records (array_val (replicate 6 mach₀) ∷ [])))
-    unfolding lent-records
-    fills = qed 𝓛 [] ∵ owned ! R (Is R) ((LL.makes T.the_type T'.the_plain) 𝓛) lent-record (mach₀ ∷ []) is₀ $
-        by ! (Array-repeat 𝓛 R (LL.copy T.the_type T'.the_copy 𝓛) 6 lent-record mach₀)
+    fills : ent 𝓤 (emp 𝓤) (sem 𝓛 ((Array R 6).own_val lent_records (array_val (replicate 6 mach₀) ∷ [])))
+    unfolding lent_records
+    fills = qed 𝓛 [] ∵ owned ! R (Is R) ((LL.makes T.the_type T'.the_plain) 𝓛) lent_record (mach₀ ∷ []) is₀ $
+        by ! (Array-repeat 𝓛 R (LL.copy T.the_type T'.the_copy 𝓛) 6 lent_record mach₀)
 
-    module _ (CALL : Name) (𝓣 : Tables 𝓤 H) (known-call : Triple 𝓤 (𝓣.C CALL) (Called 𝓛 says)) where
+    module _ (CALL : Name) (𝓣 : Tables 𝓤 H) (known_call : Triple 𝓤 (𝓣.C CALL) (Called 𝓛 says)) where
       walk : Is S.the_row d (sd ∷ []) → Is (ShrSlice (named 0) κ₀ u32) v (sv ∷ []) → Is (ShrSlice (named 1) κ₁ u8) w (sw ∷ [])
           → Is (MutSlice (named 2) κ₂ u8) l (sl ∷ []) → ent 𝓤 Entry (WpFn 𝓤 H 𝓣.C 𝓣.Λ (function CALL) (sd ∷ sv ∷ sw ∷ sl ∷ []) Post)
       walk gd gv gw gl =
           qed 𝓛 (raw Entry ∷ []) ∵ enter ! 𝓣.C 𝓣.Λ (function CALL) (sd ∷ sv ∷ sw ∷ sl ∷ []) _ $
           alloc1 ! (λ l₀. alloc1 ! (λ l₁. alloc1 ! (λ l₂. alloc1 ! (λ l₃. alloc1 ! (λ l₄. alloc1 ! (λ l₅. alloc1 ! (λ l₆. alloc1 ! (λ l₇.
           alloc1 ! (λ l₈. alloc1 ! (λ l₉. alloc1 ! (λ l₁₀. alloc1 ! (λ l₁₁. alloc1 ! (λ l₁₂. alloc0 ! $ params1 ! $
-          pass1 ! (init ! 22 refl (typed-dataset 𝓛 d sd gd)) $
+          pass1 ! (init ! 22 refl (typed_dataset 𝓛 d sd gd)) $
           pass1 ! (init ! 20 refl ((shr_slice_Lawful 𝓛 (named 0) κ₀ u32).typed v _ gv).0) $
           pass1 ! (init ! 18 refl ((shr_slice_Lawful 𝓛 (named 1) κ₁ u8).typed w _ gw).0) $
           pass1 ! (init ! 16 refl ((mut_slice_Lawful 𝓛 (named 2) κ₂ u8).typed l _ gl).0) $ pass0 ! $
           -- [_12; …; _11; …; …; _1; …; room for _0; …; what there is on entry]
           assigns ! (agg ! (and_then ! (lit ! tt) (and_then ! (lit ! tt) (and_then ! (lit ! tt) (no_more !))))) (from ! (stop !))
-          (init ! 14 refl ((LL.lawful T.the_type T'.the_laws 𝓛).typed lent-record _ is₀).0) $
-          use0 𝓛 (‵ ((Array R 6).own_val lent-records (array_val (replicate 6 mach₀) ∷ []))) fills $
-          peeks ! (Array R 6) (Is (Array R 6)) (shows 𝓛 (Array R 6)) lent-records (array_val (replicate 6 mach₀) ∷ []) (λ is_a.
+          (init ! 14 refl ((LL.lawful T.the_type T'.the_laws 𝓛).typed lent_record _ is₀).0) $
+          use0 𝓛 (‵ ((Array R 6).own_val lent_records (array_val (replicate 6 mach₀) ∷ []))) fills $
+          peeks ! (Array R 6) (Is (Array R 6)) (shows 𝓛 (Array R 6)) lent_records (array_val (replicate 6 mach₀) ∷ []) (λ is_a.
           -- [what the array owns; _12; …]
-          assigns ! (rep ! 6 (reads ! 15 refl)) (from ! (stop !)) (init ! 13 refl (typed-array lent-records _ is_a)) $
+          assigns ! (rep ! 6 (reads ! 15 refl)) (from ! (stop !)) (init ! 13 refl (typed_array lent_records _ is_a)) $
           assigns ! (addr ! (from ! (fld ! refl (hop ! (look_in ! 17 (sub ! 0 refl (whole !))) (stop !))))) (from ! (stop !)) (init ! 9 refl (tt, tt)) $
           assigns ! (agg ! (and_then ! (reads ! 9 refl) (and_then ! (load ! (from ! (fld ! refl (stop !))) (look_in ! 17 (sub ! 1 refl (whole !))))
           (no_more !)))) (from ! (stop !)) (init ! 7 refl (tt, (tt, (record { fits = gl.0.1.0 }, tt)))) $
@@ -337,12 +337,12 @@ module _ (P : Returned) where
           move ! (13 ∷ 0 ∷ []) $ use1 𝓛 (‵ (fat full_share (raw_ty (ty_array T'.mir 6)) l₆ 0 (array_val (replicate 6 mach₀))))
           (𝓛.laws.at_raw full_share (ty_array T'.mir 6) l₆ 0 (array_val (replicate 6 mach₀))) $ fjoin ! $ lft_new ! tt (λ ν. move ! (1 ∷ []) $
           use1 𝓛 (later (some (λ (γ : GName). ‵ (OwnX ν l₆ γ) ⊛ ‵ (flent (ν ∷ []) (Held R 6 l₆ 0 γ)))))
-          (lends-array R 6 l₆ 𝓛 tt (named 3) (ν ∷ []) lent-records (array_val (replicate 6 mach₀) ∷ []) room) $ await ! tt $ pick ! (λ γ. split ! $
+          (lends_array R 6 l₆ 𝓛 tt (named 3) (ν ∷ []) lent_records (array_val (replicate 6 mach₀) ∷ []) room) $ await ! tt $ pick ! (λ γ. split ! $
           -- [records; the lender's part; ν; _12; …; the entry at 28]
-          move ! (28 ∷ 2 ∷ 0 ∷ []) $ use3 𝓛 (raw ((Called 𝓛 says).pre (to-call ν l₆ γ)) ⊛ (‵ (OwnV κ₀ v) ⊛ ‵ (OwnW κ₁ w))) (apart ν l₆ γ) $
+          move ! (28 ∷ 2 ∷ 0 ∷ []) $ use3 𝓛 (raw ((Called 𝓛 says).pre (to_call ν l₆ γ)) ⊛ (‵ (OwnV κ₀ v) ⊛ ‵ (OwnW κ₁ w))) (apart ν l₆ γ) $
           split ! $ move ! (1 ∷ []) $ split ! $ move ! (2 ∷ 0 ∷ 1 ∷ []) $
           -- [the call's pre; distances; settings; the lender's part; _12; …; of _6 only that it is freed]
-          returns-from ! (fm_of 𝓤 H 𝓛.laws 𝓣) call-ended (call-clauses 𝓤 says) known-call (to-call ν l₆ γ)
+          returns_from ! (fm_of 𝓤 H 𝓛.laws 𝓣) call_ended (call_clauses 𝓤 says) known_call (to_call ν l₆ γ)
           (and_then ! (reads ! 25 refl) (and_then ! (reads ! 23 refl) (and_then ! (reads ! 21 refl) (and_then ! (reads ! 10 refl)
           (and_then ! (reads ! 6 refl) (no_more !)))))) (λ u r zs.
           drop ! $ fsplit ! $ drop ! $ fsplit ! $ drop ! $ fsplit ! $ drop ! $ fsplit ! $ fsplit ! $ move ! (1 ∷ []) $ feq_l ! (λ long.
@@ -361,13 +361,13 @@ module _ (P : Returned) where
           move ! (1 ∷ 0 ∷ []) $ use1 𝓛 (‵ (fat full_share (ty_array T'.mir 6) l₆ 0 (whole_val ws)))
           (𝓛.laws.raw_at full_share (ty_array T'.mir 6) l₆ 0 (whole_val ws)) $
           -- [_6; what it owns; true; κ₂; κ₁; κ₀; true; the list's last list; distances; settings; _12; …]
-          let isR = P.is_made r ws u (whole_val ws) is isW in
-          assigns ! (of_opd ! (reads ! 0 refl)) (from ! (stop !)) (init ! 10 refl (typed-array ws (whole_val ws) isW)) $
+          let is_r = P.is_made r ws u (whole_val ws) is isW in
+          assigns ! (of_opd ! (reads ! 0 refl)) (from ! (stop !)) (init ! 10 refl (typed_array ws (whole_val ws) isW)) $
           assigns ! (agg ! (and_then ! (reads ! 20 refl) (and_then ! (reads ! 10 refl) (no_more !)))) (from ! (stop !))
-          (init ! 33 refl (typed-made (P.returned r ws) (made u (whole_val ws)) isR)) $
+          (init ! 33 refl (typed_made (P.returned r ws) (made u (whole_val ws)) is_r)) $
           returns ! (look ! 33 refl) $ move ! (iota 1 21) $ frees_all ! 9 (full _ ∷ full _ ∷ full _ ∷ full _ ∷ full _ ∷ full _ ∷ full _ ∷ full _
           ∷ full _ ∷ full _ ∷ full _ ∷ full _ ∷ full _ ∷ []) tt refl $
-          keep ! (2 ∷ 3 ∷ 4 ∷ 6 ∷ 7 ∷ 8 ∷ []) $ by ! (exits r zs.1.1.1.0 ws u (whole_val ws) long gd isR))))))))))))))))))))))
+          keep ! (2 ∷ 3 ∷ 4 ∷ 6 ∷ 7 ∷ 8 ∷ []) $ by ! (exits r zs.1.1.1.0 ws u (whole_val ws) long gd is_r))))))))))))))))))))))
 
   module _ {M : Type 1} {𝓤 : Ura M} (𝓛 : Logic 𝓤) where
     open 𝓛 use {H}
@@ -380,7 +380,7 @@ module _ (P : Returned) where
 
     walks : (says : Says 𝓤) (CALL : Name) (𝓣 : Tables 𝓤 H) → Triple 𝓤 (𝓣.C CALL) (Called 𝓛 says)
         → Walks 𝓛 ended stayed (WpFn 𝓤 H 𝓣.C 𝓣.Λ (function CALL)) (clauses 𝓤)
-    walks says CALL 𝓣 known-call = walked 𝓛 ended stayed (clauses 𝓤) (WpFn 𝓤 H 𝓣.C 𝓣.Λ (function CALL))
+    walks says CALL 𝓣 known_call = walked 𝓛 ended stayed (clauses 𝓤) (WpFn 𝓤 H 𝓣.C 𝓣.Λ (function CALL))
         (λ κs. (LL.vals S.the_type S'.the_laws, (shr_slice_vals, (shr_slice_vals, (shr_slice_vals, tt)))))
         (λ κs. (
           LL.tells S.the_type S'.the_laws,
@@ -388,15 +388,15 @@ module _ (P : Returned) where
         ))
         (λ κs qs bounds a g are. via 𝓤 _ (fst∗ 𝓤 _ (emp 𝓤)) (walk 𝓛 says κs.0 κs.1.0 κs.1.1.0
         qs.0 qs.1.0 qs.1.1.0 a.0 a.1.0 a.1.1.0 a.1.1.1.0
-        CALL 𝓣 known-call are.0 are.1.0 are.1.1.0 are.1.1.1.0))
+        CALL 𝓣 known_call are.0 are.1.0 are.1.1.0 are.1.1.1.0))
 
   -- γ says which routine each name means: NAME the function, CALL the call
   module _ {M : Type 1} {𝓤 : Ura M} (𝓛 : Logic 𝓤) (𝓜 : Model 𝓤 𝓛.H) (𝓡 : Running 𝓤 𝓛.H 𝓜) (γ : Routines) where
     open 𝓛 use {H}
 
-    pub six-lent : (NAME CALL : Name) → Closed 𝓤 H (tables 𝓤 H 𝓜 𝓡 γ).C (tables 𝓤 H 𝓜 𝓡 γ).Λ NAME (function CALL)
+    pub six_lent : (NAME CALL : Name) → Closed 𝓤 H (tables 𝓤 H 𝓜 𝓡 γ).C (tables 𝓤 H 𝓜 𝓡 γ).Λ NAME (function CALL)
         → (says : Says 𝓤) (callee : Routine) → γ CALL ≡ callee → Triple 𝓤 (𝓡.run callee) (Called 𝓛 says)
         → Meets 𝓛 ended.signature (𝓡.run (γ NAME)) (closing 𝓛 ended (clauses 𝓤))
-    six-lent NAME CALL closed says callee is-callee met =
-        walk-proves 𝓛 𝓜 𝓡 γ ended stayed (goes 𝓛) (clauses 𝓤) NAME (function CALL) closed
-        (walks 𝓛 says CALL (table 𝓤 H 𝓜 𝓡 γ) (known 𝓛 𝓜 𝓡 γ call-ended (call-clauses 𝓤 says) CALL callee is-callee met))
+    six_lent NAME CALL closed says callee is-callee met =
+        walk_proves 𝓛 𝓜 𝓡 γ ended stayed (goes 𝓛) (clauses 𝓤) NAME (function CALL) closed
+        (walks 𝓛 says CALL (table 𝓤 H 𝓜 𝓡 γ) (known 𝓛 𝓜 𝓡 γ call_ended (call_clauses 𝓤 says) CALL callee is-callee met))

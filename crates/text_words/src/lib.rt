@@ -1,8 +1,8 @@
 // The words of a text, one after the other: runs of bytes other than space, tab, line end and `#`, which begins a comment to its
 // line's end.
 ghost use Rattle.std.specs.Prelude.{◌≡◌, false, ◌+◌, ◌≤◌, ◌<◌, length, drop};
-ghost use Rattle.text_words.specs.Words.{newline, newlines, endsWord, begins, commentAfter, digit, withDigit};
-ghost use Rattle.text_words.specs.Words.{start_of, word_of, numeralOf, next_of, CursorWithin, capped};
+ghost use Rattle.text_words.specs.Words.{newline, newlines, ends_word, begins, comment_after, digit, with_digit};
+ghost use Rattle.text_words.specs.Words.{start_of, word_of, numeral_of, next_of, CursorWithin, capped};
 
 // A place in the text, and its line, from 1.
 #[derive(Drop)]
@@ -57,7 +57,7 @@ pub fn whole_lines(text: &[u8]) -> usize
 
 // A byte that ends a word.
 fn ends_word(b: u8) -> bool
-    ensures { result ≡ endsWord b }
+    ensures { result ≡ ends_word b }
 {
     if b == b' ' {
         return true;
@@ -86,7 +86,7 @@ fn begins(comment: bool, b: u8) -> bool
 
 // Whether the place after this byte is in a comment.
 fn comment_after(comment: bool, b: u8) -> bool
-    ensures { result ≡ commentAfter comment b }
+    ensures { result ≡ comment_after comment b }
 {
     if b == b'\n' {
         return false;
@@ -145,7 +145,7 @@ fn is_digit(b: u8) -> bool
 // One more digit; what is too large stays at 4,294,967,296.
 fn with_digit(value: u64, b: u8) -> u64
     requires { (value ≤ 4294967296) × (48 ≤ b) × (b < 256) }
-    ensures { result ≡ capped (withDigit value b) }
+    ensures { result ≡ capped (with_digit value b) }
 {
     let next = value * 10 + (b - b'0') as u64;
     if next < 4294967296 {
@@ -156,7 +156,7 @@ fn with_digit(value: u64, b: u8) -> u64
 
 // What a word says.
 fn numeral_of(word: &[u8]) -> Numeral
-    ensures { result ≡ numeralOf word.now }
+    ensures { result ≡ numeral_of word.now }
 {
     let mut value: u64 = 0;
     let mut i: usize = 0;

@@ -5,25 +5,25 @@ use mathlib.Core.List.Memᴰ.{head as here}
 use mathlib.Core.List.Memᴰ.{tail as there}
 use mathlib.Core.List.{flat_map}
 use Rattle.lists.specs.Lists.{◌among◌, iota, filter, is_empty}
-use Rattle.lists.proofs.Members.{range-mem}
+use Rattle.lists.proofs.Members.{range_mem}
 use Rattle.study.specs.Limits.{cell}
 use Rattle.study.specs.Refusals.{seven}
-use Rattle.study.specs.Calls.{triangle, Pair, violations, firstViolation}
+use Rattle.study.specs.Calls.{triangle, Pair, violations, first_violation}
 use Rattle.triangle.specs.declared.Violation.{Violation}
 use Rattle.triangle.specs.declared.Violation.TheVariants as ViolationCase
-use Rattle.triangle.specs.Pairs.{violationOf}
+use Rattle.triangle.specs.Pairs.{violation_of}
 
-pub found_nothing : (ps : List Pair) → violationOf ps ≡ ViolationCase.Nothing → is_empty ps ≡ true
+pub found_nothing : (ps : List Pair) → violation_of ps ≡ ViolationCase.Nothing → is_empty ps ≡ true
 found_nothing [] e = refl
 found_nothing (p ∷ ps) e = let z : ◌≡◌ {A = ℕ} 0 1 = cc in absurd (omega arith)
 
-pub nothing-found : (ps : List Pair) → T (is_empty ps) → ViolationCase.Nothing ≡ violationOf ps
-nothing-found [] t = refl
-nothing-found (p ∷ ps) t = absurd t
+pub nothing_found : (ps : List Pair) → T (is_empty ps) → ViolationCase.Nothing ≡ violation_of ps
+nothing_found [] t = refl
+nothing_found (p ∷ ps) t = absurd t
 
-pub found-pair : (ps : List Pair) (i j : ℕ) → violationOf ps ≡ ViolationCase.Pair i j → (is_empty ps ≡ false) × (firstViolation ps ≡ seven i j)
-found-pair [] i j e = let z : ◌≡◌ {A = ℕ} 0 1 = cc in absurd (omega arith)
-found-pair (p ∷ ps) i j e = (refl, cc)
+pub found_pair : (ps : List Pair) (i j : ℕ) → violation_of ps ≡ ViolationCase.Pair i j → (is_empty ps ≡ false) × (first_violation ps ≡ seven i j)
+found_pair [] i j e = let z : ◌≡◌ {A = ℕ} 0 1 = cc in absurd (omega arith)
+found_pair (p ∷ ps) i j e = (refl, cc)
 
 -- ---- turn by turn, of a row against the distances in memory
 
@@ -45,46 +45,46 @@ module _ (d row : List ℕ) where
   after i k = flat_map (λ i. with i (iota (suc i) (n - suc i))) (iota i k)
 
   -- the violations whose lower tide is i or later
-  unfoldable pub pairsFrom : ℕ → List Pair
-  pairsFrom i = after i (n - i)
+  unfoldable pub pairs_from : ℕ → List Pair
+  pairs_from i = after i (n - i)
 
   -- those of i with j or a later tide, and then those after i
-  unfoldable pub pairsAt : ℕ → ℕ → List Pair
-  pairsAt i j = with i (iota j (n - j)) ++ pairsFrom (suc i)
+  unfoldable pub pairs_at : ℕ → ℕ → List Pair
+  pairs_at i j = with i (iota j (n - j)) ++ pairs_from (suc i)
 
-  pub violation-starts : violations (cell d) n (λ i. get_or row i 0) ≡ pairsFrom 0
-  unfolding violations pairsFrom
-  violation-starts = let e : n ≡ n - 0 = omega arith in ap (after 0) e
+  pub violation_starts : violations (cell d) n (λ i. get_or row i 0) ≡ pairs_from 0
+  unfolding violations pairs_from
+  violation_starts = let e : n ≡ n - 0 = omega arith in ap (after 0) e
 
-  pub violation-enters : (i : ℕ) → i < n → pairsFrom i ≡ pairsAt i (i + 1)
-  unfolding pairsFrom pairsAt flat_map
-  violation-enters i l = let e : n - i ≡ suc (n - suc i) = omega arith in rw (add-one i) (ap (after i) e)
+  pub violation_enters : (i : ℕ) → i < n → pairs_from i ≡ pairs_at i (i + 1)
+  unfolding pairs_from pairs_at flat_map
+  violation_enters i l = let e : n - i ≡ suc (n - suc i) = omega arith in rw (add-one i) (ap (after i) e)
 
   -- tide j comes first among those that are left
   at_j : (i j : ℕ) → j < n → (b : Bool) → violates? i j ≡ b
-      → pairsAt i j ≡ pairs i (let r = filter (violates? i) (iota (suc j) (n - suc j)) in cond b (j ∷ r) r) ++ pairsFrom (suc i)
-  unfolding pairsAt
+      → pairs_at i j ≡ pairs i (let r = filter (violates? i) (iota (suc j) (n - suc j)) in cond b (j ∷ r) r) ++ pairs_from (suc i)
+  unfolding pairs_at
   at_j i j l b q =
       let e : n - j ≡ suc (n - suc j) = omega arith in
-      ap (λ (k : ℕ). with i (iota j k) ++ pairsFrom (suc i)) e
-      ∙ ap (λ b. pairs i (let r = filter (violates? i) (iota (suc j) (n - suc j)) in cond b (j ∷ r) r) ++ pairsFrom (suc i)) q
+      ap (λ (k : ℕ). with i (iota j k) ++ pairs_from (suc i)) e
+      ∙ ap (λ b. pairs i (let r = filter (violates? i) (iota (suc j) (n - suc j)) in cond b (j ∷ r) r) ++ pairs_from (suc i)) q
 
-  pub violation-passes : (i j : ℕ) → j < n → violates? i j ≡ false → pairsAt i j ≡ pairsAt i (j + 1)
-  unfolding pairsAt
-  violation-passes i j l q = rw (add-one j) (at_j i j l false q)
+  pub violation_passes : (i j : ℕ) → j < n → violates? i j ≡ false → pairs_at i j ≡ pairs_at i (j + 1)
+  unfolding pairs_at
+  violation_passes i j l q = rw (add-one j) (at_j i j l false q)
 
-  pub violation-finds : (i j : ℕ) → j < n → violates? i j ≡ true → ViolationCase.Pair (i + 1) (j + 1) ≡ violationOf (pairsAt i j)
-  violation-finds i j l q = rw (add-one i, add-one j) (sym (ap violationOf (at_j i j l true q)))
+  pub violation_finds : (i j : ℕ) → j < n → violates? i j ≡ true → ViolationCase.Pair (i + 1) (j + 1) ≡ violation_of (pairs_at i j)
+  violation_finds i j l q = rw (add-one i, add-one j) (sym (ap violation_of (at_j i j l true q)))
 
-  pub violation-leaves : (i j : ℕ) → n ≤ j → pairsAt i j ≡ pairsFrom (i + 1)
-  unfolding pairsAt
-  violation-leaves i j l =
+  pub violation_leaves : (i j : ℕ) → n ≤ j → pairs_at i j ≡ pairs_from (i + 1)
+  unfolding pairs_at
+  violation_leaves i j l =
       let e : n - j ≡ 0 = omega arith in
-      rw (add-one i) (ap (λ (k : ℕ). with i (iota j k) ++ pairsFrom (suc i)) e)
+      rw (add-one i) (ap (λ (k : ℕ). with i (iota j k) ++ pairs_from (suc i)) e)
 
-  pub violation-ends : (i : ℕ) → n ≤ i → ViolationCase.Nothing ≡ violationOf (pairsFrom i)
-  unfolding pairsFrom flat_map
-  violation-ends i l = let e : n - i ≡ 0 = omega arith in sym (ap (λ (k : ℕ). violationOf (after i k)) e)
+  pub violation_ends : (i : ℕ) → n ≤ i → ViolationCase.Nothing ≡ violation_of (pairs_from i)
+  unfolding pairs_from flat_map
+  violation_ends i l = let e : n - i ≡ 0 = omega arith in sym (ap (λ (k : ℕ). violation_of (after i k)) e)
 
 -- ---- the same distances have the same violations
 
@@ -93,21 +93,21 @@ filter_same p q [] f = refl
 filter_same p q (x ∷ xs) f =
     ap₂ (λ b l. cond b (x ∷ l) l) (f x (here refl)) (filter_same p q xs (λ y m. f y (there m)))
 
-flatMap-same : {A B : Type 0} (f g : A → List B) (xs : List A) → ((x : A) → x among xs → f x ≡ g x) → flat_map f xs ≡ flat_map g xs
+flat_map_same : {A B : Type 0} (f g : A → List B) (xs : List A) → ((x : A) → x among xs → f x ≡ g x) → flat_map f xs ≡ flat_map g xs
 unfolding flat_map
-flatMap-same f g [] h = refl
-flatMap-same f g (x ∷ xs) h = ap₂ (λ u v. u ++ v) (h x (here refl)) (flatMap-same f g xs (λ y m. h y (there m)))
+flat_map_same f g [] h = refl
+flat_map_same f g (x ∷ xs) h = ap₂ (λ u v. u ++ v) (h x (here refl)) (flat_map_same f g xs (λ y m. h y (there m)))
 
-pub violations-same : (dist dist' : ℕ → ℕ → ℕ) (n : ℕ) (new new' : ℕ → ℕ) → ((i j : ℕ) → i < n → j < n → dist i j ≡ dist' i j)
+pub violations_same : (dist dist' : ℕ → ℕ → ℕ) (n : ℕ) (new new' : ℕ → ℕ) → ((i j : ℕ) → i < n → j < n → dist i j ≡ dist' i j)
     → ((i : ℕ) → i < n → new i ≡ new' i) → violations dist n new ≡ violations dist' n new'
 unfolding violations
-violations-same dist dist' n new new' e f =
-    flatMap-same _ _ (iota 0 n) (λ i m.
-    let a = range-mem 0 n m in
+violations_same dist dist' n new new' e f =
+    flat_map_same _ _ (iota 0 n) (λ i m.
+    let a = range_mem 0 n m in
     let l : i < n = omega arith in
     ap (map (λ j. record { lower = i; upper = j }))
     (filter_same _ _ (iota (suc i) (n - suc i)) (λ j k.
-    let b = range-mem (suc i) (n - suc i) k in
+    let b = range_mem (suc i) (n - suc i) k in
     let q : j < n = omega arith in
     rw (e i j l q, f i l, f j q))))
 
@@ -125,12 +125,12 @@ module _ (d : List ℕ) (t : ℕ) (fits : 14400 ≤ length d) (held : t < 120) w
       let k : i < t * 120 + t - t * 120 = omega arith in
       get_or-take (t * 120 + t - t * 120) (drop (t * 120) d) i 0 k ∙ get_or-drop (t * 120) d i 0
 
-  pub part-violations : violations (cell d) (length (row_in d t)) (λ i. get_or (row_in d t) i 0) ≡ violations (cell d) t (cell d t)
-  part-violations =
+  pub part_violations : violations (cell d) (length (row_in d t)) (λ i. get_or (row_in d t) i 0) ≡ violations (cell d) t (cell d t)
+  part_violations =
       ap (λ (k : ℕ). violations (cell d) k (λ i. get_or (row_in d t) i 0)) part_length
-      ∙ violations-same (cell d) (cell d) t (λ i. get_or (row_in d t) i 0) (cell d t) (λ i j a b. refl) part_at
+      ∙ violations_same (cell d) (cell d) t (λ i. get_or (row_in d t) i 0) (cell d t) (λ i j a b. refl) part_at
 
   -- what the search finds for that part, it finds for tide t
-  pub part-found : {r : Violation} → r ≡ violationOf (violations (cell d) (length (row_in d t)) (λ i. get_or (row_in d t) i 0))
-      → r ≡ violationOf (violations (cell d) t (cell d t))
-  part-found e = e ∙ ap violationOf part-violations
+  pub part_found : {r : Violation} → r ≡ violation_of (violations (cell d) (length (row_in d t)) (λ i. get_or (row_in d t) i 0))
+      → r ≡ violation_of (violations (cell d) t (cell d t))
+  part_found e = e ∙ ap violation_of part_violations

@@ -5,10 +5,10 @@ use Rattle.lists.proofs.Tests.{split}
 use Rattle.study.specs.Limits.{cell}
 use Rattle.study.specs.Calls.{violations}
 use Rattle.study.specs.Triangle.{Triangle}
-use Rattle.study.proofs.TriangleLaws.{obeyed-of}
+use Rattle.study.proofs.TriangleLaws.{obeyed_of}
 use Rattle.triangle.specs.Prefilter.{SmallTriple, TripleFlags, RowFlags, Obeys, SmallRow}
-use Rattle.triangle.specs.Pairs.{violationOf}
-use Rattle.triangle.proofs.PairLaws.{nothing-found}
+use Rattle.triangle.specs.Pairs.{violation_of}
+use Rattle.triangle.proofs.PairLaws.{nothing_found}
 use Rattle.triangle.specs.declared.Violation.TheVariants as ViolationCase
 
 -- ---- one triple
@@ -47,8 +47,8 @@ module _ (x y z apart : ℕ) (hx : x < 4294967296) (hy : y < 4294967296) (hz : z
   within_b b h e f =
       record { rest = b; turns = (apart + z) / 4294967296 + 1 - (y + apart) / 4294967296; small = h; is = omega arith }
 
-  within-c : (c : ℕ) → c < 2147483648 → (apart + z) % 4294967296 ≡ x → (c + apart) % 4294967296 ≡ y → Excesses x y z
-  within-c c h e f =
+  within_c : (c : ℕ) → c < 2147483648 → (apart + z) % 4294967296 ≡ x → (c + apart) % 4294967296 ≡ y → Excesses x y z
+  within_c c h e f =
       record { rest = c; turns = (c + apart) / 4294967296 + 1 - (apart + z) / 4294967296; small = h; is = omega arith }
 
   -- where none has its top bit, there is no flag, and the inequality holds
@@ -57,7 +57,7 @@ module _ (x y z apart : ℕ) (hx : x < 4294967296) (hy : y < 4294967296) (hz : z
   no_flag both {a} {b} {c} e f p q r ha hb hc =
       let A = within_a both a ha f p in
       let B = within_b b hb e q in
-      let C = within-c c hc e r in
+      let C = within_c c hc e r in
       record {
         first = unwrapped hx hy hz C A B;
         second = unwrapped hy hx hz A C (turned B);
@@ -66,33 +66,33 @@ module _ (x y z apart : ℕ) (hx : x < 4294967296) (hy : y < 4294967296) (hz : z
 
   -- where it holds of distances of 20 bits, each is a sum less a distance that does not exceed it
   module _ (S : SmallTriple x y z) (R : Triangle x y z) where
-    clear-a : (both a : ℕ) → a < 4294967296 → both ≡ (x + z) % 4294967296 → (a + y) % 4294967296 ≡ both → a < 2147483648
-    clear-a both a h e f = omega (arith, S.first, S.second, S.third, R.second)
+    clear_a : (both a : ℕ) → a < 4294967296 → both ≡ (x + z) % 4294967296 → (a + y) % 4294967296 ≡ both → a < 2147483648
+    clear_a both a h e f = omega (arith, S.first, S.second, S.third, R.second)
 
-    clear-b : (b : ℕ) → (apart + z) % 4294967296 ≡ x → b ≡ (y + apart) % 4294967296 → b < 2147483648
-    clear-b b e f = omega (arith, S.first, S.second, S.third, R.third)
+    clear_b : (b : ℕ) → (apart + z) % 4294967296 ≡ x → b ≡ (y + apart) % 4294967296 → b < 2147483648
+    clear_b b e f = omega (arith, S.first, S.second, S.third, R.third)
 
-    clear-c : (c : ℕ) → c < 4294967296 → (apart + z) % 4294967296 ≡ x → (c + apart) % 4294967296 ≡ y → c < 2147483648
-    clear-c c h e f = omega (arith, S.first, S.second, S.third, R.first)
+    clear_c : (c : ℕ) → c < 4294967296 → (apart + z) % 4294967296 ≡ x → (c + apart) % 4294967296 ≡ y → c < 2147483648
+    clear_c c h e f = omega (arith, S.first, S.second, S.third, R.first)
 
   -- so their top bits are the flags
-  pub triple-is : (both : ℕ) {a b c p q r : ℕ} → a < 4294967296 → c < 4294967296 → (apart + z) % 4294967296 ≡ x → both ≡ (x + z) % 4294967296
+  pub triple_is : (both : ℕ) {a b c p q r : ℕ} → a < 4294967296 → c < 4294967296 → (apart + z) % 4294967296 ≡ x → both ≡ (x + z) % 4294967296
       → (a + y) % 4294967296 ≡ both → b ≡ (y + apart) % 4294967296 → (c + apart) % 4294967296 ≡ y → Top a p → Top b q → Top c r → TripleFlags x y z (p + q + r)
-  triple-is both {a} {b} {c} ha hc e f ea eb ec A B C =
+  triple_is both {a} {b} {c} ha hc e f ea eb ec A B C =
       record {
         few = omega (arith, A.0, B.0, C.0);
         rule = λ n. no_flag both e f ea eb ec (A.1 (omega arith)) (B.1 (omega arith)) (C.1 (omega arith));
-        clear = λ S R. omega (arith, A.2 (clear-a S R both a ha f ea), B.2 (clear-b S R b e eb), C.2 (clear-c S R c hc e ec));
+        clear = λ S R. omega (arith, A.2 (clear_a S R both a ha f ea), B.2 (clear_b S R b e eb), C.2 (clear_c S R c hc e ec));
       }
 
 -- ---- a tide at y from one tide, and at a row's distances from others, which are at a line's from that one
 
 module _ {line row : List ℕ} {y : ℕ} where
-  pub flags-none : RowFlags line y row 0 0
-  flags-none = record { few = omega arith; rule = λ e i l. absurd (omega arith); clear = λ S R. omega arith }
+  pub flags_none : RowFlags line y row 0 0
+  flags_none = record { few = omega arith; rule = λ e i l. absurd (omega arith); clear = λ S R. omega arith }
 
-  pub flags-more : {j total v : ℕ} → RowFlags line y row j total → TripleFlags (get_or line j 0) y (get_or row j 0) v → RowFlags line y row (j + 1) (total + v)
-  flags-more {j} {total} {v} D E =
+  pub flags_more : {j total v : ℕ} → RowFlags line y row j total → TripleFlags (get_or line j 0) y (get_or row j 0) v → RowFlags line y row (j + 1) (total + v)
+  flags_more {j} {total} {v} D E =
       record {
         few = omega (arith, D.few, E.few);
         rule = λ e i l.
@@ -102,8 +102,8 @@ module _ {line row : List ℕ} {y : ℕ} where
             omega (arith, D.clear (λ i l. S i (omega arith)) (λ i l. R i (omega arith)), E.clear (S j (omega arith)) (R j (omega arith)));
       }
 
-  pub flags-done : {j n total : ℕ} → j ≤ n → n ≤ j → RowFlags line y row j total → RowFlags line y row n total
-  flags-done {j} {n} {total} a b D = let e : j ≡ n = omega arith in subst (λ z. RowFlags line y row z total) e D
+  pub flags_done : {j n total : ℕ} → j ≤ n → n ≤ j → RowFlags line y row j total → RowFlags line y row n total
+  flags_done {j} {n} {total} a b D = let e : j ≡ n = omega arith in subst (λ z. RowFlags line y row z total) e D
 
 -- ---- a row, tide by tide
 
@@ -111,8 +111,8 @@ module _ (d row : List ℕ) where
   abbrev n : ℕ
   n = length row
 
-  pub obeys-none : Obeys d row 0
-  obeys-none = record { rule = λ u v a b c. absurd (omega arith) }
+  pub obeys_none : Obeys d row 0
+  obeys_none = record { rule = λ u v a b c. absurd (omega arith) }
 
   -- the parts that the code tests, from tide i + 1 on
   abbrev line : ℕ → List ℕ
@@ -121,8 +121,8 @@ module _ (d row : List ℕ) where
   abbrev rest : ℕ → List ℕ
   rest i = take (n - (i + 1)) (drop (i + 1) row)
 
-  rest-length : (i : ℕ) → length (rest i) ≡ n - (i + 1)
-  rest-length i = simp (length-take, length-drop) (omega arith)
+  rest_length : (i : ℕ) → length (rest i) ≡ n - (i + 1)
+  rest_length i = simp (length-take, length-drop) (omega arith)
 
   line_at : (i j : ℕ) → i + 1 + j < n → get_or (line i) j 0 ≡ cell d i (i + 1 + j)
   line_at i j l =
@@ -133,9 +133,9 @@ module _ (d row : List ℕ) where
   rest_at : (i j : ℕ) → i + 1 + j < n → get_or (rest i) j 0 ≡ get_or row (i + 1 + j) 0
   rest_at i j l = get_or-take (n - (i + 1)) (drop (i + 1) row) j 0 (omega arith) ∙ get_or-drop (i + 1) row j 0
 
-  pub obeys-more : {i total : ℕ} → Obeys d row i → i < n → RowFlags (line i) (get_or row i 0) (rest i) (length (rest i)) total → total ≤ 0
+  pub obeys_more : {i total : ℕ} → Obeys d row i → i < n → RowFlags (line i) (get_or row i 0) (rest i) (length (rest i)) total → total ≤ 0
       → Obeys d row (i + 1)
-  obeys-more {i} {total} U l D h =
+  obeys_more {i} {total} U l D h =
       record {
         rule = λ u v a b c.
             ⊎_elim (λ k. U.rule u v k b c)
@@ -148,25 +148,25 @@ module _ (d row : List ℕ) where
           let j : ℕ = v - (i + 1) in
           let q : i + 1 + j ≡ v = omega arith in
           subst (λ z. Triangle (cell d i z) (get_or row i 0) (get_or row z 0)) q
-          (rw (← line_at i j (omega arith), ← rest_at i j (omega arith)) (D.rule (omega arith) j (omega (arith, rest-length i))))
+          (rw (← line_at i j (omega arith), ← rest_at i j (omega arith)) (D.rule (omega arith) j (omega (arith, rest_length i))))
 
-  pub obeys-all : {i : ℕ} → n ≤ i → Obeys d row i → Obeys d row n
-  obeys-all {i} l U = record { rule = λ u v a b c. U.rule u v (omega arith) b c }
+  pub obeys_all : {i : ℕ} → n ≤ i → Obeys d row i → Obeys d row n
+  obeys_all {i} l U = record { rule = λ u v a b c. U.rule u v (omega arith) b c }
 
   -- where every distance has 20 bits and the inequality holds, no part raises a flag
-  pub obeys-clear : {i total : ℕ} → SmallRow d row → Obeys d row n → i < n → RowFlags (line i) (get_or row i 0) (rest i) (length (rest i)) total
+  pub obeys_clear : {i total : ℕ} → SmallRow d row → Obeys d row n → i < n → RowFlags (line i) (get_or row i 0) (rest i) (length (rest i)) total
       → total ≡ 0
-  obeys-clear {i} {total} S U l D =
+  obeys_clear {i} {total} S U l D =
       D.clear
-      (λ j k. let m : i + 1 + j < n = omega (arith, rest-length i) in
+      (λ j k. let m : i + 1 + j < n = omega (arith, rest_length i) in
       record {
         first = omega (arith, line_at i j m, S.others i (i + 1 + j) (omega arith) m);
         second = S.own i l;
         third = omega (arith, rest_at i j m, S.own (i + 1 + j) m);
       })
-      (λ j k. let m : i + 1 + j < n = omega (arith, rest-length i) in
+      (λ j k. let m : i + 1 + j < n = omega (arith, rest_length i) in
       rw (line_at i j m, rest_at i j m) (U.rule i (i + 1 + j) l (omega arith) m))
 
-  pub obeys-found : Obeys d row n → ViolationCase.Nothing ≡ violationOf (violations (cell d) n (λ i. get_or row i 0))
-  obeys-found U =
-      nothing-found (violations (cell d) n (λ i. get_or row i 0)) (obeyed-of (cell d) n (λ i. get_or row i 0) (λ u v a b. U.rule u v (omega arith) a b))
+  pub obeys_found : Obeys d row n → ViolationCase.Nothing ≡ violation_of (violations (cell d) n (λ i. get_or row i 0))
+  obeys_found U =
+      nothing_found (violations (cell d) n (λ i. get_or row i 0)) (obeyed_of (cell d) n (λ i. get_or row i 0) (λ u v a b. U.rule u v (omega arith) a b))

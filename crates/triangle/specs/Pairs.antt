@@ -5,6 +5,6 @@ use Rattle.triangle.specs.declared.Violation.{Violation}
 use Rattle.triangle.specs.declared.Violation.TheVariants as ViolationCase
 
 -- the first of these pairs, its tides numbered from 1; nothing where there is none
-abbrev pub violationOf : List Pair → Violation
-violationOf [] = ViolationCase.Nothing
-violationOf (p ∷ ps) = ViolationCase.Pair (suc p.lower) (suc p.upper)
+abbrev pub violation_of : List Pair → Violation
+violation_of [] = ViolationCase.Nothing
+violation_of (p ∷ ps) = ViolationCase.Pair (suc p.lower) (suc p.upper)

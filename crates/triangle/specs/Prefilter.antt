@@ -2,16 +2,16 @@
 -- wherever it does. A row without flags is spared the search for a violation. Statements only; their laws are in PrefilterLaws.
 -- Assumes nothing.
 use Rattle.std.specs.Prelude.{◌≡◌, ℕ, ◌*◌, ◌<◌, ◌≤◌, List, length, slice_index}
-use Rattle.study.specs.Limits.{cell, maxDistance}
+use Rattle.study.specs.Limits.{cell, max_distance}
 use Rattle.study.specs.Triangle.{Triangle}
 
 -- ---- one triple
 
 -- three distances of 20 bits
 pub record SmallTriple (x y z : ℕ) : Type 0 where
-  pub first : x ≤ maxDistance
-  pub second : y ≤ maxDistance
-  pub third : z ≤ maxDistance
+  pub first : x ≤ max_distance
+  pub second : y ≤ max_distance
+  pub third : z ≤ max_distance
 
 -- how many flags three distances raise
 pub record TripleFlags (x y z total : ℕ) : Type 0 where
@@ -41,5 +41,5 @@ pub record Obeys (d row : List ℕ) (i : ℕ) : Type 0 where
 
 -- all these distances have 20 bits
 pub record SmallRow (d row : List ℕ) : Type 0 where
-  pub own : (u : ℕ) → u < length row → slice_index row u ≤ maxDistance
-  pub others : (u v : ℕ) → u < v → v < length row → cell d u v ≤ maxDistance
+  pub own : (u : ℕ) → u < length row → slice_index row u ≤ max_distance
+  pub others : (u v : ℕ) → u < v → v < length row → cell d u v ≤ max_distance

@@ -1,8 +1,8 @@
 // The triangle inequality at one more tide: the first pair of earlier tides with which it violates it.
 ghost use Rattle.std.specs.Prelude.{◌≡◌, ◌<◌, ◌≤◌, true, not, length, slice_index};
-ghost use Rattle.study.specs.Limits.{maxTides, tableSize, cell};
+ghost use Rattle.study.specs.Limits.{max_tides, table_size, cell};
 ghost use Rattle.study.specs.Calls.{triangle, violations};
-ghost use Rattle.triangle.specs.Pairs.{violationOf};
+ghost use Rattle.triangle.specs.Pairs.{violation_of};
 ghost use Rattle.triangle.specs.Prefilter.{TripleFlags, RowFlags, Obeys, SmallRow};
 
 use std::num::{wrapping_add_u32, wrapping_sub_u32};
@@ -58,7 +58,7 @@ fn triple_flags(x: u32, y: u32, z: u32) -> u32
 // one: none only where it obeys the triangle inequality with each of them; where every distance has 20 bits, wherever it does.
 fn row_flags(line: &[u32], y: u32, row: &[u32]) -> u32
     requires row_in_bounds { length row.now ≤ length line.now }
-    requires row_len_bound { length row.now ≤ maxTides }
+    requires row_len_bound { length row.now ≤ max_tides }
     ensures { RowFlags line.now y row.now (length row.now) result }
 {
     let n = row.len();
@@ -74,8 +74,8 @@ fn row_flags(line: &[u32], y: u32, row: &[u32]) -> u32
 // Whether a tide at the row's distances raises no flag. True only where it obeys the triangle inequality with every pair; where every
 // distance has 20 bits, wherever it does. A row without flags is spared the search.
 fn prefilter(distances: &[u32], row: &[u32]) -> bool
-    requires table_size_in_bounds { tableSize ≤ length distances.now }
-    requires row_len_bound { length row.now ≤ maxTides }
+    requires table_size_in_bounds { table_size ≤ length distances.now }
+    requires row_len_bound { length row.now ≤ max_tides }
     ensures rule { result ≡ true → Obeys distances.now row.now (length row.now) }
     ensures clear { SmallRow distances.now row.now
         → Obeys distances.now row.now (length row.now) → result ≡ true }
@@ -94,9 +94,9 @@ fn prefilter(distances: &[u32], row: &[u32]) -> bool
 
 // The first pair that violates the triangle inequality with a tide at the row's distances, by a test of pair after pair.
 fn find_violation(distances: &[u32], row: &[u32]) -> Violation
-    requires table_size_in_bounds { tableSize ≤ length distances.now }
-    requires row_len_bound { length row.now ≤ maxTides }
-    ensures { result ≡ violationOf (violations (cell distances.now) (length row.now) (λ i. slice_index row.now i)) }
+    requires table_size_in_bounds { table_size ≤ length distances.now }
+    requires row_len_bound { length row.now ≤ max_tides }
+    ensures { result ≡ violation_of (violations (cell distances.now) (length row.now) (λ i. slice_index row.now i)) }
 {
     let n = row.len();
     let mut found = Violation::Nothing;
@@ -120,9 +120,9 @@ fn find_violation(distances: &[u32], row: &[u32]) -> Violation
 // The first pair, in order of the lower number and then the higher, that violates the triangle inequality with a tide at the row's
 // distances.
 pub fn first_violation(distances: &[u32], row: &[u32]) -> Violation
-    requires table_size_in_bounds { tableSize ≤ length distances.now }
-    requires row_len_bound { length row.now ≤ maxTides }
-    ensures { result ≡ violationOf (violations (cell distances.now) (length row.now) (λ i. slice_index row.now i)) }
+    requires table_size_in_bounds { table_size ≤ length distances.now }
+    requires row_len_bound { length row.now ≤ max_tides }
+    ensures { result ≡ violation_of (violations (cell distances.now) (length row.now) (λ i. slice_index row.now i)) }
 {
     if prefilter(distances, row) {
         return Violation::Nothing;

@@ -1,10 +1,10 @@
 // Reason 21: whether a record and memory are a dataset. Each function is one test of specs/Memory.antt.
 // A dataset (document 01: book) is a record and lent memory: 14,400 distances in rows of 120, and 120 setting bytes.
 ghost use Rattle.std.specs.Prelude.{◌≡◌, true, false, cond, ◌≤◌, ◌<◌, leb, ltb, eqb, length, get_or};
-ghost use Rattle.lists.specs.Lists.{every, sumBelow};
-ghost use Rattle.study.specs.Limits.{maxTides, tableSize, maxDistance, maxSettings};
-ghost use Rattle.study.specs.Study.{validMinima};
-ghost use Rattle.validity.specs.Memory.{tooShort, validSetting, validPlace, validRow, isStudy, isDataset, entryState};
+ghost use Rattle.lists.specs.Lists.{every, sum_below};
+ghost use Rattle.study.specs.Limits.{max_tides, table_size, max_distance, max_settings};
+ghost use Rattle.study.specs.Study.{valid_minima};
+ghost use Rattle.validity.specs.Memory.{is_too_short, valid_setting, valid_place, valid_row, is_study, is_dataset, entry_state};
 
 use study::{
     Dataset, MAX_BLOCK_MINIMUM, MAX_DISTANCE, MAX_K, MAX_SETTINGS, MAX_TIDES, Minima, TABLE_SIZE,
@@ -21,7 +21,7 @@ fn byte(x: u8) -> usize
 // Place i of the settings of n tides.
 fn valid_setting(k: u8, n: usize, settings: &[u8], i: usize) -> bool
     requires { i < length settings.now }
-    ensures { result ≡ validSetting k n settings.now i }
+    ensures { result ≡ valid_setting k n settings.now i }
 {
     let x = settings[i];
     if n <= i {
@@ -35,8 +35,8 @@ fn valid_setting(k: u8, n: usize, settings: &[u8], i: usize) -> bool
 
 // All places of the settings.
 fn valid_settings(k: u8, n: usize, settings: &[u8]) -> bool
-    requires { maxTides ≤ length settings.now }
-    ensures { result ≡ every maxTides (validSetting k n settings.now) }
+    requires { max_tides ≤ length settings.now }
+    ensures { result ≡ every max_tides (valid_setting k n settings.now) }
 {
     let mut i: usize = 0;
     while i < MAX_TIDES {
@@ -50,9 +50,9 @@ fn valid_settings(k: u8, n: usize, settings: &[u8]) -> bool
 
 // Place j of row i of the distances of n tides.
 fn valid_place(n: usize, distances: &[u32], i: usize, j: usize) -> bool
-    requires table_size_in_bounds { tableSize ≤ length distances.now }
-    requires i_lt_max_tides { (i < maxTides) × (j < maxTides) }
-    ensures { result ≡ validPlace n distances.now i j }
+    requires table_size_in_bounds { table_size ≤ length distances.now }
+    requires i_lt_max_tides { (i < max_tides) × (j < max_tides) }
+    ensures { result ≡ valid_place n distances.now i j }
 {
     let x = distances[i * MAX_TIDES + j];
     if n <= i {
@@ -75,9 +75,9 @@ fn valid_place(n: usize, distances: &[u32], i: usize, j: usize) -> bool
 
 // Row i of the memory.
 fn valid_places(n: usize, distances: &[u32], i: usize) -> bool
-    requires table_size_in_bounds { tableSize ≤ length distances.now }
-    requires i_lt_max_tides { i < maxTides }
-    ensures { result ≡ every maxTides (validPlace n distances.now i) }
+    requires table_size_in_bounds { table_size ≤ length distances.now }
+    requires i_lt_max_tides { i < max_tides }
+    ensures { result ≡ every max_tides (valid_place n distances.now i) }
 {
     let mut j: usize = 0;
     while j < MAX_TIDES {
@@ -91,8 +91,8 @@ fn valid_places(n: usize, distances: &[u32], i: usize) -> bool
 
 // All rows of the memory.
 fn valid_distances(n: usize, distances: &[u32]) -> bool
-    requires { tableSize ≤ length distances.now }
-    ensures { result ≡ every maxTides (λ i. every maxTides (validPlace n distances.now i)) }
+    requires { table_size ≤ length distances.now }
+    ensures { result ≡ every max_tides (λ i. every max_tides (valid_place n distances.now i)) }
 {
     let mut i: usize = 0;
     while i < MAX_TIDES {
@@ -106,9 +106,9 @@ fn valid_distances(n: usize, distances: &[u32]) -> bool
 
 // Whether tide t obeys the triangle inequality with every pair before it: its row in memory is searched as Enter searches a new one.
 fn valid_row(distances: &[u32], t: usize) -> bool
-    requires table_size_in_bounds { tableSize ≤ length distances.now }
-    requires t_lt_max_tides { t < maxTides }
-    ensures { result ≡ validRow distances.now t }
+    requires table_size_in_bounds { table_size ≤ length distances.now }
+    requires t_lt_max_tides { t < max_tides }
+    ensures { result ≡ valid_row distances.now t }
 {
     let from = t * MAX_TIDES;
     let to = from + t;
@@ -121,9 +121,9 @@ fn valid_row(distances: &[u32], t: usize) -> bool
 
 // All rows of n tides.
 fn valid_rows(distances: &[u32], n: usize) -> bool
-    requires table_size_in_bounds { tableSize ≤ length distances.now }
-    requires n_le_max_tides { n ≤ maxTides }
-    ensures { result ≡ every n (validRow distances.now) }
+    requires table_size_in_bounds { table_size ≤ length distances.now }
+    requires n_le_max_tides { n ≤ max_tides }
+    ensures { result ≡ every n (valid_row distances.now) }
 {
     let mut t: usize = 0;
     while t < n {
@@ -137,7 +137,7 @@ fn valid_rows(distances: &[u32], n: usize) -> bool
 
 // A minimum of a setting above k is 0.
 fn zero_above(b: [u8; MAX_SETTINGS], k: u8, j: usize) -> bool
-    requires { j < maxSettings }
+    requires { j < max_settings }
     ensures { result ≡ cond (ltb j k) true (eqb (get_or b j 0) 0) }
 {
     let x = b[j];
@@ -150,7 +150,7 @@ fn zero_above(b: [u8; MAX_SETTINGS], k: u8, j: usize) -> bool
 
 // All minima of settings above k are 0.
 fn zeros_above(b: [u8; MAX_SETTINGS], k: u8) -> bool
-    ensures { result ≡ every maxSettings (λ j. cond (ltb j k) true (eqb (get_or b j 0) 0)) }
+    ensures { result ≡ every max_settings (λ j. cond (ltb j k) true (eqb (get_or b j 0) 0)) }
 {
     let mut j: usize = 0;
     while j < MAX_SETTINGS {
@@ -164,7 +164,7 @@ fn zeros_above(b: [u8; MAX_SETTINGS], k: u8) -> bool
 
 // The b's together, with room for all of them.
 pub fn sum_minima(b: [u8; MAX_SETTINGS]) -> usize
-    ensures { result ≡ sumBelow maxSettings (λ j. get_or b j 0) }
+    ensures { result ≡ sum_below max_settings (λ j. get_or b j 0) }
 {
     let mut total: usize = 0;
     let mut j: usize = 0;
@@ -177,7 +177,7 @@ pub fn sum_minima(b: [u8; MAX_SETTINGS]) -> usize
 
 // Reason 3 of Read, and Minima's of the record as it is understood.
 pub fn valid_minima(minima: Minima, k: u8) -> bool
-    ensures { result ≡ validMinima k minima }
+    ensures { result ≡ valid_minima k minima }
 {
     let b0 = minima.b0;
     let b = minima.b;
@@ -196,14 +196,14 @@ pub fn valid_minima(minima: Minima, k: u8) -> bool
 // One distance of a row.
 fn in_range(row: &[u32], i: usize) -> bool
     requires { i < length row.now }
-    ensures { result ≡ leb (get_or row.now i 0) maxDistance }
+    ensures { result ≡ leb (get_or row.now i 0) max_distance }
 {
     row[i] <= MAX_DISTANCE
 }
 
 // Whether every distance of a row is at most 1,048,575.
 pub fn row_in_range(row: &[u32]) -> bool
-    ensures { result ≡ every (length row.now) (λ i. leb (get_or row.now i 0) maxDistance) }
+    ensures { result ≡ every (length row.now) (λ i. leb (get_or row.now i 0) max_distance) }
 {
     let n = row.len();
     let mut i: usize = 0;
@@ -218,9 +218,9 @@ pub fn row_in_range(row: &[u32]) -> bool
 
 // Whether k, n, minima and memory, which is not short, are those of a study.
 pub fn is_study(dataset: Dataset, distances: &[u32], settings: &[u8]) -> bool
-    requires table_size_in_bounds { tableSize ≤ length distances.now }
-    requires max_tides_in_bounds { maxTides ≤ length settings.now }
-    ensures { result ≡ isStudy (entryState dataset distances settings) }
+    requires table_size_in_bounds { table_size ≤ length distances.now }
+    requires max_tides_in_bounds { max_tides ≤ length settings.now }
+    ensures { result ≡ is_study (entry_state dataset distances settings) }
 {
     let k = dataset.k;
     if k < 1 {
@@ -248,17 +248,17 @@ pub fn is_study(dataset: Dataset, distances: &[u32], settings: &[u8]) -> bool
 
 // Reason 21, of memory that is not short. Counts of 16 bits are in range, so the study decides.
 pub fn is_dataset(dataset: Dataset, distances: &[u32], settings: &[u8]) -> bool
-    requires table_size_in_bounds { tableSize ≤ length distances.now }
-    requires max_tides_in_bounds { maxTides ≤ length settings.now }
-    ensures { result ≡ isDataset (entryState dataset distances settings) }
+    requires table_size_in_bounds { table_size ≤ length distances.now }
+    requires max_tides_in_bounds { max_tides ≤ length settings.now }
+    ensures { result ≡ is_dataset (entry_state dataset distances settings) }
 {
     is_study(dataset, distances, settings)
 }
 
 // Reason 1 of every call: memory that has room for no dataset.
 pub fn is_short(distances: &[u32], settings: &[u8]) -> bool
-    ensures short { result ≡ tooShort distances.now settings.now }
-    ensures fits { result ≡ false → (tableSize ≤ length distances.now) × (maxTides ≤ length settings.now) }
+    ensures short { result ≡ is_too_short distances.now settings.now }
+    ensures fits { result ≡ false → (table_size ≤ length distances.now) × (max_tides ≤ length settings.now) }
 {
     if distances.len() < TABLE_SIZE {
         return true;

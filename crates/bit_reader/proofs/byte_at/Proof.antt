@@ -9,8 +9,8 @@ use Rattle.bit_reader.proofs.byte_at.Tie as tie
 returns : tie.Need-returns
 returns c = (sym (get_or-eq_default c.before.before.args.bytes.now 0 c.if1.true), omega arith)
 
-returns-2 : tie.Need-returns-2
-returns-2 c = search rules
+returns_2 : tie.Need-returns-2
+returns_2 c = search rules
 
-pub byte-at-spec : {M : Type 1} → statement M
-byte-at-spec = tie.close (tie.spec returns (λ c. search rules) (λ c κs. search rules) returns-2)
+pub byte_at_spec : {M : Type 1} → statement M
+byte_at_spec = tie.close (tie.spec returns (λ c. search rules) (λ c κs. search rules) returns_2)

@@ -8,14 +8,14 @@ use Rattle.bit_reader.proofs.long_enough.Tie as tie
 returns : tie.Need-returns
 returns c n here = sym (le-leb n _ (omega (arith, here.below, here.count)))
 
-returns-2 : tie.Need-returns-2
-returns-2 c n here = sym (lt-leb n _ (omega (arith, here.below, here.count)))
+returns_2 : tie.Need-returns-2
+returns_2 c n here = sym (lt-leb n _ (omega (arith, here.below, here.count)))
 
-returns-3 : tie.Need-returns-3
-returns-3 c n here = sym (le-leb n _ (omega (arith, here.count)))
+returns_3 : tie.Need-returns-3
+returns_3 c n here = sym (le-leb n _ (omega (arith, here.count)))
 
-returns-4 : tie.Need-returns-4
-returns-4 c n here = sym (lt-leb n _ (omega (arith, here.count)))
+returns_4 : tie.Need-returns-4
+returns_4 c n here = sym (lt-leb n _ (omega (arith, here.count)))
 
-pub long-enough-spec : {M : Type 1} → statement M
-long-enough-spec = tie.close (tie.spec returns returns-2 returns-3 returns-4)
+pub long_enough_spec : {M : Type 1} → statement M
+long_enough_spec = tie.close (tie.spec returns returns_2 returns_3 returns_4)

@@ -6,20 +6,20 @@ use mathlib.Core.Path.{◌≡◌, refl}
 use Rattle.bit_reader.proofs.past.Statement.{statement}
 use Rattle.bit_reader.proofs.past.Tie as tie
 
-abbrev invariant-loop : tie.invariant-loop
-invariant-loop width byte₀ bit₀ byte bit = 8 * byte + bit ≡ 8 * byte₀ + bit₀
+abbrev invariant_loop : tie.invariant_loop
+invariant_loop width byte₀ bit₀ byte bit = 8 * byte + bit ≡ 8 * byte₀ + bit₀
 
-abbrev decreases-loop : tie.decreases-loop
-decreases-loop width byte₀ bit₀ byte bit = bit
+abbrev decreases_loop : tie.decreases_loop
+decreases_loop width byte₀ bit₀ byte bit = bit
 
-add-bit : tie.Need-overflow-add-bit invariant-loop decreases-loop
-add-bit c = let pre = c.before.requires in omega (arith, pre.here.below, pre.narrow)
+add_bit : tie.Need-overflow-add-bit invariant_loop decreases_loop
+add_bit c = let pre = c.before.requires in omega (arith, pre.here.below, pre.narrow)
 
-add-byte : tie.Need-overflow-add-byte invariant-loop decreases-loop
-add-byte c = let pre = c.before.before.before.requires in omega (arith, pre.here.count, pre.low, pre.narrow)
+add_byte : tie.Need-overflow-add-byte invariant_loop decreases_loop
+add_byte c = let pre = c.before.before.before.requires in omega (arith, pre.here.count, pre.low, pre.narrow)
 
-returns : tie.Need-returns invariant-loop decreases-loop
+returns : tie.Need-returns invariant_loop decreases_loop
 returns c n here = record { below = omega arith; count = omega (arith, here.count) }
 
-pub past-spec : {M : Type 1} → statement M
-past-spec = tie.close (tie.spec invariant-loop decreases-loop add-bit (λ c. refl) add-byte (λ c. omega arith) (λ c. omega arith) returns)
+pub past_spec : {M : Type 1} → statement M
+past_spec = tie.close (tie.spec invariant_loop decreases_loop add_bit (λ c. refl) add_byte (λ c. omega arith) (λ c. omega arith) returns)

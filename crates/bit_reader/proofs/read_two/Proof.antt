@@ -43,15 +43,15 @@ use Rattle.bit_reader.specs.contracts.Place as P
 use Rattle.bit_reader.proofs.Place.TheLaws as P'
 use Rattle.bit_reader.specs.contracts.TwoFields as D
 use Rattle.bit_reader.proofs.TwoFields.TheLaws as D'
-use Rattle.bit_reader.proofs.BitReader.new.Symbol as new-def
+use Rattle.bit_reader.proofs.BitReader.new.Symbol as new_def
 use Rattle.bit_reader.proofs.BitReader.new.Symbol.{name as #new}
-use Rattle.bit_reader.proofs.BitReader.new.Met as new-thm
-use Rattle.bit_reader.proofs.BitReader.take.Symbol as take-def
+use Rattle.bit_reader.proofs.BitReader.new.Met as new_thm
+use Rattle.bit_reader.proofs.BitReader.take.Symbol as take_def
 use Rattle.bit_reader.proofs.BitReader.take.Symbol.{name as #take}
-use Rattle.bit_reader.proofs.BitReader.take.Met as take-thm
-use Rattle.bit_reader.proofs.FieldLaws.{then-askable}
-use Rattle.bit_reader.proofs.ReaderCalls.{New, Take, slice-val, reader, token, OwnS, OwnR, IsTaken, is-value, is-rest, rest_out}
-use Rattle.bit_reader.proofs.ReaderCalls.{typed-reader, typed-taken, typed-value, AsksNew, AsksTake, goes-new, makes, goes-take, takes}
+use Rattle.bit_reader.proofs.BitReader.take.Met as take_thm
+use Rattle.bit_reader.proofs.FieldLaws.{then_askable}
+use Rattle.bit_reader.proofs.ReaderCalls.{New, Take, slice_val_of, reader, token, OwnS, OwnR, IsTaken, is_value, is_rest, rest_out}
+use Rattle.bit_reader.proofs.ReaderCalls.{typed_reader, typed_taken, typed_value, AsksNew, AsksTake, goes_new, makes, goes_take, takes}
 use Rattle.bit_reader.specs.contracts.read_two.Key.{name as #read-two}
 use Rattle.bit_reader.specs.contracts.read_two as f
 use Rattle.bit_reader.proofs.read_two.Statement as stated
@@ -74,7 +74,7 @@ both {s} {p} {t} {t'} {v} {w} {n} g g' here =
     }
 
 module _ {M : Type 1} {𝓤 : Ura M} (𝓛 : Logic 𝓤) (mem : Memory → SProp 𝓤) (run : Routine → Fun 𝓤) (κ : Lft) (q : Share)
-    (s : Bor (List ℕ)) (p : Place) (v w : ℕ) (is-p : Is P.the_row p (P'.lowered p ∷ [])) (v-fits : v < 2 ^ 64) (w_Fits : w < 2 ^ 64)
+    (s : Bor (List ℕ)) (p : Place) (v w : ℕ) (is_p : Is P.the_row p (P'.lowered p ∷ [])) (v_fits : v < 2 ^ 64) (w_Fits : w < 2 ^ 64)
     (ask : AskableTwo p v w) where
   -- what is known of the fields
   open 𝓛 use {H}
@@ -84,7 +84,7 @@ module _ {M : Type 1} {𝓤 : Ura M} (𝓛 : Logic 𝓤) (mem : Memory → SProp
 
   -- the machine values of the parameters
   abbrev at : Vals f.signature (κ, tt)
-  at = (slice-val s ∷ [], (P'.lowered p ∷ [], (vint w64 v ∷ [], (vint w64 w ∷ [], tt))))
+  at = (slice_val_of s ∷ [], (P'.lowered p ∷ [], (vint w64 v ∷ [], (vint w64 w ∷ [], tt))))
 
   abbrev Entry : SProp 𝓤
   Entry = on_entry 𝓛 f.signature (κ, tt) (q, tt) (s, (p, (v, (w, tt)))) at
@@ -97,7 +97,7 @@ module _ {M : Type 1} {𝓤 : Ura M} (𝓛 : Logic 𝓤) (mem : Memory → SProp
   Post = (walk_of 𝓛 f.ended stayed (f.clauses 𝓛 mem run)).post at_entry
 
   -- the fields that a reader gave are returned
-  module _ (t : Taken) (is-t : IsTaken κ t) (t' : Taken) (is-t' : IsTaken κ t') where
+  module _ (t : Taken) (is_t : IsTaken κ t) (t' : Taken) (is_t' : IsTaken κ t') where
     abbrev made : TwoFields
     made = record { first = t.value; second = t'.value }
 
@@ -105,10 +105,10 @@ module _ {M : Type 1} {𝓤 : Ura M} (𝓛 : Logic 𝓤) (mem : Memory → SProp
     made_val = LL.val D.the_type D'.the_laws made
 
     is_made : Is D.the_row made (made_val ∷ [])
-    is_made = LL.owes D.the_type D'.the_laws made (is-value κ t is-t, (is-value κ t' is-t', tt))
+    is_made = LL.owes D.the_type D'.the_laws made (is_value κ t is_t, (is_value κ t' is_t', tt))
 
-    typed-made : Holds (has_ty D'.mir made_val) × WT made_val
-    typed-made = ((LL.lawful D.the_type D'.the_laws 𝓛).typed made _ is_made).0
+    typed_made : Holds (has_ty D'.mir made_val) × WT made_val
+    typed_made = ((LL.lawful D.the_type D'.the_laws 𝓛).typed made _ is_made).0
 
     exits : Found made → ent 𝓤 (⋆ 𝓛 (token κ q ∷ ‵ (OwnS κ s) ∷ [])) (Post made_val)
     exits e =
@@ -116,74 +116,74 @@ module _ {M : Type 1} {𝓤 : Ura M} (𝓛 : Logic 𝓤) (mem : Memory → SProp
         suffices ! _ (ends_at 𝓛 f.ended stayed (f.clauses 𝓛 mem run) at_entry made_val made
         (tt, (tt, (tt, (tt, tt)))) (tt, (tt, (tt, (tt, tt))))) $ says ! e $ frame ! $
         nothing ! $ owned ! usize (Is usize) (uint_Makes 𝓛 w64) w _ (refl, w_Fits) $ fjoin ! $
-        owned ! usize (Is usize) (uint_Makes 𝓛 w64) v _ (refl, v-fits) $ fjoin ! $
-        owned ! P.the_row (Is P.the_row) (LL.makes P.the_type P'.the_plain 𝓛) p _ is-p $ fjoin ! $ move ! (1 ∷ 0 ∷ []) $ fjoin ! $ frame ! $
+        owned ! usize (Is usize) (uint_Makes 𝓛 w64) v _ (refl, v_fits) $ fjoin ! $
+        owned ! P.the_row (Is P.the_row) (LL.makes P.the_type P'.the_plain 𝓛) p _ is_p $ fjoin ! $ move ! (1 ∷ 0 ∷ []) $ fjoin ! $ frame ! $
         owned ! D.the_row (Is D.the_row) (LL.makes D.the_type D'.the_plain 𝓛) made _ is_made $ done !
 
-  module _ (C : Calls 𝓤 H) (Λ : Loops 𝓤 H) (fm : FmC 𝓤 H 𝓛.laws C) (known-new : Triple 𝓤 (C #new) (New 𝓛 mem run))
-      (known-take : Triple 𝓤 (C #take) (Take 𝓛 mem run)) where
-    walk : Is (ShrSlice (named 0) κ u8) s (slice-val s ∷ [])
-        → ent 𝓤 Entry (WpFn 𝓤 H C Λ code.function (slice-val s ∷ P'.lowered p ∷ vint w64 v ∷ vint w64 w ∷ []) Post)
+  module _ (C : Calls 𝓤 H) (Λ : Loops 𝓤 H) (fm : FmC 𝓤 H 𝓛.laws C) (known_new : Triple 𝓤 (C #new) (New 𝓛 mem run))
+      (known_take : Triple 𝓤 (C #take) (Take 𝓛 mem run)) where
+    walk : Is (ShrSlice (named 0) κ u8) s (slice_val_of s ∷ [])
+        → ent 𝓤 Entry (WpFn 𝓤 H C Λ code.function (slice_val_of s ∷ P'.lowered p ∷ vint w64 v ∷ vint w64 w ∷ []) Post)
     walk is =
         qed 𝓛 (token κ q ∷ ‵ (owns (ShrSlice (named 0) κ u8 ∷ P.the_row ∷ usize ∷ usize ∷ []) (s, (p, (v, (w, tt)))) at) ∷ []) ∵
-        enter ! C Λ code.function (slice-val s ∷ P'.lowered p ∷ vint w64 v ∷ vint w64 w ∷ []) _ $
+        enter ! C Λ code.function (slice_val_of s ∷ P'.lowered p ∷ vint w64 v ∷ vint w64 w ∷ []) _ $
         alloc1 ! (λ l₀. alloc1 ! (λ l₁. alloc1 ! (λ l₂. alloc1 ! (λ l₃. alloc1 ! (λ l₄. alloc1 ! (λ l₅. alloc1 ! (λ l₆. alloc1 ! (λ l₇.
         alloc1 ! (λ l₈. alloc1 ! (λ l₉. alloc1 ! (λ l₁₀. alloc0 ! $
-        params1 ! $ pass1 ! (init ! 18 refl ((shr_slice_Lawful 𝓛 (named 0) κ u8).typed s (slice-val s ∷ []) is).0) $
-        pass1 ! (init ! 16 refl ((LL.lawful P.the_type P'.the_laws 𝓛).typed p _ is-p).0) $
-        pass1 ! (init ! 14 refl (tt, record { fits = v-fits })) $ pass1 ! (init ! 12 refl (tt, record { fits = w_Fits })) $ pass0 ! $
+        params1 ! $ pass1 ! (init ! 18 refl ((shr_slice_Lawful 𝓛 (named 0) κ u8).typed s (slice_val_of s ∷ []) is).0) $
+        pass1 ! (init ! 16 refl ((LL.lawful P.the_type P'.the_laws 𝓛).typed p _ is_p).0) $
+        pass1 ! (init ! 14 refl (tt, record { fits = v_fits })) $ pass1 ! (init ! 12 refl (tt, record { fits = w_Fits })) $ pass0 ! $
         -- [room for _10; …; _9; …; _8; …; _7; …; _6; …; room for _5; …; _4; …; _3; …; _2; …; _1; …; room for _0; …; the token; what the parameters own]
         move ! (23 ∷ []) $ fsplit ! $ move ! (1 ∷ []) $ drop ! $ move ! (0 ∷ 23 ∷ []) $
-        use2 𝓛 (raw (AsksNew 𝓛 mem run κ q s p) ⊛ ‵ (OwnS κ s)) (goes-new 𝓛 mem run κ q s p is-p) $ split ! $
+        use2 𝓛 (raw (AsksNew 𝓛 mem run κ q s p) ⊛ ‵ (OwnS κ s)) (goes_new 𝓛 mem run κ q s p is_p) $ split ! $
         -- [what new asks; what s owns; room for _10; …]
-        makes 𝓛 mem run κ q ! fm known-new s p
-        (and_then ! (load ! (from ! (stop !)) (look ! 20 refl)) (and_then ! (load ! (from ! (stop !)) (look ! 18 refl)) (no_more !))) (λ is-r.
-        land ! (from ! (stop !)) (init ! 9 refl (typed-reader κ 𝓛 (reader s p) is-r)) $
-        use2 𝓛 (raw (AsksTake 𝓛 mem run κ q (reader s p) v)) (goes-take 𝓛 mem run κ q (reader s p) v v-fits ask.first) $
+        makes 𝓛 mem run κ q ! fm known_new s p
+        (and_then ! (load ! (from ! (stop !)) (look ! 20 refl)) (and_then ! (load ! (from ! (stop !)) (look ! 18 refl)) (no_more !))) (λ is_r.
+        land ! (from ! (stop !)) (init ! 9 refl (typed_reader κ 𝓛 (reader s p) is_r)) $
+        use2 𝓛 (raw (AsksTake 𝓛 mem run κ q (reader s p) v)) (goes_take 𝓛 mem run κ q (reader s p) v v_fits ask.first) $
         -- [what take asks; what s owns; room for _10; …]
-        takes 𝓛 mem run κ q ! fm known-take (reader s p) v
-        (and_then ! (load ! (from ! (stop !)) (look ! 8 refl)) (and_then ! (load ! (from ! (stop !)) (look ! 16 refl)) (no_more !))) (λ t is-t g.
+        takes 𝓛 mem run κ q ! fm known_take (reader s p) v
+        (and_then ! (load ! (from ! (stop !)) (look ! 8 refl)) (and_then ! (load ! (from ! (stop !)) (look ! 16 refl)) (no_more !))) (λ t is_t g.
         -- [what take gave; the token; what s owns; room for _10; …]
-        land ! (from ! (stop !)) (init ! 13 refl (typed-taken κ 𝓛 t is-t)) $
+        land ! (from ! (stop !)) (init ! 13 refl (typed_taken κ 𝓛 t is_t)) $
         assigns ! (of_opd ! (load ! (from ! (fld ! refl (stop !))) (look_in ! 13 (sub ! 1 refl (whole !))))) (from ! (stop !))
-        (init ! 7 refl (typed-reader κ 𝓛 t.rest (is-rest κ t is-t))) $
+        (init ! 7 refl (typed_reader κ 𝓛 t.rest (is_rest κ t is_t))) $
         use1 𝓛 (‵ (OwnR κ t.rest)) (rest_out κ 𝓛 t) $
         use2 𝓛 (raw (AsksTake 𝓛 mem run κ q t.rest w))
-        (goes-take 𝓛 mem run κ q t.rest w w_Fits (then-askable ask (g.step ask.first.read ask.first.here).past)) $
+        (goes_take 𝓛 mem run κ q t.rest w w_Fits (then_askable ask (g.step ask.first.read ask.first.here).past)) $
         -- [what take asks; what s owns; room for _10; …]
-        takes 𝓛 mem run κ q ! fm known-take t.rest w
-        (and_then ! (load ! (from ! (stop !)) (look ! 6 refl)) (and_then ! (load ! (from ! (stop !)) (look ! 14 refl)) (no_more !))) (λ t' is-t' g'.
+        takes 𝓛 mem run κ q ! fm known_take t.rest w
+        (and_then ! (load ! (from ! (stop !)) (look ! 6 refl)) (and_then ! (load ! (from ! (stop !)) (look ! 14 refl)) (no_more !))) (λ t' is_t' g'.
         -- [what take gave; the token; what s owns; room for _10; …]
-        drop ! $ land ! (from ! (stop !)) (init ! 10 refl (typed-taken κ 𝓛 t' is-t')) $
+        drop ! $ land ! (from ! (stop !)) (init ! 10 refl (typed_taken κ 𝓛 t' is_t')) $
         assigns ! (of_opd ! (load ! (from ! (fld ! refl (stop !))) (look_in ! 12 (sub ! 0 refl (whole !))))) (from ! (stop !))
-        (init ! 4 refl (typed-value κ 𝓛 t is-t)) $
+        (init ! 4 refl (typed_value κ 𝓛 t is_t)) $
         assigns ! (of_opd ! (load ! (from ! (fld ! refl (stop !))) (look_in ! 10 (sub ! 0 refl (whole !))))) (from ! (stop !))
-        (init ! 2 refl (typed-value κ 𝓛 t' is-t')) $
+        (init ! 2 refl (typed_value κ 𝓛 t' is_t')) $
         assigns ! (agg ! (and_then ! (load ! (from ! (stop !)) (look ! 4 refl)) (and_then ! (load ! (from ! (stop !)) (look ! 2 refl)) (no_more !))))
-        (from ! (stop !)) (init ! 22 refl (typed-made t is-t t' is-t')) $
+        (from ! (stop !)) (init ! 22 refl (typed_made t is_t t' is_t')) $
         returns ! (look ! 22 refl) $ forget ! 2 refl $ forget ! 4 refl $ forget ! 6 refl $ forget ! 8 refl $ forget ! 10 refl $ forget ! 12 refl $
         forget ! 14 refl $ forget ! 16 refl $ forget ! 18 refl $ forget ! 20 refl $ forget ! 22 refl $
         move ! (22 ∷ 23 ∷ []) $ free1 ! $ move ! (20 ∷ 21 ∷ []) $ free1 ! $ move ! (18 ∷ 19 ∷ []) $ free1 ! $ move ! (16 ∷ 17 ∷ []) $ free1 ! $
         move ! (14 ∷ 15 ∷ []) $ free1 ! $ move ! (12 ∷ 13 ∷ []) $ free1 ! $ move ! (10 ∷ 11 ∷ []) $ free1 ! $ move ! (8 ∷ 9 ∷ []) $ free1 ! $
         move ! (6 ∷ 7 ∷ []) $ free1 ! $ move ! (4 ∷ 5 ∷ []) $ free1 ! $ move ! (2 ∷ 3 ∷ []) $ free1 ! $ free0 ! $
-        by ! (exits t is-t t' is-t' (λ n here. both g g' here))))))))))))))))
+        by ! (exits t is_t t' is_t' (λ n here. both g g' here))))))))))))))))
 
 module _ {M : Type 1} {𝓤 : Ura M} (𝓛 : Logic 𝓤) (mem : Memory → SProp 𝓤) (run : Routine → Fun 𝓤) where
   open 𝓛 use {H}
 
-  read-two-walks : (C : Calls 𝓤 H) (Λ : Loops 𝓤 H) → FmC 𝓤 H 𝓛.laws C → Triple 𝓤 (C #new) (New 𝓛 mem run) → Triple 𝓤 (C #take) (Take 𝓛 mem run)
+  read_two_walks : (C : Calls 𝓤 H) (Λ : Loops 𝓤 H) → FmC 𝓤 H 𝓛.laws C → Triple 𝓤 (C #new) (New 𝓛 mem run) → Triple 𝓤 (C #take) (Take 𝓛 mem run)
       → Walks 𝓛 f.ended stayed (WpFn 𝓤 H C Λ code.function) (f.clauses 𝓛 mem run)
-  read-two-walks C Λ fm known-new known-take = walked 𝓛 f.ended stayed (f.clauses 𝓛 mem run) (WpFn 𝓤 H C Λ code.function)
+  read_two_walks C Λ fm known_new known_take = walked 𝓛 f.ended stayed (f.clauses 𝓛 mem run) (WpFn 𝓤 H C Λ code.function)
       (λ κs. (shr_slice_vals, (LL.vals P.the_type P'.the_laws, (uint_vals w64, (uint_vals w64, tt)))))
       (λ κs. (shr_slice_Tells (named 0) κs.0 u8, (LL.tells P.the_type P'.the_laws, (uint_Tells w64, (uint_Tells w64, tt)))))
       (λ κs qs bounds a g are. needs 𝓤 (AskableTwo a.1.0 a.1.1.0 a.1.1.1.0) _
       (λ h. walk 𝓛 mem run κs.0 qs.0 a.0 a.1.0 a.1.1.0 a.1.1.1.0 are.1.0 are.1.1.0.1 are.1.1.1.0.1
-      h C Λ fm known-new known-take are.0))
+      h C Λ fm known_new known_take are.0))
 
-read-two-meets : {M : Type 1} {𝓤 : Ura M} (𝓛 : Logic 𝓤) (mem : Memory → SProp 𝓤) (run : Routine → Fun 𝓤) (𝓣 : Tables 𝓤 𝓛.H)
+read_two_meets : {M : Type 1} {𝓤 : Ura M} (𝓛 : Logic 𝓤) (mem : Memory → SProp 𝓤) (run : Routine → Fun 𝓤) (𝓣 : Tables 𝓤 𝓛.H)
     → Triple 𝓤 (𝓣.C #new) (New 𝓛 mem run) → Triple 𝓤 (𝓣.C #take) (Take 𝓛 mem run)
     → Meets 𝓛 f.signature (WpFn 𝓤 𝓛.H 𝓣.C 𝓣.Λ code.function) (f.spec 𝓛 mem run)
-read-two-meets {𝓤 = 𝓤} 𝓛 mem run 𝓣 known-new known-take = walk_Meets 𝓛 f.ended stayed (
+read_two_meets {𝓤 = 𝓤} 𝓛 mem run 𝓣 known_new known_take = walk_Meets 𝓛 f.ended stayed (
   Goes-none_slice 𝓛 1 (0 ∷ []) tt (plain (λ _. u8)) yes,
   (
     Goes-none 𝓛 1 (λ _. P.the_row) yes (λ κs x f. refl),
@@ -191,13 +191,13 @@ read-two-meets {𝓤 = 𝓤} 𝓛 mem run 𝓣 known-new known-take = walk_Meets
   ),
 ) (f.clauses 𝓛 mem run)
     (WpFn 𝓤 𝓛.H 𝓣.C 𝓣.Λ code.function) (WpFn-mono 𝓤 𝓛.H 𝓛.laws 𝓣 code.function)
-    (read-two-walks 𝓛 mem run 𝓣.C 𝓣.Λ (fm_of 𝓤 𝓛.H 𝓛.laws 𝓣) known-new known-take)
+    (read_two_walks 𝓛 mem run 𝓣.C 𝓣.Λ (fm_of 𝓤 𝓛.H 𝓛.laws 𝓣) known_new known_take)
 
-pub read-two-spec : {M : Type 1} → stated.statement M
+pub read_two_spec : {M : Type 1} → stated.statement M
 unfolding code.routine tables_of
-read-two-spec 𝓤 𝓛 𝓜 𝓡 =
+read_two_spec 𝓤 𝓛 𝓜 𝓡 =
     entered 𝓤 𝓛.H (triple_of 𝓛 f.signature (f.spec 𝓛 𝓜.mem 𝓡.run))
     (tables 𝓤 𝓛.H 𝓜 𝓡 code.env).C (tables 𝓤 𝓛.H 𝓜 𝓡 code.env).Λ #read-two code.function (code.unfolded 𝓤 𝓛.H 𝓜 𝓡)
-    (read-two-meets 𝓛 𝓜.mem 𝓡.run (tables_of 𝓤 𝓛.H 𝓜 (tables 𝓤 𝓛.H 𝓜 𝓡 code.env))
-    (cited 𝓤 𝓛.H (New 𝓛 𝓜.mem 𝓡.run) 𝓜 𝓡 code.env #new new-def.routine code.calls-bit-reader::BitReader::new (new-thm.met 𝓤 𝓛 𝓜 𝓡))
-    (cited 𝓤 𝓛.H (Take 𝓛 𝓜.mem 𝓡.run) 𝓜 𝓡 code.env #take take-def.routine code.calls-bit-reader::BitReader::take (take-thm.met 𝓤 𝓛 𝓜 𝓡)))
+    (read_two_meets 𝓛 𝓜.mem 𝓡.run (tables_of 𝓤 𝓛.H 𝓜 (tables 𝓤 𝓛.H 𝓜 𝓡 code.env))
+    (cited 𝓤 𝓛.H (New 𝓛 𝓜.mem 𝓡.run) 𝓜 𝓡 code.env #new new_def.routine code.calls-bit-reader::BitReader::new (new_thm.met 𝓤 𝓛 𝓜 𝓡))
+    (cited 𝓤 𝓛.H (Take 𝓛 𝓜.mem 𝓡.run) 𝓜 𝓡 code.env #take take_def.routine code.calls-bit-reader::BitReader::take (take_thm.met 𝓤 𝓛 𝓜 𝓡)))

@@ -1,47 +1,47 @@
 -- One law for each way out: a list that is too short, a refusal, an answer. No loop. Assumes nothing.
 use borrow.Author.Rules.{rules}
 use native.Mathlib.Omega.{arith}
-use Rattle.blocking.specs.Calls.{makesBlocks}
-use Rattle.c_api.proofs.CallLaws.{lacks-yes, record-short, list-short}
-use Rattle.c_api.proofs.BlockLaws.{block-why, block-narrow, block-value, count-is, blocks-small, columns-fit, makes-lent}
-use Rattle.c_api.proofs.BlockLaws.{written-three, blocks-too-short, blocks-refused, blocks-done}
+use Rattle.blocking.specs.Calls.{makes_blocks}
+use Rattle.c_api.proofs.CallLaws.{lacks_yes, record_short, list_short}
+use Rattle.c_api.proofs.BlockLaws.{block_why, block_narrow, block_value, count_is, blocks_small, columns_fit, makes_lent}
+use Rattle.c_api.proofs.BlockLaws.{written_three, blocks_too_short, blocks_refused, blocks_done}
 use Rattle.c_api.proofs.tides_block.Statement.{statement}
 use Rattle.c_api.proofs.tides_block.Tie as tie
 
 returns : tie.Need-returns
-returns c = blocks-too-short 3 _ _ (makesBlocks _) (makes-lent _) (record-short _ _ c.if1.true)
+returns c = blocks_too_short 3 _ _ (makes_blocks _) (makes_lent _) (record_short _ _ c.if1.true)
 
-returns-2 : tie.Need-returns-2
-returns-2 c = blocks-too-short 3 _ _ (makesBlocks _) (makes-lent _) (list-short _ (lacks-yes 3 _ c.if2.true))
+returns_2 : tie.Need-returns-2
+returns_2 c = blocks_too_short 3 _ _ (makes_blocks _) (makes_lent _) (list_short _ (lacks_yes 3 _ c.if2.true))
 
-refusal-code-requires : tie.Need-refusal-code-requires
-refusal-code-requires c κs = block-narrow _ _ _ _ c.before.before.before.before.before.before.block-core.ensures.0 c.before.answer.given.1
+refusal_code_requires : tie.Need-refusal-code-requires
+refusal_code_requires c κs = block_narrow _ _ _ _ c.before.before.before.before.before.before.block-core.ensures.0 c.before.answer.given.1
 
-put-columns-requires : tie.Need-put-columns-requires
-put-columns-requires c κs =
+put_columns_requires : tie.Need-put-columns-requires
+put_columns_requires c κs =
     let told = c.before.before.before.before in
     let called = told.before.before.before.before.before in
     let e = called.block-core.ensures in
-    columns-fit _ _ _ _ e.0 told.answer2.given.1 e.1.0 _ _ _ called.before.before.before.least.ensures
+    columns_fit _ _ _ _ e.0 told.answer2.given.1 e.1.0 _ _ _ called.before.before.before.least.ensures
 
-cast-count : tie.Need-overflow-cast-count
-cast-count c =
+cast_count : tie.Need-overflow-cast-count
+cast_count c =
     let put = c.before.before.before.before.before.before in
     let told = put.before.before.before.before.before in
     let e = told.before.before.before.before.before.block-core.ensures in
-    omega (arith, blocks-small _ _ _ _ e.0 told.answer2.given.1 e.1.0)
+    omega (arith, blocks_small _ _ _ _ e.0 told.answer2.given.1 e.1.0)
 
-returns-3 : tie.Need-returns-3
-returns-3 c =
+returns_3 : tie.Need-returns-3
+returns_3 c =
     let called = c.before.before.before.before.before.before.before in
     let e = called.block-core.ensures in
     let got = called.before.before in
-    blocks-refused 3 _ _ (makesBlocks _) (makes-lent _)
+    blocks_refused 3 _ _ (makes_blocks _) (makes_lent _)
     (record { room = got.before.before.before.if1.false; enough = got.before.before.if2.false; held = got.dataset-of.ensures })
-    got.before.least.ensures e.1.1 (block-why _ _ _ _ e.0 c.before.before.answer.given.1) c.refusal-code.ensures
+    got.before.least.ensures e.1.1 (block_why _ _ _ _ e.0 c.before.before.answer.given.1) c.refusal-code.ensures
 
-returns-4 : tie.Need-returns-4
-returns-4 c =
+returns_4 : tie.Need-returns-4
+returns_4 c =
     let figures = c.before.before in
     let put = figures.before.before.before.before.before.before.before.before.before in
     let told = put.before.before.before.before.before in
@@ -50,32 +50,32 @@ returns-4 c =
     let e = called.block-core.ensures in
     let got = called.before.before in
     let done = told.answer2.given.1 in
-    blocks-done 3 _ _ (makesBlocks _) (makes-lent _)
+    blocks_done 3 _ _ (makes_blocks _) (makes_lent _)
     (record { room = got.before.before.before.if1.false; enough = got.before.before.if2.false; held = got.dataset-of.ensures })
-    got.before.least.ensures e.1.1 (block-value _ _ _ _ e.0 done) e.1.0 (count-is _ _ _ _ e.0 done e.1.0) w.0 w.1.0 w.1.1
-    (written-three _ figures.put-numbers.ensures)
+    got.before.least.ensures e.1.1 (block_value _ _ _ _ e.0 done) e.1.0 (count_is _ _ _ _ e.0 done e.1.0) w.0 w.1.0 w.1.1
+    (written_three _ figures.put-numbers.ensures)
 
-pub tides-block-spec : {M : Type 1} → statement M
-tides-block-spec =
+pub tides_block_spec : {M : Type 1} → statement M
+tides_block_spec =
     tie.close
     (tie.spec
     returns
-    returns-2
+    returns_2
     (λ c κs. search rules)
     (λ c κs. search rules)
     (λ c κs. search rules)
     (λ c. search rules)
-    refusal-code-requires
+    refusal_code_requires
     (λ c. search rules)
-    put-columns-requires
-    cast-count
+    put_columns_requires
+    cast_count
     (λ c. search rules)
     (λ c κs. search rules)
     (λ c. search rules)
-    returns-3
+    returns_3
     (λ c. search rules)
     (λ c. search rules)
     (λ c. search rules)
     (λ c. search rules)
     (λ c. search rules)
-    returns-4)
+    returns_4)

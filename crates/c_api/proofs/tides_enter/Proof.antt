@@ -1,36 +1,36 @@
 -- A record that is too short is refused 1; otherwise the call's own contract, on the record as the code holds it. No loop. Assumes nothing.
 use borrow.Author.Rules.{rules}
 use mathlib.Core.Path.{refl}
-use Rattle.c_api.proofs.CallLaws.{record-short, enter-sound, storable, left-too-short, call-left, enter-given}
+use Rattle.c_api.proofs.CallLaws.{record_short, enter_sound, storable, left_too_short, call_left, enter_given}
 use Rattle.c_api.proofs.tides_enter.Statement.{statement}
 use Rattle.c_api.proofs.tides_enter.Tie as tie
 
 returns : tie.Need-returns
-returns c = left-too-short _ _ _ (record-short _ _ c.if1.true)
+returns c = left_too_short _ _ _ (record_short _ _ c.if1.true)
 
-store-outcome-requires : tie.Need-store-outcome-requires
-store-outcome-requires c κs =
+store_outcome_requires : tie.Need-store-outcome-requires
+store_outcome_requires c κs =
     let called = c.before.before.before.before.before in
-    storable _ (enter-sound _ _ _) called.before.before.before.before.before.before.if1.false called.enter.ensures
+    storable _ (enter_sound _ _ _) called.before.before.before.before.before.before.if1.false called.enter.ensures
 
-returns-2 : tie.Need-returns-2
-returns-2 c =
+returns_2 : tie.Need-returns-2
+returns_2 c =
     let settled = c.before.before in
     let called = settled.before.before.before.before.before.before in
     let got = called.before.before.before.before in
-    call-left (record { room = got.before.before.if1.false; held = got.dataset-of.ensures; settles = settled.store-outcome.ensures }) refl
-    (enter-sound _ _ _) (enter-given _ _ _ called.before.narrow.ensures called.enter.ensures)
+    call_left (record { room = got.before.before.if1.false; held = got.dataset-of.ensures; settles = settled.store-outcome.ensures }) refl
+    (enter_sound _ _ _) (enter_given _ _ _ called.before.narrow.ensures called.enter.ensures)
 
-pub tides-enter-spec : {M : Type 1} → statement M
-tides-enter-spec =
+pub tides_enter_spec : {M : Type 1} → statement M
+tides_enter_spec =
     tie.close
     (tie.spec
     returns
     (λ c κs. search rules)
     (λ c κs. search rules)
     (λ c κs. search rules)
-    store-outcome-requires
+    store_outcome_requires
     (λ c. search rules)
     (λ c. search rules)
     (λ c. search rules)
-    returns-2)
+    returns_2)

@@ -9,9 +9,9 @@ returns : tie.Need-returns
 unfolding narrowed
 returns c = rw (lt-ltb _ 256 c.if1.true)
 
-returns-2 : tie.Need-returns-2
+returns_2 : tie.Need-returns-2
 unfolding narrowed
-returns-2 c = rw (le-ltb _ 256 c.if1.false)
+returns_2 c = rw (le-ltb _ 256 c.if1.false)
 
-pub narrow-spec : {M : Type 1} → statement M
-narrow-spec = tie.close (tie.spec (λ c. search rules) returns returns-2)
+pub narrow_spec : {M : Type 1} → statement M
+narrow_spec = tie.close (tie.spec (λ c. search rules) returns returns_2)

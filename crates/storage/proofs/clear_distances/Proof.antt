@@ -3,23 +3,23 @@
 use Prim.Native.Nat.{◌-◌}
 use native.Mathlib.Omega.{arith}
 use mathlib.Core.Path.{refl}
-use Rattle.study.specs.Limits.{tableSize}
-use Rattle.lists.proofs.Fills.{Filled, filled_none, filled_more, filled-done}
+use Rattle.study.specs.Limits.{table_size}
+use Rattle.lists.proofs.Fills.{Filled, filled_none, filled_more, filled_done}
 use Rattle.storage.proofs.clear_distances.Statement.{statement}
 use Rattle.storage.proofs.clear_distances.Tie as tie
 
-abbrev invariant-loop : tie.invariant-loop
-invariant-loop distances₀ p₀ distances p = Filled tableSize (λ _. 0) distances₀ distances p
+abbrev invariant_loop : tie.invariant_loop
+invariant_loop distances₀ p₀ distances p = Filled table_size (λ _. 0) distances₀ distances p
 
-abbrev decreases-loop : tie.decreases-loop
-decreases-loop distances₀ p₀ distances p = tableSize - p
+abbrev decreases_loop : tie.decreases_loop
+decreases_loop distances₀ p₀ distances p = table_size - p
 
-pub clear-distances-spec : {M : Type 1} → statement M
-clear-distances-spec =
+pub clear_distances_spec : {M : Type 1} → statement M
+clear_distances_spec =
     tie.close
     (tie.spec
-    invariant-loop
-    decreases-loop
+    invariant_loop
+    decreases_loop
     (λ c. filled_none)
     (λ c. omega arith)
     (λ c. omega arith)
@@ -27,4 +27,4 @@ clear-distances-spec =
     (λ c. omega arith)
     (λ c. filled_more c.before.loop.invariant (omega arith) (omega arith) refl)
     (λ c. c.before.loop.invariant.same)
-    (λ c. filled-done c.before.loop.invariant (omega arith)))
+    (λ c. filled_done c.before.loop.invariant (omega arith)))

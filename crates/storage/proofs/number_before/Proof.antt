@@ -8,8 +8,8 @@ use Rattle.storage.proofs.number_before.Tie as tie
 returns : tie.Need-returns
 returns c = (rw (lt-ltb _ _ c.if1.true), omega arith)
 
-returns-2 : tie.Need-returns-2
-returns-2 c = (rw (le-ltb _ _ c.if1.false) (omega arith), omega arith)
+returns_2 : tie.Need-returns-2
+returns_2 c = (rw (le-ltb _ _ c.if1.false) (omega arith), omega arith)
 
-pub number-before-spec : {M : Type 1} → statement M
-number-before-spec = tie.close (tie.spec returns (λ c. search rules) returns-2)
+pub number_before_spec : {M : Type 1} → statement M
+number_before_spec = tie.close (tie.spec returns (λ c. search rules) returns_2)

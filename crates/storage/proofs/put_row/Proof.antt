@@ -5,38 +5,38 @@ use native.Mathlib.Omega.{arith}
 use mathlib.Core.Path.{◌≡◌, refl}
 use lib.ListN.{length, length-set}
 use Rattle.storage.specs.Places.{with_row}
-use Rattle.storage.proofs.PlaceLaws.{row-none, row_more, row_done}
+use Rattle.storage.proofs.PlaceLaws.{row_none, row_more, row_done}
 use Rattle.storage.proofs.put_row.Statement.{statement}
 use Rattle.storage.proofs.put_row.Tie as tie
 
-abbrev invariant-loop : tie.invariant-loop
-invariant-loop distances₀ row n i₀ distances i = (i ≤ length row) × (distances ≡ with_row row i distances₀) × (length distances ≡ length distances₀)
+abbrev invariant_loop : tie.invariant_loop
+invariant_loop distances₀ row n i₀ distances i = (i ≤ length row) × (distances ≡ with_row row i distances₀) × (length distances ≡ length distances₀)
 
-abbrev decreases-loop : tie.decreases-loop
-decreases-loop distances₀ row n i₀ distances i = length row - i
+abbrev decreases_loop : tie.decreases_loop
+decreases_loop distances₀ row n i₀ distances i = length row - i
 
-loop-holds : tie.Need-loop-init invariant-loop decreases-loop
-loop-holds c = (omega arith, row-none _ _, refl)
+loop_holds : tie.Need-loop-init invariant_loop decreases_loop
+loop_holds c = (omega arith, row_none _ _, refl)
 
-slice-write-distances-2 : tie.Need-slice-write-distances-2 invariant-loop decreases-loop
-slice-write-distances-2 c = simp length-set (omega arith)
+slice_write_distances_2 : tie.Need-slice-write-distances-2 invariant_loop decreases_loop
+slice_write_distances_2 c = simp length-set (omega arith)
 
-loop-again : tie.Need-loop-preserved invariant-loop decreases-loop
-loop-again c = (omega arith, row_more _ _ _ c.before.before.loop.invariant.1, simp length-set c.before.before.loop.invariant.2)
+loop_again : tie.Need-loop-preserved invariant_loop decreases_loop
+loop_again c = (omega arith, row_more _ _ _ c.before.before.loop.invariant.1, simp length-set c.before.before.loop.invariant.2)
 
-same_length : tie.Need-same-length invariant-loop decreases-loop
+same_length : tie.Need-same-length invariant_loop decreases_loop
 same_length c = c.before.loop.invariant.2
 
-returns : tie.Need-returns invariant-loop decreases-loop
+returns : tie.Need-returns invariant_loop decreases_loop
 returns c = row_done _ _ _ _ _ (omega arith) (omega arith) c.before.loop.invariant.1
 
-pub put-row-spec : {M : Type 1} → statement M
-put-row-spec =
+pub put_row_spec : {M : Type 1} → statement M
+put_row_spec =
     tie.close
     (tie.spec
-    invariant-loop
-    decreases-loop
-    loop-holds
+    invariant_loop
+    decreases_loop
+    loop_holds
     (λ c. omega arith)
     (λ c. omega arith)
     (λ c. omega arith)
@@ -46,9 +46,9 @@ put-row-spec =
     (λ c. omega arith)
     (λ c. omega arith)
     (λ c. omega arith)
-    slice-write-distances-2
+    slice_write_distances_2
     (λ c. omega arith)
     (λ c. omega arith)
-    loop-again
+    loop_again
     same_length
     returns)

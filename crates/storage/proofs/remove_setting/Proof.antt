@@ -3,31 +3,31 @@
 use Prim.Native.Nat.{◌-◌}
 use native.Mathlib.Omega.{arith}
 use mathlib.Core.Path.{◌∙◌}
-use Rattle.study.specs.Limits.{maxTides}
-use Rattle.storage.specs.Places.{movedSetting}
-use Rattle.storage.proofs.PlaceLaws.{moved-setting}
-use Rattle.lists.proofs.Fills.{Filled, filled_none, filled_more, filled-done}
+use Rattle.study.specs.Limits.{max_tides}
+use Rattle.storage.specs.Places.{moved_setting}
+use Rattle.storage.proofs.PlaceLaws.{moved_setting_lem}
+use Rattle.lists.proofs.Fills.{Filled, filled_none, filled_more, filled_done}
 use Rattle.storage.proofs.remove_setting.Statement.{statement}
 use Rattle.storage.proofs.remove_setting.Tie as tie
 
-abbrev invariant-loop : tie.invariant-loop
-invariant-loop settings₀ m i₀ settings i = Filled maxTides (movedSetting settings₀ m) settings₀ settings i
+abbrev invariant_loop : tie.invariant_loop
+invariant_loop settings₀ m i₀ settings i = Filled max_tides (moved_setting settings₀ m) settings₀ settings i
 
-abbrev decreases-loop : tie.decreases-loop
-decreases-loop settings₀ m i₀ settings i = maxTides - i
+abbrev decreases_loop : tie.decreases_loop
+decreases_loop settings₀ m i₀ settings i = max_tides - i
 
-pub remove-setting-spec : {M : Type 1} → statement M
-remove-setting-spec =
+pub remove_setting_spec : {M : Type 1} → statement M
+remove_setting_spec =
     tie.close
     (tie.spec
-    invariant-loop
-    decreases-loop
+    invariant_loop
+    decreases_loop
     (λ c. filled_none)
     (λ c κs. omega arith)
     (λ c. omega arith)
     (λ c. omega arith)
     (λ c. omega arith)
     (λ c. let turn = c.before.before.before.loop in
-    filled_more turn.invariant (omega arith) (omega arith) (c.moved-setting.ensures ∙ moved-setting _ _ _ (omega arith) turn.invariant.is))
+    filled_more turn.invariant (omega arith) (omega arith) (c.moved_setting.ensures ∙ moved_setting_lem _ _ _ (omega arith) turn.invariant.is))
     (λ c. c.before.loop.invariant.same)
-    (λ c. filled-done c.before.loop.invariant (omega arith)))
+    (λ c. filled_done c.before.loop.invariant (omega arith)))

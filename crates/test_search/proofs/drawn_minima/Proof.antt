@@ -9,8 +9,8 @@ returns c =
     let at_second = c.before.before.before in
     modest _ _ _ _ at_second.before.draw.ensures at_second.draw2.ensures c.before.draw3.ensures c.draw4.ensures
 
-pub drawn-minima-spec : {M : Type 1} → statement M
-drawn-minima-spec =
+pub drawn_minima_spec : {M : Type 1} → statement M
+drawn_minima_spec =
     tie.close
     (tie.spec
     (λ c κs. search rules)

@@ -4,24 +4,24 @@ use Rattle.std.proofs.Common.{rules}
 use Rattle.test_search.proofs.trial.Statement.{statement}
 use Rattle.test_search.proofs.trial.Tie as tie
 
-asked-requires : tie.Need-asked-requires
-asked-requires c κs =
+asked_requires : tie.Need-asked-requires
+asked_requires c κs =
     let tested = c.before.before.before in
     let at_fill_lem = tested.before.before.before.before.before.before.before in
     let posed = at_fill_lem.before.before.before.before.before.before.before.before.drawn.ensures in
     let right = tested.before.valid.ensures (not-false _ tested.if1.false) in
     (posed, record { six = search rules; rows = search rules; eight = search rules; valid = right })
 
-asked-again-requires : tie.Need-asked-again-requires
-asked-again-requires c κs =
+asked_again_requires : tie.Need-asked-again-requires
+asked_again_requires c κs =
     let tested = c.before.before.before.before.before.before.before.before.before in
     let at_fill_lem = tested.before.before.before.before.before.before.before in
     let posed = at_fill_lem.before.before.before.before.before.before.before.before.drawn.ensures in
     let right = tested.before.valid.ensures (not-false _ tested.if1.false) in
     (posed, record { six = search rules; rows = search rules; eight = search rules; valid = right })
 
-pub trial-spec : {M : Type 1} → statement M
-trial-spec =
+pub trial_spec : {M : Type 1} → statement M
+trial_spec =
     tie.close
     (tie.spec
     (λ c κs. search rules)
@@ -44,8 +44,8 @@ trial-spec =
     (λ c κs. search rules)
     (λ c. search rules)
     (λ c. search rules)
-    asked-requires
+    asked_requires
     (λ c. search rules)
-    asked-again-requires
+    asked_again_requires
     (λ c κs. search rules)
     (λ c. search rules))

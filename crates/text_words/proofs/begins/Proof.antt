@@ -10,9 +10,9 @@ returns : tie.Need-returns
 unfolding begins
 returns c = rw c.if1.true
 
-returns-2 : tie.Need-returns-2
+returns_2 : tie.Need-returns-2
 unfolding begins
-returns-2 c = rw c.before.if1.false (ap not c.ends-word.ensures)
+returns_2 c = rw c.before.if1.false (ap not c.ends-word.ensures)
 
-pub begins-spec : {M : Type 1} → statement M
-begins-spec = tie.close (tie.spec returns (λ c κs. search rules) returns-2)
+pub begins_spec : {M : Type 1} → statement M
+begins_spec = tie.close (tie.spec returns (λ c κs. search rules) returns_2)

@@ -8,8 +8,8 @@ use Rattle.text_words.proofs.newline.Tie as tie
 returns : tie.Need-returns
 returns c = sym (ap bit (eq-eqb _ 10 c.if1.true))
 
-returns-2 : tie.Need-returns-2
-returns-2 c = sym (ap bit (ne_eqb _ 10 c.if1.false))
+returns_2 : tie.Need-returns-2
+returns_2 c = sym (ap bit (ne_eqb _ 10 c.if1.false))
 
-pub newline-spec : {M : Type 1} → statement M
-newline-spec = tie.close (tie.spec returns returns-2)
+pub newline_spec : {M : Type 1} → statement M
+newline_spec = tie.close (tie.spec returns returns_2)

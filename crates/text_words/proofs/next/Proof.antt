@@ -1,44 +1,44 @@
 -- `next` meets its contract: start, end and number of the word. Assumes nothing.
-use Rattle.text_words.proofs.WordLaws.{start-inside, next-end, next-number, next-bad, next-large}
+use Rattle.text_words.proofs.WordLaws.{start_inside, next_end, next_number, next_bad, next_large}
 use borrow.Author.Rules.{rules}
 use Rattle.text_words.proofs.next.Statement.{statement}
 use Rattle.text_words.proofs.next.Tie as tie
 
-word-end-requires : tie.Need-word-end-requires
-word-end-requires c κs = start-inside c.before.before.requires c.skip.ensures
+word_end_requires : tie.Need-word-end-requires
+word_end_requires c κs = start_inside c.before.before.requires c.skip.ensures
 
 returns : tie.Need-returns
 returns c =
-    next-end _ _ c.before.before.skip.ensures c.before.word-end.result
+    next_end _ _ c.before.before.skip.ensures c.before.word-end.result
     c.before.word-end.ensures.0 c.if1.true
 
-returns-2 : tie.Need-returns-2
-returns-2 c =
+returns_2 : tie.Need-returns-2
+returns_2 c =
     let at_test = c.before.before.before.before.before in
-    let at-end = at_test.before in
-    next-number _ _ at-end.before.skip.ensures at-end.word-end.result at-end.word-end.ensures.0 at_test.if1.false
+    let at_end = at_test.before in
+    next_number _ _ at_end.before.skip.ensures at_end.word-end.result at_end.word-end.ensures.0 at_test.if1.false
     c.before.before.before.numeral-of.ensures c.before.found.given.1
 
-returns-3 : tie.Need-returns-3
-returns-3 c =
+returns_3 : tie.Need-returns-3
+returns_3 c =
     let at_test = c.before.before.before.before in
-    let at-end = at_test.before in
-    next-bad _ _ at-end.before.skip.ensures at-end.word-end.result at-end.word-end.ensures.0 at_test.if1.false
+    let at_end = at_test.before in
+    next_bad _ _ at_end.before.skip.ensures at_end.word-end.result at_end.word-end.ensures.0 at_test.if1.false
     c.before.before.numeral-of.ensures c.enum_told.given.1
 
-returns-4 : tie.Need-returns-4
-returns-4 c =
+returns_4 : tie.Need-returns-4
+returns_4 c =
     let at_test = c.before.before.before.before in
-    let at-end = at_test.before in
-    next-large _ _ at-end.before.skip.ensures at-end.word-end.result at-end.word-end.ensures.0 at_test.if1.false
+    let at_end = at_test.before in
+    next_large _ _ at_end.before.skip.ensures at_end.word-end.result at_end.word-end.ensures.0 at_test.if1.false
     c.before.before.numeral-of.ensures c.enum-told2.given.1
 
-pub next-spec : {M : Type 1} → statement M
-next-spec =
+pub next_spec : {M : Type 1} → statement M
+next_spec =
     tie.close
     (tie.spec
     (λ c κs. search rules)
-    word-end-requires
+    word_end_requires
     returns
     (λ c. search rules)
     (λ c. search rules)
@@ -47,6 +47,6 @@ next-spec =
     (λ c. search rules)
     (λ c. search rules)
     (λ c. search rules)
-    returns-2
-    returns-3
-    returns-4)
+    returns_2
+    returns_3
+    returns_4)

@@ -3,83 +3,83 @@
 use Rattle.std.proofs.Common.{◌≡◌, ◌-◌, ◌<◌, ◌≤◌, length, get_or, sym, refl, ap, ◌∙◌, arith}
 use Rattle.study.specs.Limits.{cell}
 use Rattle.study.specs.Calls.{violations}
-use Rattle.triangle.specs.Pairs.{violationOf}
-use Rattle.triangle.proofs.PairLaws.{pairsFrom, pairsAt, violation-starts, violation-enters, violation-passes}
-use Rattle.triangle.proofs.PairLaws.{violation-finds, violation-leaves, violation-ends}
+use Rattle.triangle.specs.Pairs.{violation_of}
+use Rattle.triangle.proofs.PairLaws.{pairs_from, pairs_at, violation_starts, violation_enters, violation_passes}
+use Rattle.triangle.proofs.PairLaws.{violation_finds, violation_leaves, violation_ends}
 use Rattle.triangle.specs.declared.Violation.TheVariants.{Nothing}
 use Rattle.triangle.proofs.find_violation.Statement.{statement}
 use Rattle.triangle.proofs.find_violation.Tie as tie
 
-abbrev invariant-loop : tie.invariant-loop
-invariant-loop distances row n found₀ i x line j₀ found j =
-    (i < j) × (j ≤ length row) × (found ≡ Nothing) × (violations (cell distances) (length row) (λ i. get_or row i 0) ≡ pairsAt distances row i j)
+abbrev invariant_loop : tie.invariant_loop
+invariant_loop distances row n found₀ i x line j₀ found j =
+    (i < j) × (j ≤ length row) × (found ≡ Nothing) × (violations (cell distances) (length row) (λ i. get_or row i 0) ≡ pairs_at distances row i j)
 
-abbrev decreases-loop : tie.decreases-loop
-decreases-loop distances row n found₀ i x line j₀ found j = length row - j
+abbrev decreases_loop : tie.decreases_loop
+decreases_loop distances row n found₀ i x line j₀ found j = length row - j
 
-abbrev invariant-search : tie.invariant-search
-invariant-search distances row n found₀ i₀ found i =
-    (i ≤ length row) × (found ≡ Nothing) × (violations (cell distances) (length row) (λ i. get_or row i 0) ≡ pairsFrom distances row i)
+abbrev invariant_search : tie.invariant_search
+invariant_search distances row n found₀ i₀ found i =
+    (i ≤ length row) × (found ≡ Nothing) × (violations (cell distances) (length row) (λ i. get_or row i 0) ≡ pairs_from distances row i)
 
-abbrev decreases-search : tie.decreases-search
-decreases-search distances row n found₀ i₀ found i = length row - i
+abbrev decreases_search : tie.decreases_search
+decreases_search distances row n found₀ i₀ found i = length row - i
 
-search-holds : tie.Need-search-init invariant-loop decreases-loop invariant-search decreases-search
-search-holds c = (omega arith, refl, violation-starts _ _)
+search_holds : tie.Need-search-init invariant_loop decreases_loop invariant_search decreases_search
+search_holds c = (omega arith, refl, violation_starts _ _)
 
-loop-holds : tie.Need-loop-init invariant-loop decreases-loop invariant-search decreases-search
-loop-holds c = (omega arith, omega arith, c.before.before.search.invariant.1, c.before.before.search.invariant.2 ∙ violation-enters _ _ _ (omega arith))
+loop_holds : tie.Need-loop-init invariant_loop decreases_loop invariant_search decreases_search
+loop_holds c = (omega arith, omega arith, c.before.before.search.invariant.1, c.before.before.search.invariant.2 ∙ violation_enters _ _ _ (omega arith))
 
-shared-slice-read-violates-2 :
-    tie.Need-shared-slice-read-violates-2 invariant-loop decreases-loop invariant-search decreases-search
-shared-slice-read-violates-2 c = omega arith
+shared_slice_read_violates_2 :
+    tie.Need-shared-slice-read-violates-2 invariant_loop decreases_loop invariant_search decreases_search
+shared_slice_read_violates_2 c = omega arith
 
-violates-requires : tie.Need-violates-requires invariant-loop decreases-loop invariant-search decreases-search
-violates-requires c κs = tt
+violates_requires : tie.Need-violates-requires invariant_loop decreases_loop invariant_search decreases_search
+violates_requires c κs = tt
 
-loop-again : tie.Need-loop-preserved invariant-loop decreases-loop invariant-search decreases-search
-loop-again c =
+loop_again : tie.Need-loop-preserved invariant_loop decreases_loop invariant_search decreases_search
+loop_again c =
     let e = c.before.before.before.before.before in
-    (omega arith, omega arith, e.loop.invariant.2, e.loop.invariant.3 ∙ violation-passes _ _ _ _ (omega arith) (sym c.before.violates.ensures ∙ c.if1.false))
+    (omega arith, omega arith, e.loop.invariant.2, e.loop.invariant.3 ∙ violation_passes _ _ _ _ (omega arith) (sym c.before.violates.ensures ∙ c.if1.false))
 
-search-again : tie.Need-search-preserved invariant-loop decreases-loop invariant-search decreases-search
-search-again c = (omega arith, c.before.loop.invariant.2, c.before.loop.invariant.3 ∙ violation-leaves _ _ _ _ (omega arith))
+search_again : tie.Need-search-preserved invariant_loop decreases_loop invariant_search decreases_search
+search_again c = (omega arith, c.before.loop.invariant.2, c.before.loop.invariant.3 ∙ violation_leaves _ _ _ _ (omega arith))
 
-returns : tie.Need-returns invariant-loop decreases-loop invariant-search decreases-search
-returns c = c.before.search.invariant.1 ∙ violation-ends _ _ _ (omega arith) ∙ ap violationOf (sym c.before.search.invariant.2)
+returns : tie.Need-returns invariant_loop decreases_loop invariant_search decreases_search
+returns c = c.before.search.invariant.1 ∙ violation_ends _ _ _ (omega arith) ∙ ap violation_of (sym c.before.search.invariant.2)
 
-returns-2 : tie.Need-returns-2 invariant-loop decreases-loop invariant-search decreases-search
-returns-2 c =
+returns_2 : tie.Need-returns-2 invariant_loop decreases_loop invariant_search decreases_search
+returns_2 c =
     let e = c.before.before.before.before.before in
-    violation-finds _ _ _ _ (omega arith) (sym c.before.violates.ensures ∙ c.if1.true) ∙ ap violationOf (sym e.loop.invariant.3)
+    violation_finds _ _ _ _ (omega arith) (sym c.before.violates.ensures ∙ c.if1.true) ∙ ap violation_of (sym e.loop.invariant.3)
 
-pub find-violation-spec : {M : Type 1} → statement M
-find-violation-spec =
+pub find_violation_spec : {M : Type 1} → statement M
+find_violation_spec =
     tie.close
     (tie.spec
-    invariant-loop
-    decreases-loop
-    invariant-search
-    decreases-search
-    search-holds
+    invariant_loop
+    decreases_loop
+    invariant_search
+    decreases_search
+    search_holds
     (λ c. omega arith)
     (λ c. omega arith)
     (λ c. omega arith)
     (λ c. omega arith)
-    loop-holds
+    loop_holds
     (λ c. omega arith)
     (λ c. omega arith)
     (λ c. omega arith)
     (λ c. omega arith)
-    shared-slice-read-violates-2
-    violates-requires
+    shared_slice_read_violates_2
+    violates_requires
     (λ c. omega arith)
     (λ c. omega arith)
     (λ c. omega arith)
     (λ c. omega arith)
-    loop-again
+    loop_again
     (λ c. omega arith)
     (λ c. omega arith)
-    search-again
+    search_again
     returns
-    returns-2)
+    returns_2)

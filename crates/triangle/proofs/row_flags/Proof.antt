@@ -2,45 +2,45 @@
 -- fall. Assumes nothing.
 use Rattle.std.proofs.Common.{◌-◌, ◌≤◌, length, arith}
 use Rattle.triangle.specs.Prefilter.{RowFlags}
-use Rattle.triangle.proofs.PrefilterLaws.{flags-none, flags-more, flags-done}
+use Rattle.triangle.proofs.PrefilterLaws.{flags_none, flags_more, flags_done}
 use Rattle.triangle.proofs.row_flags.Statement.{statement}
 use Rattle.triangle.proofs.row_flags.Tie as tie
 
-abbrev invariant-loop : tie.invariant-loop
-invariant-loop line y row n total₀ j₀ total j = (j ≤ length row) × RowFlags line y row j total
+abbrev invariant_loop : tie.invariant_loop
+invariant_loop line y row n total₀ j₀ total j = (j ≤ length row) × RowFlags line y row j total
 
-abbrev decreases-loop : tie.decreases-loop
-decreases-loop line y row n total₀ j₀ total j = length row - j
+abbrev decreases_loop : tie.decreases_loop
+decreases_loop line y row n total₀ j₀ total j = length row - j
 
-loop-holds : tie.Need-loop-init invariant-loop decreases-loop
-loop-holds c = (omega arith, flags-none)
+loop_holds : tie.Need-loop-init invariant_loop decreases_loop
+loop_holds c = (omega arith, flags_none)
 
-triple-flags-requires : tie.Need-triple-flags-requires invariant-loop decreases-loop
-triple-flags-requires c κs = tt
+triple_flags_requires : tie.Need-triple-flags-requires invariant_loop decreases_loop
+triple_flags_requires c κs = tt
 
-add_total : tie.Need-overflow-add-total invariant-loop decreases-loop
+add_total : tie.Need-overflow-add-total invariant_loop decreases_loop
 add_total c = omega (arith, c.before.before.before.before.loop.invariant.1.few, c.triple-flags.ensures.few)
 
-loop-again : tie.Need-loop-preserved invariant-loop decreases-loop
-loop-again c = (omega arith, flags-more c.before.before.before.before.loop.invariant.1 c.triple-flags.ensures)
+loop_again : tie.Need-loop-preserved invariant_loop decreases_loop
+loop_again c = (omega arith, flags_more c.before.before.before.before.loop.invariant.1 c.triple-flags.ensures)
 
-returns : tie.Need-returns invariant-loop decreases-loop
-returns c = flags-done (omega arith) (omega arith) c.before.loop.invariant.1
+returns : tie.Need-returns invariant_loop decreases_loop
+returns c = flags_done (omega arith) (omega arith) c.before.loop.invariant.1
 
-pub row-flags-spec : {M : Type 1} → statement M
-row-flags-spec =
+pub row_flags_spec : {M : Type 1} → statement M
+row_flags_spec =
     tie.close
     (tie.spec
-    invariant-loop
-    decreases-loop
-    loop-holds
+    invariant_loop
+    decreases_loop
+    loop_holds
     (λ c. omega arith)
     (λ c. omega arith)
     (λ c. omega arith)
     (λ c. omega arith)
-    triple-flags-requires
+    triple_flags_requires
     add_total
     (λ c. omega arith)
     (λ c. omega arith)
-    loop-again
+    loop_again
     returns)

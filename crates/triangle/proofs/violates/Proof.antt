@@ -5,9 +5,9 @@ use Rattle.study.specs.Calls.{triangle}
 use Rattle.triangle.proofs.violates.Statement.{statement}
 use Rattle.triangle.proofs.violates.Tie as tie
 
-pub violates-spec : {M : Type 1} → statement M
+pub violates_spec : {M : Type 1} → statement M
 unfolding triangle
-violates-spec =
+violates_spec =
     tie.close
     (tie.spec
     (λ c. search rules)

@@ -6,7 +6,7 @@ use lib.ListN.{length, get_or}
 use mir.Syntax.{w16}
 use mir.Val.{Fits}
 use borrow.Author.Rules.{rules}
-use Rattle.validity.proofs.ValidityLaws.{study-decides}
+use Rattle.validity.proofs.ValidityLaws.{study_decides}
 use Rattle.validity.proofs.is_dataset.Statement.{statement}
 use Rattle.validity.proofs.is_dataset.Tie as tie
 
@@ -14,7 +14,7 @@ returns : tie.Need-returns
 returns c =
     let four : length c.before.before.before.args.dataset.withdrawn ≡ 4 = search rules in
     let fits : (i : ℕ) → Fits w16 (get_or c.before.before.before.args.dataset.withdrawn i 0) = λ i. search rules in
-    c.is-study.ensures ∙ study-decides _ record { four = four; high = λ i l. omega (arith, fits i) }
+    c.is-study.ensures ∙ study_decides _ record { four = four; high = λ i l. omega (arith, fits i) }
 
-pub is-dataset-spec : {M : Type 1} → statement M
-is-dataset-spec = tie.close (tie.spec (λ c κs. search rules) returns)
+pub is_dataset_spec : {M : Type 1} → statement M
+is_dataset_spec = tie.close (tie.spec (λ c κs. search rules) returns)

@@ -4,27 +4,27 @@ use native.Mathlib.Omega.{arith}
 use mathlib.Core.Bool.{true}
 use mathlib.Core.Path.{◌≡◌, sym}
 use Rattle.lists.specs.Lists.{every}
-use Rattle.lists.proofs.Scans.{every-none, every_more, every-fails, every-done, test-passes, test-fails}
-use Rattle.validity.specs.Memory.{validPlace}
+use Rattle.lists.proofs.Scans.{every_none, every_more, every_fails, every_done, test_passes, test_fails}
+use Rattle.validity.specs.Memory.{valid_place}
 use Rattle.validity.proofs.valid_distances.Statement.{statement}
 use Rattle.validity.proofs.valid_distances.Tie as tie
 
-abbrev invariant-loop : tie.invariant-loop
-invariant-loop n distances i₀ i = (i ≤ 120) × (every i (λ i. every 120 (validPlace n distances i)) ≡ true)
+abbrev invariant_loop : tie.invariant_loop
+invariant_loop n distances i₀ i = (i ≤ 120) × (every i (λ i. every 120 (valid_place n distances i)) ≡ true)
 
-abbrev decreases-loop : tie.decreases-loop
-decreases-loop n distances i₀ i = 120 - i
+abbrev decreases_loop : tie.decreases_loop
+decreases_loop n distances i₀ i = 120 - i
 
-pub valid-distances-spec : {M : Type 1} → statement M
-valid-distances-spec =
+pub valid_distances_spec : {M : Type 1} → statement M
+valid_distances_spec =
     tie.close
     (tie.spec
-    invariant-loop
-    decreases-loop
-    (λ c. (omega arith, every-none _))
+    invariant_loop
+    decreases_loop
+    (λ c. (omega arith, every_none _))
     (λ c κs. omega arith)
-    (λ c. sym (every-fails _ _ _ (omega arith) (test-fails c.before.valid-places.ensures c.if1.true)))
+    (λ c. sym (every_fails _ _ _ (omega arith) (test_fails c.before.valid-places.ensures c.if1.true)))
     (λ c. omega arith)
     (λ c. omega arith)
-    (λ c. (omega arith, every_more _ _ c.before.before.before.loop.invariant.1 (test-passes c.before.valid-places.ensures c.if1.false)))
-    (λ c. sym (every-done _ _ _ (omega arith) (omega arith) c.before.loop.invariant.1)))
+    (λ c. (omega arith, every_more _ _ c.before.before.before.loop.invariant.1 (test_passes c.before.valid-places.ensures c.if1.false)))
+    (λ c. sym (every_done _ _ _ (omega arith) (omega arith) c.before.loop.invariant.1)))

@@ -7,8 +7,8 @@ use Rattle.validity.proofs.zero_above.Tie as tie
 returns : tie.Need-returns
 returns c = rw (lt-ltb _ _ c.if1.true)
 
-returns-2 : tie.Need-returns-2
-returns-2 c = rw (le-ltb _ _ c.if1.false)
+returns_2 : tie.Need-returns-2
+returns_2 c = rw (le-ltb _ _ c.if1.false)
 
-pub zero-above-spec : {M : Type 1} → statement M
-zero-above-spec = tie.close (tie.spec (λ c. search rules) returns returns-2)
+pub zero_above_spec : {M : Type 1} → statement M
+zero_above_spec = tie.close (tie.spec (λ c. search rules) returns returns_2)

@@ -50,7 +50,7 @@ abbrev stayed : Stays (new.ended).signature.params (new.ended).kept
 stayed = (stay_none_slice (0 ∷ []) tt (plain (λ _. u8)) yes, (stay_none (λ _. P.the_row) yes, tt))
 
 module _ {M : Type 1} {𝓤 : Ura M} (𝓛 : Logic 𝓤) (mem : Memory → SProp 𝓤) (run : Routine → Fun 𝓤) (κ : Lft) (q : Share)
-    (s : Bor (List ℕ)) (p : Place) (is-p : Is P.the_row p (P'.lowered p ∷ [])) where
+    (s : Bor (List ℕ)) (p : Place) (is_p : Is P.the_row p (P'.lowered p ∷ [])) where
   open 𝓛 use {H}
 
   abbrev α : NamedLft
@@ -80,11 +80,11 @@ module _ {M : Type 1} {𝓤 : Ura M} (𝓛 : Logic 𝓤) (mem : Memory → SProp
       frame ! $ fsplit ! $ use1 𝓛 (‵ Own ⊛ ‵ Own) ((shr_slice_copy 𝓛 (named 0) κ u8).twice s (v ∷ [])) $ split ! $ move ! (0 ∷ 2 ∷ []) $ fjoin ! $
       frame ! $
       -- [what bytes owns]: what the fields own together is what the struct owns
-      nothing ! $ owned ! P.the_row (Is P.the_row) (LL.makes P.the_type P'.the_plain 𝓛) p _ is-p $ fjoin ! $ move ! (1 ∷ 0 ∷ []) $ fjoin ! $
+      nothing ! $ owned ! P.the_row (Is P.the_row) (LL.makes P.the_type P'.the_plain 𝓛) p _ is_p $ fjoin ! $ move ! (1 ∷ 0 ∷ []) $ fjoin ! $
       by ! (own_shut 𝓛 (T.the_type α) (T'.the_laws α) (s, (p, tt)))
 
-  typed-p : Holds (has_ty P'.mir (P'.lowered p)) × WT (P'.lowered p)
-  typed-p = ((LL.lawful P.the_type P'.the_laws 𝓛).typed p _ is-p).0
+  typed_p : Holds (has_ty P'.mir (P'.lowered p)) × WT (P'.lowered p)
+  typed_p = ((LL.lawful P.the_type P'.the_laws 𝓛).typed p _ is_p).0
 
   module _ (C : Calls 𝓤 H) (Λ : Loops 𝓤 H) where
     walk : Is (ShrSlice (named 0) κ u8) s (v ∷ [])
@@ -93,9 +93,9 @@ module _ {M : Type 1} {𝓤 : Ura M} (𝓛 : Logic 𝓤) (mem : Memory → SProp
         qed 𝓛 (raw (on_entry 𝓛 new.signature (κ, tt) (q, tt) (s, (p, tt)) at) ∷ []) ∵ enter ! C Λ code.function (v ∷ P'.lowered p ∷ []) _ $
         alloc1 ! (λ l₀. alloc1 ! (λ l₁. alloc1 ! (λ l₂. alloc0 ! $
         params1 ! $ pass1 ! (init ! 2 refl ((shr_slice_Lawful 𝓛 (named 0) κ u8).typed s (v ∷ []) is).0) $
-        pass1 ! (init ! 0 refl typed-p) $ pass0 ! $
+        pass1 ! (init ! 0 refl typed_p) $ pass0 ! $
         assigns ! (agg ! (and_then ! (load ! (from ! (stop !)) (look ! 2 refl)) (and_then ! (load ! (from ! (stop !)) (look ! 0 refl)) (no_more !))))
-        (from ! (stop !)) (init ! 4 refl (tt, (((shr_slice_Lawful 𝓛 (named 0) κ u8).typed s (v ∷ []) is).0.1, (typed-p.1, tt)))) $
+        (from ! (stop !)) (init ! 4 refl (tt, (((shr_slice_Lawful 𝓛 (named 0) κ u8).typed s (v ∷ []) is).0.1, (typed_p.1, tt)))) $
         returns ! (look ! 4 refl) $ forget ! 0 refl $ forget ! 2 refl $ forget ! 4 refl $ move ! (4 ∷ 5 ∷ []) $ free1 ! $ move ! (2 ∷ 3 ∷ []) $ free1 ! $
         free1 ! $ free0 ! $ by ! exits)))
 

@@ -62,10 +62,10 @@ use Rattle.bit_reader.proofs.FieldStep.TheLaws as S'
 use Rattle.bit_reader.specs.contracts.Taken as K
 use Rattle.bit_reader.proofs.Taken.TheLaws as K'
 use Rattle.bit_reader.specs.contracts.field_at as field
-use Rattle.bit_reader.proofs.field_at.Symbol as field-def
+use Rattle.bit_reader.proofs.field_at.Symbol as field_def
 use Rattle.bit_reader.proofs.field_at.Symbol.{name as #field-at}
-use Rattle.bit_reader.proofs.field_at.Met as field-thm
-use Rattle.bit_reader.proofs.ReaderCalls.{slice-val, field-val, taken-val, reader, token, OwnR, IsReader, typed-reader}
+use Rattle.bit_reader.proofs.field_at.Met as field_thm
+use Rattle.bit_reader.proofs.ReaderCalls.{slice_val_of, field_val, taken_val, reader, token, OwnR, IsReader, typed_reader}
 use Rattle.bit_reader.specs.contracts.BitReader.take.Key.{name as #take}
 use Rattle.bit_reader.specs.contracts.BitReader.take as take
 use Rattle.bit_reader.proofs.BitReader.take.Statement as stated
@@ -130,7 +130,7 @@ module _ {M : Type 1} {𝓤 : Ura M} (𝓛 : Logic 𝓤) (mem : Memory → SProp
 
   -- the call of `field_at`: what it is passed, and what it asks and says
   abbrev passed : Vals field.signature (κ, tt)
-  passed = (slice-val d.bytes ∷ [], (vp ∷ [], (vint w64 w ∷ [], tt)))
+  passed = (slice_val_of d.bytes ∷ [], (vp ∷ [], (vint w64 w ∷ [], tt)))
 
   abbrev to : (FieldAt 𝓛 mem run).Ghost
   to = (((κ, tt), (q, tt), tt, (d.bytes, (d.place, (w, tt))), passed), tt)
@@ -144,14 +144,14 @@ module _ {M : Type 1} {𝓤 : Ura M} (𝓛 : Logic 𝓤) (mem : Memory → SProp
 
   -- what the struct owns gives what the callee asks, and is kept
   apart : Is P.the_row d.place (vp ∷ []) → ent 𝓤 Entry (sep 𝓤 ((FieldAt 𝓛 mem run).pre to) (sem 𝓛 Own))
-  apart is-p =
+  apart is_p =
       qed 𝓛 (token κ q ∷ ‵ (owns (B (κ, tt) ∷ usize ∷ []) (d, (w, tt)) (mach ∷ [], (vint w64 w ∷ [], tt))) ∷ []) ∵
       move ! (1 ∷ []) $ fsplit ! $ move ! (1 ∷ []) $ drop ! $ use1 𝓛 (‵ Own ⊛ ‵ Own) copied $ split ! $
       use1 𝓛 (given (mach ∷ [] ≡ mach ∷ []) (‵ (all_own D.parts L vd))) (own_open 𝓛 D L vd mach) $
       learn ! (λ _. use1 𝓛 (‵ (field_own D.parts L 0 d.bytes) ⊛ ‵ (rest D.parts L 0 vd)) (own_out 𝓛 D.parts L 0 vd) $ split ! $
       -- [what bytes owns; what place owns; what the struct owns; the token]
       move ! (1 ∷ []) $ drop ! $ nothing ! $ owned ! usize (Is usize) (uint_Makes 𝓛 w64) w _ (refl, w_Fits) $ fjoin ! $
-      owned ! P.the_row (Is P.the_row) (LL.makes P.the_type P'.the_plain 𝓛) d.place _ is-p $ fjoin ! $ move ! (1 ∷ 0 ∷ []) $ fjoin ! $
+      owned ! P.the_row (Is P.the_row) (LL.makes P.the_type P'.the_plain 𝓛) d.place _ is_p $ fjoin ! $ move ! (1 ∷ 0 ∷ []) $ fjoin ! $
       move ! (2 ∷ 0 ∷ []) $ use2 𝓛 (raw ((FieldAt 𝓛 mem run).pre to)) asked $ frame ! $ done !)
 
   -- of what the callee says, the clause alone: it has no `&mut`, so what is said of last values is dropped
@@ -159,52 +159,52 @@ module _ {M : Type 1} {𝓤 : Ura M} (𝓛 : Logic 𝓤) (mem : Memory → SProp
   said r = ex_e 𝓤 _ (λ ws. snd∗ 𝓤 (sem 𝓛 (lasts field.ended (κ, tt) (d.bytes, (d.place, (w, tt))) ws)) (fact 𝓤 (Found r)))
 
   -- the callee's answer r, and the result that is made of it
-  module _ (is-d : IsReader κ d) (r : FieldStep) (u : Val) (is-r : Is S.the_row r (u ∷ [])) where
+  module _ (is_d : IsReader κ d) (r : FieldStep) (u : Val) (is_r : Is S.the_row r (u ∷ [])) where
     abbrev onward : BitReader
     onward = reader d.bytes r.next
 
     abbrev made : Taken
     made = record { value = r.value; rest = onward }
 
-    is-step : u ≡ LL.val S.the_type S'.the_laws r
-    is-step = ap only (LL.tells S.the_type S'.the_laws r (u ∷ []) is-r)
+    is_step : u ≡ LL.val S.the_type S'.the_laws r
+    is_step = ap only (LL.tells S.the_type S'.the_laws r (u ∷ []) is_r)
 
-    is-value : Is F.the_row r.value (field-val r.value ∷ [])
-    is-value = (LL.owed S.the_type S'.the_laws r (u ∷ []) is-r).0
+    is_value : Is F.the_row r.value (field_val r.value ∷ [])
+    is_value = (LL.owed S.the_type S'.the_laws r (u ∷ []) is_r).0
 
-    is-next : Is P.the_row r.next (P'.lowered r.next ∷ [])
-    is-next = (LL.owed S.the_type S'.the_laws r (u ∷ []) is-r).1.0
+    is_next : Is P.the_row r.next (P'.lowered r.next ∷ [])
+    is_next = (LL.owed S.the_type S'.the_laws r (u ∷ []) is_r).1.0
 
-    is-onward : IsReader κ onward
-    is-onward = LL.owes D L onward ((LL.owed D L d _ is-d).0, (is-next, tt))
+    is_onward : IsReader κ onward
+    is_onward = LL.owes D L onward ((LL.owed D L d _ is_d).0, (is_next, tt))
 
     -- each local holds what is of its type
-    typed-step : Holds (has_ty S'.mir u) × WT u
-    typed-step = ((LL.lawful S.the_type S'.the_laws 𝓛).typed r _ is-r).0
+    typed_step : Holds (has_ty S'.mir u) × WT u
+    typed_step = ((LL.lawful S.the_type S'.the_laws 𝓛).typed r _ is_r).0
 
-    typed-onward : Holds (has_ty (T'.mir erased) (T'.lowered onward)) × WT (T'.lowered onward)
-    typed-onward = typed-reader κ 𝓛 onward is-onward
+    typed_onward : Holds (has_ty (T'.mir erased) (T'.lowered onward)) × WT (T'.lowered onward)
+    typed_onward = typed_reader κ 𝓛 onward is_onward
 
-    typed-made : Holds (has_ty (K'.mir (named 0)) (taken-val κ made)) × WT (taken-val κ made)
-    typed-made = ((LL.lawful (K.the_type α) (K'.the_laws α) 𝓛).typed made _ (LL.owes (K.the_type α) (K'.the_laws α) made (is-value, (is-onward, tt)))).0
+    typed_made : Holds (has_ty (K'.mir (named 0)) (taken_val κ made)) × WT (taken_val κ made)
+    typed_made = ((LL.lawful (K.the_type α) (K'.the_laws α) 𝓛).typed made _ (LL.owes (K.the_type α) (K'.the_laws α) made (is_value, (is_onward, tt)))).0
 
-    exits : Found r → ent 𝓤 (⋆ 𝓛 (token κ q ∷ ‵ Own ∷ [])) (Post (taken-val κ made))
+    exits : Found r → ent 𝓤 (⋆ 𝓛 (token κ q ∷ ‵ Own ∷ [])) (Post (taken_val κ made))
     exits e =
         qed 𝓛 (token κ q ∷ ‵ Own ∷ []) ∵
-        suffices ! _ (ends_at 𝓛 take.ended stayed (take.clauses 𝓛 mem run) at_entry (taken-val κ made) made (tt, (tt, tt)) (tt, (tt, tt))) $
+        suffices ! _ (ends_at 𝓛 take.ended stayed (take.clauses 𝓛 mem run) at_entry (taken_val κ made) made (tt, (tt, tt)) (tt, (tt, tt))) $
         says ! (record { same = refl; step = e }) $ frame ! $ use1 𝓛 (‵ Own ⊛ ‵ Own) copied $ split ! $
         nothing ! $ owned ! usize (Is usize) (uint_Makes 𝓛 w64) w _ (refl, w_Fits) $ fjoin ! $ move ! (1 ∷ 0 ∷ []) $ fjoin ! $ frame ! $
         -- [what the struct owns]: the facts of the place past the field take the place of place's
-        owned ! P.the_row (Is P.the_row) (LL.makes P.the_type P'.the_plain 𝓛) r.next _ is-next $ move ! (1 ∷ 0 ∷ []) $
+        owned ! P.the_row (Is P.the_row) (LL.makes P.the_type P'.the_plain 𝓛) r.next _ is_next $ move ! (1 ∷ 0 ∷ []) $
         use2 𝓛 (‵ (OwnR κ onward)) (own_put 𝓛 D L 1 vd r.next mach) $ nothing ! $ move ! (1 ∷ 0 ∷ []) $ fjoin ! $
         -- [what the reader handed on owns]: with the facts of the value, what the result owns
-        owned ! F.the_row (Is F.the_row) (EL.makes F.the_type F'.the_plain 𝓛) r.value _ is-value $ fjoin ! $
+        owned ! F.the_row (Is F.the_row) (EL.makes F.the_type F'.the_plain 𝓛) r.value _ is_value $ fjoin ! $
         by ! (own_shut 𝓛 (K.the_type α) (K'.the_laws α) (r.value, (onward, tt)))
 
   module _ (C : Calls 𝓤 H) (Λ : Loops 𝓤 H) (fm : FmC 𝓤 H 𝓛.laws C) (known : Triple 𝓤 (C #field-at) (FieldAt 𝓛 mem run)) where
     walk : Holds (has_ty (T'.mir (named 0)) mach) × WT mach → IsReader κ d → Is P.the_row d.place (vp ∷ [])
         → ent 𝓤 Entry (WpFn 𝓤 H C Λ code.function (mach ∷ vint w64 w ∷ []) Post)
-    walk wt is-d is-p =
+    walk wt is_d is_p =
         qed 𝓛 (raw Entry ∷ []) ∵ enter ! C Λ code.function (mach ∷ vint w64 w ∷ []) _ $
         alloc1 ! (λ l₀. alloc1 ! (λ l₁. alloc1 ! (λ l₂. alloc1 ! (λ l₃. alloc1 ! (λ l₄. alloc1 ! (λ l₅. alloc1 ! (λ l₆. alloc1 ! (λ l₇. alloc0 ! $
         params1 ! $ pass1 ! (init ! 12 refl wt) $ pass1 ! (init ! 10 refl (tt, record { fits = w_Fits })) $ pass0 ! $
@@ -213,28 +213,28 @@ module _ {M : Type 1} {𝓤 : Ura M} (𝓛 : Logic 𝓤) (mem : Memory → SProp
         assigns ! (of_opd ! (load ! (from ! (fld ! refl (stop !))) (look_in ! 12 (sub ! 1 refl (whole !))))) (from ! (stop !))
         (init ! 4 refl (tt, wt.1.1.0)) $
         -- [room for _7; …; room for _6; …; _5; …; _4; …; room for _3; …; _2; …; _1; …; room for _0; …; what there is on entry]
-        move ! (16 ∷ []) $ use1 𝓛 (raw ((FieldAt 𝓛 mem run).pre to) ⊛ ‵ Own) (apart is-p) $ split ! $
+        move ! (16 ∷ []) $ use1 𝓛 (raw ((FieldAt 𝓛 mem run).pre to) ⊛ ‵ Own) (apart is_p) $ split ! $
         calls_at ! fm (FieldAt 𝓛 mem run) known to
         (and_then ! (load ! (from ! (stop !)) (look ! 8 refl))
         (and_then ! (load ! (from ! (stop !)) (look ! 6 refl)) (and_then ! (load ! (from ! (stop !)) (look ! 12 refl)) (no_more !)))) (λ u.
         use1 𝓛 (later (some (λ (r : FieldStep). (token κ q ⊛ ‵ ((S.the_row).own_val r (u ∷ []))) ⊛ raw (Said r)))) (id⊢ 𝓤 _) $ await ! tt $ pick ! (λ r.
         split ! $ move ! (1 ∷ []) $ use1 𝓛 (raw (fact 𝓤 (Found r))) (said r) $ heard ! (Found r) (λ e. split ! $ move ! (1 ∷ []) $
-        peeks ! S.the_row (Is S.the_row) (shows 𝓛 S.the_row) r (u ∷ []) (λ is-r.
+        peeks ! S.the_row (Is S.the_row) (shows 𝓛 S.the_row) r (u ∷ []) (λ is_r.
         -- [the answer; the token; what the struct owns; room for _7; …; room for _6; …; _5; …; _4; …; room for _3; …; _2; …; _1; …; room for _0; …]
-        drop ! $ land ! (from ! (stop !)) (init ! 10 refl (typed-step is-d r u is-r)) $
-        rewrite ! 10 (λ (x : Val). ‵ (fat full_share S'.mir l₃ 0 x)) (is-step is-d r u is-r) refl $
+        drop ! $ land ! (from ! (stop !)) (init ! 10 refl (typed_step is_d r u is_r)) $
+        rewrite ! 10 (λ (x : Val). ‵ (fat full_share S'.mir l₃ 0 x)) (is_step is_d r u is_r) refl $
         assigns ! (of_opd ! (load ! (from ! (fld ! refl (stop !))) (look_in ! 14 (sub ! 0 refl (whole !))))) (from ! (stop !))
         (init ! 4 refl (tt, wt.1.0)) $
         assigns ! (agg ! (and_then ! (load ! (from ! (stop !)) (look ! 4 refl))
         (and_then ! (load ! (from ! (fld ! refl (stop !))) (look_in ! 10 (sub ! 1 refl (whole !)))) (no_more !))))
-        (from ! (stop !)) (init ! 2 refl (typed-onward is-d r u is-r)) $
+        (from ! (stop !)) (init ! 2 refl (typed_onward is_d r u is_r)) $
         assigns ! (agg ! (and_then ! (load ! (from ! (fld ! refl (stop !))) (look_in ! 10 (sub ! 0 refl (whole !))))
-        (and_then ! (load ! (from ! (stop !)) (look ! 2 refl)) (no_more !)))) (from ! (stop !)) (init ! 16 refl (typed-made is-d r u is-r)) $
+        (and_then ! (load ! (from ! (stop !)) (look ! 2 refl)) (no_more !)))) (from ! (stop !)) (init ! 16 refl (typed_made is_d r u is_r)) $
         -- [the token; what the struct owns; _7; …; _6; …; _5; …; _4; …; _3; …; _2; …; _1; …; _0; …]
         returns ! (look ! 16 refl) $ forget ! 2 refl $ forget ! 4 refl $ forget ! 6 refl $ forget ! 8 refl $ forget ! 10 refl $ forget ! 12 refl $
         forget ! 14 refl $ forget ! 16 refl $ move ! (16 ∷ 17 ∷ []) $ free1 ! $ move ! (14 ∷ 15 ∷ []) $ free1 ! $ move ! (12 ∷ 13 ∷ []) $ free1 ! $
         move ! (10 ∷ 11 ∷ []) $ free1 ! $ move ! (8 ∷ 9 ∷ []) $ free1 ! $ move ! (6 ∷ 7 ∷ []) $ free1 ! $ move ! (4 ∷ 5 ∷ []) $ free1 ! $
-        move ! (2 ∷ 3 ∷ []) $ free1 ! $ free0 ! $ by ! (exits is-d r u is-r e)))))))))))))
+        move ! (2 ∷ 3 ∷ []) $ free1 ! $ free0 ! $ by ! (exits is_d r u is_r e)))))))))))))
 
 module _ {M : Type 1} {𝓤 : Ura M} (𝓛 : Logic 𝓤) (mem : Memory → SProp 𝓤) (run : Routine → Fun 𝓤) where
   open 𝓛 use {H}
@@ -263,4 +263,4 @@ take_spec 𝓤 𝓛 𝓜 𝓡 =
     entered 𝓤 𝓛.H (triple_of 𝓛 take.signature (take.spec 𝓛 𝓜.mem 𝓡.run))
     (tables 𝓤 𝓛.H 𝓜 𝓡 code.env).C (tables 𝓤 𝓛.H 𝓜 𝓡 code.env).Λ #take code.function (code.unfolded 𝓤 𝓛.H 𝓜 𝓡)
     (take_meets 𝓛 𝓜.mem 𝓡.run (tables_of 𝓤 𝓛.H 𝓜 (tables 𝓤 𝓛.H 𝓜 𝓡 code.env))
-    (cited 𝓤 𝓛.H (FieldAt 𝓛 𝓜.mem 𝓡.run) 𝓜 𝓡 code.env #field-at field-def.routine code.calls-bit-reader::field-at (field-thm.met 𝓤 𝓛 𝓜 𝓡)))
+    (cited 𝓤 𝓛.H (FieldAt 𝓛 𝓜.mem 𝓡.run) 𝓜 𝓡 code.env #field-at field_def.routine code.calls-bit-reader::field-at (field_thm.met 𝓤 𝓛 𝓜 𝓡)))

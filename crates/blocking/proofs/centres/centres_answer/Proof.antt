@@ -2,36 +2,36 @@
 use native.Mathlib.Omega.{arith}
 use mathlib.Core.Path.{sym, ◌∙◌}
 use mathlib.Core.Logic.{inl, inr}
-use Rattle.study.specs.Calls.{centresReasons}
-use Rattle.blocking.proofs.CentresLaws.{centres-1, centres-done}
-use Rattle.access.proofs.AccessLaws.{inquiry-answer}
-use Rattle.blocking.specs.Calls.{findsCentres}
+use Rattle.study.specs.Calls.{centres_reasons}
+use Rattle.blocking.proofs.CentresLaws.{centres_1, centres_done}
+use Rattle.access.proofs.AccessLaws.{inquiry_answer}
+use Rattle.blocking.specs.Calls.{finds_centres}
 use borrow.Author.Rules.{rules}
 use Rattle.blocking.proofs.centres.centres_answer.Statement.{statement}
 use Rattle.blocking.proofs.centres.centres_answer.Tie as tie
 
 returns : tie.Need-returns
-unfolding findsCentres centresReasons
-returns c g = c.before.before.check-tides.ensures.refuses _ c.enum-told2.given.1 _ ∙ sym (inquiry-answer _ _)
+unfolding finds_centres centres_reasons
+returns c g = c.before.before.check-tides.ensures.refuses _ c.enum-told2.given.1 _ ∙ sym (inquiry_answer _ _)
 
-returns-2 : tie.Need-returns-2
-returns-2 c = let at = c.before in centres-1 _ _ at.before.before.check-tides.ensures at.enum_told.given.1 (inl (omega arith))
+returns_2 : tie.Need-returns-2
+returns_2 c = let at = c.before in centres_1 _ _ at.before.before.check-tides.ensures at.enum_told.given.1 (inl (omega arith))
 
-returns-3 : tie.Need-returns-3
-returns-3 c =
-    let at = c.before.before in centres-1 _ _ at.before.before.check-tides.ensures at.enum_told.given.1 (inr (inl (omega arith)))
+returns_3 : tie.Need-returns-3
+returns_3 c =
+    let at = c.before.before in centres_1 _ _ at.before.before.check-tides.ensures at.enum_told.given.1 (inr (inl (omega arith)))
 
-returns-4 : tie.Need-returns-4
-returns-4 c =
+returns_4 : tie.Need-returns-4
+returns_4 c =
     let at = c.before.before.before in
-    centres-1 _ _ at.before.before.check-tides.ensures at.enum_told.given.1 (inr (inr (omega arith)))
+    centres_1 _ _ at.before.before.check-tides.ensures at.enum_told.given.1 (inr (inr (omega arith)))
 
-returns-5 : tie.Need-returns-5
-returns-5 c =
+returns_5 : tie.Need-returns-5
+returns_5 c =
     let at = c.before.before.before in
-    centres-done _ _ at.before.before.check-tides.ensures at.enum_told.given.1 (omega arith) (omega arith) (omega arith)
+    centres_done _ _ at.before.before.check-tides.ensures at.enum_told.given.1 (omega arith) (omega arith) (omega arith)
 
-pub centres-answer-spec : {M : Type 1} → statement M
-centres-answer-spec =
+pub centres_answer_spec : {M : Type 1} → statement M
+centres_answer_spec =
     tie.close
-    (tie.spec (λ c κs. search rules) (λ c. search rules) (λ c. search rules) returns returns-2 returns-3 returns-4 returns-5)
+    (tie.spec (λ c κs. search rules) (λ c. search rules) (λ c. search rules) returns returns_2 returns_3 returns_4 returns_5)

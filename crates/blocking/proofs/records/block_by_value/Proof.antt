@@ -41,9 +41,9 @@ use Rattle.study.specs.declared.BlockRecord.{BlockRecord}
 use Rattle.study.specs.declared.Blocked.{Blocked}
 use Rattle.study.specs.declared.Dataset.{Dataset}
 use Rattle.validity.specs.Memory.{State, state_of}
-use Rattle.access.specs.Calls.{reply, listAfter, recordsAfter}
-use Rattle.blocking.specs.Calls.{makesBlocks, blockedReply}
-use Rattle.blocking.specs.Rows.{noRecord, noRecords}
+use Rattle.access.specs.Calls.{reply, list_after, records_after}
+use Rattle.blocking.specs.Calls.{makes_blocks, blocked_reply}
+use Rattle.blocking.specs.Rows.{no_record, no_records}
 use Rattle.blocking.specs.declared.records.Blocking.{Blocking}
 use Rattle.study.specs.contracts.Dataset as S
 use Rattle.study.proofs.Dataset.TheLaws as S'
@@ -53,40 +53,40 @@ use Rattle.study.specs.contracts.Blocked as N
 use Rattle.blocking.specs.contracts.records.Blocking as D
 use Rattle.blocking.proofs.records.Blocking.TheLaws as D'
 use Rattle.blocking.specs.contracts.records.block as block
-use Rattle.blocking.proofs.records.block.Symbol as block-def
+use Rattle.blocking.proofs.records.block.Symbol as block_def
 use Rattle.blocking.proofs.records.block.Symbol.{name as #block}
-use Rattle.blocking.proofs.records.block.Met as block-thm
+use Rattle.blocking.proofs.records.block.Met as block_thm
 use Rattle.blocking.specs.contracts.records.block_by_value.Key.{name as #block-by-value}
 use Rattle.blocking.specs.contracts.records.block_by_value as f
 use Rattle.blocking.proofs.records.block_by_value.Statement as stated
 use Rattle.blocking.proofs.records.block_by_value.Code as code
-use Rattle.blocking.proofs.Arguments.{R, dataset-val, slice-val, OwnV, OwnW, twice, typed-dataset, typed-answer}
-use Rattle.blocking.proofs.Walks.{full, promise, reads, returns-from, asks_nothing, heard3, says3, frees_all, table, known, walk-proves}
-use Rattle.blocking.proofs.ArrayLent.{InLocal, lends-array, array_back}
+use Rattle.blocking.proofs.Arguments.{R, dataset_val, slice_val_of, OwnV, OwnW, twice, typed_dataset, typed_answer}
+use Rattle.blocking.proofs.Walks.{full, promise, reads, returns_from, asks_nothing, heard3, says3, frees_all, table, known, walk_proves}
+use Rattle.blocking.proofs.ArrayLent.{InLocal, lends_array, array_back}
 
 abbrev stayed : Stays (f.ended).signature.params (f.ended).kept
 stayed = (stay_none (λ _. S.the_row) yes, (stay_none_slice (0 ∷ []) tt (plain (λ _. u32)) yes, (stay_none_slice (1 ∷ []) tt (plain (λ _. u8)) yes, (gave_slice (2 ∷ []) tt (plain (λ _. u8)), tt))))
 
-length_none : length noRecords ≡ 120
-unfolding noRecords
+length_none : length no_records ≡ 120
+unfolding no_records
 length_none = refl
 
 -- an array of records, as a field of a struct has it
-each-into : (ys : List BlockRecord) (us : List Val) → shadow (each R.Denot R.own ys us) → shadow (each (T.the_field).row.Denot (T.the_field).row.own_val (map (T.the_field).into ys) us)
-each-into [] [] s = tt
-each-into [] (u ∷ us) s = absurd s
-each-into (y ∷ ys) [] s = absurd s
-each-into (y ∷ ys) (u ∷ us) s = (s.0, each-into ys us s.1)
+each_into : (ys : List BlockRecord) (us : List Val) → shadow (each R.Denot R.own ys us) → shadow (each (T.the_field).row.Denot (T.the_field).row.own_val (map (T.the_field).into ys) us)
+each_into [] [] s = tt
+each_into [] (u ∷ us) s = absurd s
+each_into (y ∷ ys) [] s = absurd s
+each_into (y ∷ ys) (u ∷ us) s = (s.0, each_into ys us s.1)
 
-array-into : (n : ℕ) (ys : List BlockRecord) (vs : List Val) → Is (Array R n) ys vs → Is (Array (T.the_field).row n) (map (T.the_field).into ys) vs
-array-into n ys vs p = (p.0, ((p.1.0.0, length-map ys (T.the_field).into ∙ p.1.0.1), each-into ys p.0 p.1.1))
+array_into : (n : ℕ) (ys : List BlockRecord) (vs : List Val) → Is (Array R n) ys vs → Is (Array (T.the_field).row n) (map (T.the_field).into ys) vs
+array_into n ys vs p = (p.0, ((p.1.0.0, length-map ys (T.the_field).into ∙ p.1.0.1), each_into ys p.0 p.1.1))
 
 -- the record of no block, and its machine value
 abbrev mach₀ : Val
-mach₀ = T'.lowered noRecord
+mach₀ = T'.lowered no_record
 
-is₀ : Is R noRecord (mach₀ ∷ [])
-is₀ = LL.owes T.the_type T'.the_laws noRecord ((refl, lit< tt), ((refl, lit< tt), ((refl, lit< tt), tt)))
+is₀ : Is R no_record (mach₀ ∷ [])
+is₀ = LL.owes T.the_type T'.the_laws no_record ((refl, lit< tt), ((refl, lit< tt), ((refl, lit< tt), tt)))
 
 room : Room R 120
 room = (lit< tt, lit< tt)
@@ -100,7 +100,7 @@ abbrev made : Val → Val → Val
 made u m = vstruct (vcons u (vcons m vnil))
 
 is_made : (r : Blocked) (ws : List BlockRecord) (u m : Val) → Is N.the_row r (u ∷ []) → Is (Array R 120) ws (m ∷ []) → Is D.the_row (record { answer = r; records = ws }) (made u m ∷ [])
-is_made r ws u m is is' = ((u ∷ [], (m ∷ [], tt)), (refl, (is, (array-into 120 ws (m ∷ []) is', tt))))
+is_made r ws u m is is' = ((u ∷ [], (m ∷ [], tt)), (refl, (is, (array_into 120 ws (m ∷ []) is', tt))))
 
 module _ {M : Type 1} {𝓤 : Ura M} (𝓛 : Logic 𝓤) (mem : Memory → SProp 𝓤) (run : Routine → Fun 𝓤) where
   -- the contract that the proof cites
@@ -112,16 +112,16 @@ module _ {M : Type 1} {𝓤 : Ura M} (𝓛 : Logic 𝓤) (mem : Memory → SProp
   open 𝓛 use {H, A}
 
   abbrev sd : Val
-  sd = dataset-val d
+  sd = dataset_val d
 
   abbrev sv : Val
-  sv = slice-val v
+  sv = slice_val_of v
 
   abbrev sw : Val
-  sw = slice-val w
+  sw = slice_val_of w
 
   abbrev sl : Val
-  sl = slice-val l
+  sl = slice_val_of l
 
   abbrev state : State
   state = state_of d v.now w.now
@@ -146,7 +146,7 @@ module _ {M : Type 1} {𝓤 : Ura M} (𝓛 : Logic 𝓤) (mem : Memory → SProp
 
   -- the slice of the local array at b, lent for ν under the name γ
   abbrev x : ℕ → GName → MutBor (List BlockRecord)
-  x b γ = record { ref_ptr = (b, 0); ghost_name = γ; now = noRecords }
+  x b γ = record { ref_ptr = (b, 0); ghost_name = γ; now = no_records }
 
   abbrev sx : ℕ → Val
   sx b = slice_val (b, 0) 120
@@ -169,8 +169,8 @@ module _ {M : Type 1} {𝓤 : Ura M} (𝓛 : Logic 𝓤) (mem : Memory → SProp
       -- [κ₂; true; κ₁; κ₀; what block owns; settings; distances; ν]
       move ! (7 ∷ 1 ∷ []) $ join ! $ move ! (1 ∷ 0 ∷ []) $ join ! $ move ! (1 ∷ 0 ∷ []) $ join ! $ move ! (1 ∷ 0 ∷ []) $ join ! $ use2 𝓛 (raw ((Block 𝓛 mem run).pre (to_block ν b γ))) (asks_nothing 𝓤 _) $ frame ! $ move ! (1 ∷ 0 ∷ []) $ done !
 
-  exits : (r : Blocked) (zs : List ℕ) (ws : List BlockRecord) (u m : Val) → blockedReply r ≡ reply state (makesBlocks l.now noRecords)
-      → zs ≡ listAfter state (makesBlocks l.now noRecords) → ws ≡ recordsAfter state (makesBlocks l.now noRecords)
+  exits : (r : Blocked) (zs : List ℕ) (ws : List BlockRecord) (u m : Val) → blocked_reply r ≡ reply state (makes_blocks l.now no_records)
+      → zs ≡ list_after state (makes_blocks l.now no_records) → ws ≡ records_after state (makes_blocks l.now no_records)
       → length zs ≡ length l.now → Is S.the_row d (sd ∷ []) → Is D.the_row (record { answer = r; records = ws }) (made u m ∷ [])
       → ent 𝓤 (⋆ 𝓛 (‵ (flft κ₂ q₂) ∷ ‵ (flft κ₁ q₁) ∷ ‵ (flft κ₀ q₀) ∷ ‵ (finally u8 l.name zs) ∷ ‵ (OwnV κ₀ v) ∷ ‵ (OwnW κ₁ w) ∷ [])) (Post (made u m))
   exits r zs ws u m answered listed recorded long isD is =
@@ -184,46 +184,46 @@ module _ {M : Type 1} {𝓤 : Ura M} (𝓛 : Logic 𝓤) (mem : Memory → SProp
       owned ! D.the_row (Is D.the_row) ((LL.makes D.the_type D'.the_plain) 𝓛) (record { answer = r; records = ws }) _ is $ done !
 
   -- what lies in the locals is of their types
-  typed-array : (ys : List BlockRecord) (m : Val) → Is (Array R 120) ys (m ∷ []) → Holds (has_ty (ty_array T'.mir 120) m) × WT m
-  typed-array ys m is = ((Array-Lawful 𝓛 R (LL.lawful T.the_type T'.the_laws 𝓛) 120).typed ys _ is).0
+  typed_array : (ys : List BlockRecord) (m : Val) → Is (Array R 120) ys (m ∷ []) → Holds (has_ty (ty_array T'.mir 120) m) × WT m
+  typed_array ys m is = ((Array-Lawful 𝓛 R (LL.lawful T.the_type T'.the_laws 𝓛) 120).typed ys _ is).0
 
-  typed-made : (r : Blocking) (u : Val) → Is D.the_row r (u ∷ []) → Holds (has_ty D'.mir u) × WT u
-  typed-made r u is = ((LL.lawful D.the_type D'.the_laws 𝓛).typed r _ is).0
+  typed_made : (r : Blocking) (u : Val) → Is D.the_row r (u ∷ []) → Holds (has_ty D'.mir u) × WT u
+  typed_made r u is = ((LL.lawful D.the_type D'.the_laws 𝓛).typed r _ is).0
 
   -- the local array of no records
-  fills : ent 𝓤 (emp 𝓤) (sem 𝓛 ((Array R 120).own_val noRecords (array_val (replicate 120 mach₀) ∷ [])))
-  unfolding noRecords
-  fills = qed 𝓛 [] ∵ owned ! R (Is R) ((LL.makes T.the_type T'.the_plain) 𝓛) noRecord (mach₀ ∷ []) is₀ $ by ! (Array-repeat 𝓛 R (LL.copy T.the_type T'.the_copy 𝓛) 120 noRecord mach₀)
+  fills : ent 𝓤 (emp 𝓤) (sem 𝓛 ((Array R 120).own_val no_records (array_val (replicate 120 mach₀) ∷ [])))
+  unfolding no_records
+  fills = qed 𝓛 [] ∵ owned ! R (Is R) ((LL.makes T.the_type T'.the_plain) 𝓛) no_record (mach₀ ∷ []) is₀ $ by ! (Array-repeat 𝓛 R (LL.copy T.the_type T'.the_copy 𝓛) 120 no_record mach₀)
 
-  module _ (𝓣 : Tables 𝓤 H) (known-block : Triple 𝓤 (𝓣.C #block) (Block 𝓛 mem run)) where
+  module _ (𝓣 : Tables 𝓤 H) (known_block : Triple 𝓤 (𝓣.C #block) (Block 𝓛 mem run)) where
     walk : Is S.the_row d (sd ∷ []) → Is (ShrSlice (named 0) κ₀ u32) v (sv ∷ []) → Is (ShrSlice (named 1) κ₁ u8) w (sw ∷ []) → Is (MutSlice (named 2) κ₂ u8) l (sl ∷ [])
         → ent 𝓤 Entry (WpFn 𝓤 H 𝓣.C 𝓣.Λ code.function (sd ∷ sv ∷ sw ∷ sl ∷ []) Post)
     walk gd gv gw gl =
         qed 𝓛 (raw Entry ∷ []) ∵ enter ! 𝓣.C 𝓣.Λ code.function (sd ∷ sv ∷ sw ∷ sl ∷ []) _ $
         alloc1 ! (λ l₀. alloc1 ! (λ l₁. alloc1 ! (λ l₂. alloc1 ! (λ l₃. alloc1 ! (λ l₄. alloc1 ! (λ l₅. alloc1 ! (λ l₆. alloc1 ! (λ l₇. alloc1 ! (λ l₈. alloc1 ! (λ l₉. alloc1 ! (λ l₁₀. alloc1 ! (λ l₁₁. alloc1 ! (λ l₁₂. alloc0 ! $ params1 ! $
-        pass1 ! (init ! 22 refl (typed-dataset 𝓛 d sd gd)) $ pass1 ! (init ! 20 refl ((shr_slice_Lawful 𝓛 (named 0) κ₀ u32).typed v _ gv).0) $ pass1 ! (init ! 18 refl ((shr_slice_Lawful 𝓛 (named 1) κ₁ u8).typed w _ gw).0) $
+        pass1 ! (init ! 22 refl (typed_dataset 𝓛 d sd gd)) $ pass1 ! (init ! 20 refl ((shr_slice_Lawful 𝓛 (named 0) κ₀ u32).typed v _ gv).0) $ pass1 ! (init ! 18 refl ((shr_slice_Lawful 𝓛 (named 1) κ₁ u8).typed w _ gw).0) $
         pass1 ! (init ! 16 refl ((mut_slice_Lawful 𝓛 (named 2) κ₂ u8).typed l _ gl).0) $ pass0 ! $
         -- [_12; …; _11; …; …; _1; …; room for _0; …; what there is on entry]
-        assigns ! (agg ! (and_then ! (lit ! tt) (and_then ! (lit ! tt) (and_then ! (lit ! tt) (no_more !))))) (from ! (stop !)) (init ! 14 refl ((LL.lawful T.the_type T'.the_laws 𝓛).typed noRecord _ is₀).0) $
-        use0 𝓛 (‵ ((Array R 120).own_val noRecords (array_val (replicate 120 mach₀) ∷ []))) fills $ peeks ! (Array R 120) (Is (Array R 120)) (shows 𝓛 (Array R 120)) noRecords (array_val (replicate 120 mach₀) ∷ []) (λ is_a.
+        assigns ! (agg ! (and_then ! (lit ! tt) (and_then ! (lit ! tt) (and_then ! (lit ! tt) (no_more !))))) (from ! (stop !)) (init ! 14 refl ((LL.lawful T.the_type T'.the_laws 𝓛).typed no_record _ is₀).0) $
+        use0 𝓛 (‵ ((Array R 120).own_val no_records (array_val (replicate 120 mach₀) ∷ []))) fills $ peeks ! (Array R 120) (Is (Array R 120)) (shows 𝓛 (Array R 120)) no_records (array_val (replicate 120 mach₀) ∷ []) (λ is_a.
         -- [what the array owns; _12; …]
-        assigns ! (rep ! 120 (reads ! 15 refl)) (from ! (stop !)) (init ! 13 refl (typed-array noRecords _ is_a)) $
+        assigns ! (rep ! 120 (reads ! 15 refl)) (from ! (stop !)) (init ! 13 refl (typed_array no_records _ is_a)) $
         assigns ! (addr ! (from ! (fld ! refl (hop ! (look_in ! 17 (sub ! 0 refl (whole !))) (stop !))))) (from ! (stop !)) (init ! 9 refl (tt, tt)) $
         assigns ! (agg ! (and_then ! (reads ! 9 refl) (and_then ! (load ! (from ! (fld ! refl (stop !))) (look_in ! 17 (sub ! 1 refl (whole !)))) (no_more !)))) (from ! (stop !)) (init ! 7 refl (tt, (tt, (record { fits = gl.0.1.0 }, tt)))) $
         assigns ! (addr ! (from ! (stop !))) (from ! (stop !)) (init ! 5 refl (tt, tt)) $
         assigns ! (agg ! (and_then ! (reads ! 5 refl) (and_then ! (lit ! tt) (no_more !)))) (from ! (stop !)) (init ! 3 refl (tt, (tt, (record { fits = lit< tt }, tt)))) $
         -- the array is lent as a slice, for a lifetime ν of the call
         move ! (13 ∷ 0 ∷ []) $ use1 𝓛 (‵ (fat full_share (raw_ty (ty_array T'.mir 120)) l₆ 0 (array_val (replicate 120 mach₀)))) (𝓛.laws.at_raw full_share (ty_array T'.mir 120) l₆ 0 (array_val (replicate 120 mach₀))) $ fjoin ! $ lft_new ! tt (λ ν. move ! (1 ∷ []) $
-        use1 𝓛 (later (some (λ (γ : GName). ‵ (OwnX ν l₆ γ) ⊛ ‵ (flent (ν ∷ []) (Held R 120 l₆ 0 γ))))) (lends-array R 120 l₆ 𝓛 tt (named 3) (ν ∷ []) noRecords (array_val (replicate 120 mach₀) ∷ []) room) $ await ! tt $ pick ! (λ γ. split ! $
+        use1 𝓛 (later (some (λ (γ : GName). ‵ (OwnX ν l₆ γ) ⊛ ‵ (flent (ν ∷ []) (Held R 120 l₆ 0 γ))))) (lends_array R 120 l₆ 𝓛 tt (named 3) (ν ∷ []) no_records (array_val (replicate 120 mach₀) ∷ []) room) $ await ! tt $ pick ! (λ γ. split ! $
         -- [records; the lender's part; ν; _12; …; the entry at 28]
         move ! (28 ∷ 2 ∷ 0 ∷ []) $ use3 𝓛 (raw ((Block 𝓛 mem run).pre (to_block ν l₆ γ)) ⊛ (‵ (OwnV κ₀ v) ⊛ ‵ (OwnW κ₁ w))) (apart ν l₆ γ) $ split ! $ move ! (1 ∷ []) $ split ! $ move ! (2 ∷ 0 ∷ 1 ∷ []) $
         -- [block's pre; distances; settings; the lender's part; _12; …; of _6 only that it is freed]
-        returns-from ! (fm_of 𝓤 H 𝓛.laws 𝓣) block.ended (block.clauses 𝓛 mem run) known-block (to_block ν l₆ γ)
+        returns_from ! (fm_of 𝓤 H 𝓛.laws 𝓣) block.ended (block.clauses 𝓛 mem run) known_block (to_block ν l₆ γ)
         (and_then ! (reads ! 25 refl) (and_then ! (reads ! 23 refl) (and_then ! (reads ! 21 refl) (and_then ! (reads ! 10 refl) (and_then ! (reads ! 6 refl) (no_more !)))))) (λ u r zs.
         heard3 ! (λ answered listed recorded. fsplit ! $ drop ! $ fsplit ! $ drop ! $ fsplit ! $ drop ! $ fsplit ! $ fsplit ! $ move ! (1 ∷ []) $ feq_l ! (λ long. move ! (1 ∷ []) $ fsplit ! $ fsplit ! $ move ! (1 ∷ []) $ feq_l ! (λ long'.
         -- [the records' last list; true; the list's; the result; the tokens; distances; settings; the lender's part; _12; …]
         move ! (3 ∷ []) $ peeks ! N.the_row (Is N.the_row) (shows 𝓛 N.the_row) r (u ∷ []) (λ is.
-        land ! (from ! (stop !)) (init ! 18 refl (typed-answer 𝓛 r u is)) $ drop ! $
+        land ! (from ! (stop !)) (init ! 18 refl (typed_answer 𝓛 r u is)) $ drop ! $
         -- the lifetime is ended, and the array comes back
         move ! (3 ∷ []) $ use1 𝓛 (‵ (flft κ₀ q₀) ⊛ (‵ (flft κ₁ q₁) ⊛ (‵ (flft κ₂ q₂) ⊛ (‵ (flft (ν ∷ []) full_share) ⊛ ‵ ftrue)))) (id⊢ 𝓤 _) $
         split ! $ move ! (1 ∷ []) $ split ! $ move ! (1 ∷ []) $ split ! $ move ! (1 ∷ []) $ split ! $ lft_end ! tt $ move ! (0 ∷ 10 ∷ 5 ∷ []) $
@@ -231,11 +231,11 @@ module _ {M : Type 1} {𝓤 : Ura M} (𝓛 : Logic 𝓤) (mem : Memory → SProp
         move ! (1 ∷ []) $ peeks ! (Array R 120) (Is (Array R 120)) (shows 𝓛 (Array R 120)) zs.1.1.1.1.0 (whole_val zs.1.1.1.1.0 ∷ []) (λ isW.
         move ! (1 ∷ 0 ∷ []) $ use1 𝓛 (‵ (fat full_share (ty_array T'.mir 120) l₆ 0 (whole_val zs.1.1.1.1.0))) (𝓛.laws.raw_at full_share (ty_array T'.mir 120) l₆ 0 (whole_val zs.1.1.1.1.0)) $
         -- [_6; what it owns; true; κ₂; κ₁; κ₀; true; the list's last list; distances; settings; _12; …]
-        let isR = is_made r zs.1.1.1.1.0 u (whole_val zs.1.1.1.1.0) is isW in
-        assigns ! (of_opd ! (reads ! 0 refl)) (from ! (stop !)) (init ! 10 refl (typed-array zs.1.1.1.1.0 (whole_val zs.1.1.1.1.0) isW)) $
-        assigns ! (agg ! (and_then ! (reads ! 20 refl) (and_then ! (reads ! 10 refl) (no_more !)))) (from ! (stop !)) (init ! 33 refl (typed-made (record { answer = r; records = zs.1.1.1.1.0 }) (made u (whole_val zs.1.1.1.1.0)) isR)) $
+        let is_r = is_made r zs.1.1.1.1.0 u (whole_val zs.1.1.1.1.0) is isW in
+        assigns ! (of_opd ! (reads ! 0 refl)) (from ! (stop !)) (init ! 10 refl (typed_array zs.1.1.1.1.0 (whole_val zs.1.1.1.1.0) isW)) $
+        assigns ! (agg ! (and_then ! (reads ! 20 refl) (and_then ! (reads ! 10 refl) (no_more !)))) (from ! (stop !)) (init ! 33 refl (typed_made (record { answer = r; records = zs.1.1.1.1.0 }) (made u (whole_val zs.1.1.1.1.0)) is_r)) $
         returns ! (look ! 33 refl) $ move ! (iota 1 21) $ frees_all ! 9 (full _ ∷ full _ ∷ full _ ∷ full _ ∷ full _ ∷ full _ ∷ full _ ∷ full _ ∷ full _ ∷ full _ ∷ full _ ∷ full _ ∷ full _ ∷ []) tt refl $
-        keep ! (2 ∷ 3 ∷ 4 ∷ 6 ∷ 7 ∷ 8 ∷ []) $ by ! (exits r zs.1.1.1.0 zs.1.1.1.1.0 u (whole_val zs.1.1.1.1.0) answered listed recorded long gd isR)))))))))))))))))))))))
+        keep ! (2 ∷ 3 ∷ 4 ∷ 6 ∷ 7 ∷ 8 ∷ []) $ by ! (exits r zs.1.1.1.0 zs.1.1.1.1.0 u (whole_val zs.1.1.1.1.0) answered listed recorded long gd is_r)))))))))))))))))))))))
 
 module _ {M : Type 1} {𝓤 : Ura M} (𝓛 : Logic 𝓤) where
   open 𝓛 use {H}
@@ -244,14 +244,14 @@ module _ {M : Type 1} {𝓤 : Ura M} (𝓛 : Logic 𝓤) where
   goes = (Goes-none 𝓛 3 (λ _. S.the_row) yes (λ κs x f. refl), (Goes-none_slice 𝓛 3 (0 ∷ []) tt (plain (λ _. u32)) yes, (Goes-none_slice 𝓛 3 (1 ∷ []) tt (plain (λ _. u8)) yes, (Goes-gave_slice 𝓛 3 2 tt (plain (λ _. u8)), tt))))
 
   walks : (mem : Memory → SProp 𝓤) (run : Routine → Fun 𝓤) (𝓣 : Tables 𝓤 H) → Triple 𝓤 (𝓣.C #block) (Block 𝓛 mem run) → Walks 𝓛 f.ended stayed (WpFn 𝓤 H 𝓣.C 𝓣.Λ code.function) (f.clauses 𝓛 mem run)
-  walks mem run 𝓣 known-block = walked 𝓛 f.ended stayed (f.clauses 𝓛 mem run) (WpFn 𝓤 H 𝓣.C 𝓣.Λ code.function)
+  walks mem run 𝓣 known_block = walked 𝓛 f.ended stayed (f.clauses 𝓛 mem run) (WpFn 𝓤 H 𝓣.C 𝓣.Λ code.function)
       (λ κs. (LL.vals S.the_type S'.the_laws, (shr_slice_vals, (shr_slice_vals, (shr_slice_vals, tt)))))
       (λ κs. (LL.tells S.the_type S'.the_laws, (shr_slice_Tells (named 0) κs.0 u32, (shr_slice_Tells (named 1) κs.1.0 u8, (mut_slice_Tells (named 2) κs.1.1.0 u8, tt)))))
-      (λ κs qs bounds a g are. via 𝓤 _ (fst∗ 𝓤 _ (emp 𝓤)) (walk 𝓛 mem run κs.0 κs.1.0 κs.1.1.0 qs.0 qs.1.0 qs.1.1.0 a.0 a.1.0 a.1.1.0 a.1.1.1.0 𝓣 known-block are.0 are.1.0 are.1.1.0 are.1.1.1.0))
+      (λ κs qs bounds a g are. via 𝓤 _ (fst∗ 𝓤 _ (emp 𝓤)) (walk 𝓛 mem run κs.0 κs.1.0 κs.1.1.0 qs.0 qs.1.0 qs.1.1.0 a.0 a.1.0 a.1.1.0 a.1.1.1.0 𝓣 known_block are.0 are.1.0 are.1.1.0 are.1.1.1.0))
 
-pub block-by-value-spec : {M : Type 1} → stated.statement M
+pub block_by_value_spec : {M : Type 1} → stated.statement M
 unfolding code.routine
-block-by-value-spec 𝓤 𝓛 𝓜 𝓡 =
-    walk-proves 𝓛 𝓜 𝓡 code.env f.ended stayed (goes 𝓛) (f.clauses 𝓛 𝓜.mem 𝓡.run) #block-by-value code.function (code.unfolded 𝓤 𝓛.H 𝓜 𝓡)
+block_by_value_spec 𝓤 𝓛 𝓜 𝓡 =
+    walk_proves 𝓛 𝓜 𝓡 code.env f.ended stayed (goes 𝓛) (f.clauses 𝓛 𝓜.mem 𝓡.run) #block-by-value code.function (code.unfolded 𝓤 𝓛.H 𝓜 𝓡)
     (walks 𝓛 𝓜.mem 𝓡.run (table 𝓤 𝓛.H 𝓜 𝓡 code.env)
-    (known 𝓛 𝓜 𝓡 code.env block.ended (block.clauses 𝓛 𝓜.mem 𝓡.run) #block block-def.routine code.calls-blocking::records::block (block-thm.met 𝓤 𝓛 𝓜 𝓡)))
+    (known 𝓛 𝓜 𝓡 code.env block.ended (block.clauses 𝓛 𝓜.mem 𝓡.run) #block block_def.routine code.calls-blocking::records::block (block_thm.met 𝓤 𝓛 𝓜 𝓡)))

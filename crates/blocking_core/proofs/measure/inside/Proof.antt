@@ -6,8 +6,8 @@ use Rattle.blocking_core.proofs.measure.inside.Tie as tie
 returns : tie.Need-returns
 returns c = rw (eq-eqb c.before.args.block c.before.args.other c.if1.true)
 
-returns-2 : tie.Need-returns-2
-returns-2 c = rw (ne_eqb c.before.args.block c.before.args.other c.if1.false)
+returns_2 : tie.Need-returns-2
+returns_2 c = rw (ne_eqb c.before.args.block c.before.args.other c.if1.false)
 
-pub inside-spec : {M : Type 1} → statement M
-inside-spec = tie.close (tie.spec returns returns-2)
+pub inside_spec : {M : Type 1} → statement M
+inside_spec = tie.close (tie.spec returns returns_2)

@@ -2,33 +2,33 @@
 use borrow.Author.Rules.{rules}
 use native.Mathlib.Omega.{arith}
 use Rattle.blocking_core.specs.Measured.{Measured}
-use Rattle.blocking_core.proofs.MeasuredLaws.{measured-done, measured-small, measured-more}
-use Rattle.study.specs.Limits.{maxTides}
+use Rattle.blocking_core.proofs.MeasuredLaws.{measured_done, measured_small, measured_more}
+use Rattle.study.specs.Limits.{max_tides}
 use Rattle.study.specs.Problem.{labels}
 use mathlib.Core.Path.{◌≡◌}
 use Prim.Native.Nat.{◌≤◌, ◌-◌}
 use Rattle.blocking_core.proofs.measure.measure.Statement.{statement}
 use Rattle.blocking_core.proofs.measure.measure.Tie as tie
 
-abbrev invariant-loop : tie.invariant-loop
-invariant-loop distances list n sizes₀ diameters₀ widest₀ t₀ sizes diameters widest t =
+abbrev invariant_loop : tie.invariant_loop
+invariant_loop distances list n sizes₀ diameters₀ widest₀ t₀ sizes diameters widest t =
     (t ≤ n) × Measured distances n (labels list) t sizes diameters widest
 
-abbrev decreases-loop : tie.decreases-loop
-decreases-loop distances list n sizes₀ diameters₀ widest₀ t₀ sizes diameters widest t = n - t
+abbrev decreases_loop : tie.decreases_loop
+decreases_loop distances list n sizes₀ diameters₀ widest₀ t₀ sizes diameters widest t = n - t
 
-loop-holds : tie.Need-loop-init invariant-loop decreases-loop
-loop-holds c = (omega arith, c.before.before.requires.1.1.1)
+loop_holds : tie.Need-loop-init invariant_loop decreases_loop
+loop_holds c = (omega arith, c.before.before.requires.1.1.1)
 
-farthest-requires : tie.Need-farthest-requires invariant-loop decreases-loop
-farthest-requires c κs =
+farthest_requires : tie.Need-farthest-requires invariant_loop decreases_loop
+farthest_requires c κs =
     let pre = c.before.before.before.before.requires in
     (pre.0, c.loop-test.true)
 
--- the tide's block has one of the numbers from 1 to maxTides
-block-fits : (c : tie.After-wide invariant-loop decreases-loop) → (1 ≤ c.wide.result) × (c.wide.result ≤ maxTides)
+-- the tide's block has one of the numbers from 1 to max_tides
+block_fits : (c : tie.After-wide invariant_loop decreases_loop) → (1 ≤ c.wide.result) × (c.wide.result ≤ max_tides)
 unfolding labels
-block-fits c =
+block_fits c =
     let at_test = c.before.before.before in
     let t = at_test.before.loop.t in
     let pre = at_test.before.before.before.before.requires in
@@ -37,54 +37,54 @@ block-fits c =
     let is = c.wide.ensures in
     (omega arith, omega arith)
 
-add-sizes : tie.Need-overflow-add-sizes invariant-loop decreases-loop
-add-sizes c =
-    let fits = block-fits c.before in
-    let at-loop = c.before.before.before.before.before in
-    let few = at-loop.before.before.before.requires.0.0 in
-    let small = measured-small at-loop.loop.invariant.1 (c.before.wide.result - 1) (omega arith) in
+add_sizes : tie.Need-overflow-add-sizes invariant_loop decreases_loop
+add_sizes c =
+    let fits = block_fits c.before in
+    let at_loop = c.before.before.before.before.before in
+    let few = at_loop.before.before.before.requires.0.0 in
+    let small = measured_small at_loop.loop.invariant.1 (c.before.wide.result - 1) (omega arith) in
     omega arith
 
-loop-again : tie.Need-loop-preserved invariant-loop decreases-loop
+loop_again : tie.Need-loop-preserved invariant_loop decreases_loop
 unfolding labels
-loop-again c =
+loop_again c =
     let at_wide = c.before.before.before.before in
-    let fits = block-fits at_wide in
-    let at-farthest = at_wide.before.before in
+    let fits = block_fits at_wide in
+    let at_farthest = at_wide.before.before in
     let own = at_wide.wide.ensures in
-    let now = at-farthest.before.before.loop.invariant.1 in
-    let far = at-farthest.farthest.ensures in (
+    let now = at_farthest.before.before.loop.invariant.1 in
+    let far = at_farthest.farthest.ensures in (
       omega arith,
-      measured-more now (at_wide.wide.result - 1) (omega arith) (omega arith) far c.before.greater.ensures c.greater2.ensures,
+      measured_more now (at_wide.wide.result - 1) (omega arith) (omega arith) far c.before.greater.ensures c.greater2.ensures,
     )
 
-returns : tie.Need-returns invariant-loop decreases-loop
+returns : tie.Need-returns invariant_loop decreases_loop
 returns c =
-    let at-loop = c.before in
-    let e : at-loop.loop.t ≡ at-loop.before.before.before.args.n = omega arith in
-    measured-done at-loop.loop.invariant.1 e
+    let at_loop = c.before in
+    let e : at_loop.loop.t ≡ at_loop.before.before.before.args.n = omega arith in
+    measured_done at_loop.loop.invariant.1 e
 
-pub measure-spec : {M : Type 1} → statement M
-measure-spec =
+pub measure_spec : {M : Type 1} → statement M
+measure_spec =
     tie.close
     (tie.spec
-    invariant-loop
-    decreases-loop
-    loop-holds
-    farthest-requires
+    invariant_loop
+    decreases_loop
+    loop_holds
+    farthest_requires
     (λ c. omega arith)
     (λ c κs. search rules)
-    (λ c. let fits = block-fits c in omega arith)
-    (λ c. let fits = block-fits c in omega arith)
-    add-sizes
-    (λ c. let fits = block-fits c.before in omega arith)
-    (λ c. let fits = block-fits c.before in omega arith)
-    (λ c. let fits = block-fits c.before in omega arith)
+    (λ c. let fits = block_fits c in omega arith)
+    (λ c. let fits = block_fits c in omega arith)
+    add_sizes
+    (λ c. let fits = block_fits c.before in omega arith)
+    (λ c. let fits = block_fits c.before in omega arith)
+    (λ c. let fits = block_fits c.before in omega arith)
     (λ c κs. search rules)
-    (λ c. let fits = block-fits c.before.before.before in omega arith)
-    (λ c. let fits = block-fits c.before.before.before in omega arith)
+    (λ c. let fits = block_fits c.before.before.before in omega arith)
+    (λ c. let fits = block_fits c.before.before.before in omega arith)
     (λ c κs. search rules)
     (λ c. omega arith)
     (λ c. omega arith)
-    loop-again
+    loop_again
     returns)

@@ -4,48 +4,48 @@ use native.Mathlib.Omega.{arith}
 use Prim.Native.Nat.{◌≤◌, ◌-◌}
 use mathlib.Core.Path.{◌≡◌, ap, ◌∙◌}
 use Rattle.study.specs.Problem.{labels}
-use Rattle.blocking_core.specs.Measured.{widestOf}
-use Rattle.blocking_core.proofs.MeasuredLaws.{greatest-none, greatest-more}
+use Rattle.blocking_core.specs.Measured.{widest_of}
+use Rattle.blocking_core.proofs.MeasuredLaws.{greatest_none, greatest_more}
 use Rattle.blocking_core.proofs.measure.widest.Statement.{statement}
 use Rattle.blocking_core.proofs.measure.widest.Tie as tie
 
-abbrev invariant-loop : tie.invariant-loop
-invariant-loop distances list n best₀ t₀ best t = (t ≤ n) × (best ≡ widestOf distances n (labels list) t)
+abbrev invariant_loop : tie.invariant_loop
+invariant_loop distances list n best₀ t₀ best t = (t ≤ n) × (best ≡ widest_of distances n (labels list) t)
 
-abbrev decreases-loop : tie.decreases-loop
-decreases-loop distances list n best₀ t₀ best t = n - t
+abbrev decreases_loop : tie.decreases_loop
+decreases_loop distances list n best₀ t₀ best t = n - t
 
-loop-holds : tie.Need-loop-init invariant-loop decreases-loop
-unfolding widestOf
-loop-holds c = (omega arith, greatest-none _)
+loop_holds : tie.Need-loop-init invariant_loop decreases_loop
+unfolding widest_of
+loop_holds c = (omega arith, greatest_none _)
 
-farthest-requires : tie.Need-farthest-requires invariant-loop decreases-loop
-farthest-requires c κs =
+farthest_requires : tie.Need-farthest-requires invariant_loop decreases_loop
+farthest_requires c κs =
     let pre = c.before.before.before.before.requires in
     (pre, c.loop-test.true)
 
-loop-again : tie.Need-loop-preserved invariant-loop decreases-loop
-unfolding widestOf
-loop-again c =
+loop_again : tie.Need-loop-preserved invariant_loop decreases_loop
+unfolding widest_of
+loop_again c =
     let turn = c.before.before.before.loop in
-    (omega arith, greatest-more _ turn.invariant.1 c.before.farthest.ensures c.greater.ensures)
+    (omega arith, greatest_more _ turn.invariant.1 c.before.farthest.ensures c.greater.ensures)
 
-returns : tie.Need-returns invariant-loop decreases-loop
+returns : tie.Need-returns invariant_loop decreases_loop
 returns c =
     let args = c.before.before.before.before.args in
     let e : c.before.loop.t ≡ args.n = omega arith in
-    c.before.loop.invariant.1 ∙ ap (widestOf args.distances.now args.n (labels args.list.now)) e
+    c.before.loop.invariant.1 ∙ ap (widest_of args.distances.now args.n (labels args.list.now)) e
 
-pub widest-spec : {M : Type 1} → statement M
-widest-spec =
+pub widest_spec : {M : Type 1} → statement M
+widest_spec =
     tie.close
     (tie.spec
-    invariant-loop
-    decreases-loop
-    loop-holds
-    farthest-requires
+    invariant_loop
+    decreases_loop
+    loop_holds
+    farthest_requires
     (λ c κs. search rules)
     (λ c. omega arith)
     (λ c. omega arith)
-    loop-again
+    loop_again
     returns)

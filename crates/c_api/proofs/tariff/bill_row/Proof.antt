@@ -2,7 +2,7 @@
 use borrow.Author.Rules.{rules}
 use Rattle.core.specs.Prelude.{◌≡◌, ◌∷◌, length}
 use mathlib.Core.Path.{ap}
-use Rattle.c_api.proofs.TariffLaws.{eight-places}
+use Rattle.c_api.proofs.TariffLaws.{eight_places}
 use Rattle.c_api.proofs.tariff.bill_row.Statement.{statement}
 use Rattle.c_api.proofs.tariff.bill_row.Tie as tie
 
@@ -10,10 +10,10 @@ returns : tie.Need-returns
 returns c =
     let given = c.before.args in
     let e : length given.priced.shares ≡ 8 = search rules in
-    ap (λ l. given.blocks ∷ given.radius ∷ given.widest ∷ given.priced.total ∷ l) (eight-places given.priced.shares e)
+    ap (λ l. given.blocks ∷ given.radius ∷ given.widest ∷ given.priced.total ∷ l) (eight_places given.priced.shares e)
 
-pub bill-row-spec : {M : Type 1} → statement M
-bill-row-spec =
+pub bill_row_spec : {M : Type 1} → statement M
+bill_row_spec =
     tie.close
     (tie.spec
     (λ c. search rules)

@@ -5,12 +5,12 @@ use borrow.Author.Rules.{rules}
 use Rattle.c_records.proofs.code.pair_code.Statement.{statement}
 use Rattle.c_records.proofs.code.pair_code.Tie as tie
 
-cast-result : tie.Need-overflow-cast-result
-cast-result c = omega (arith, c.requires.fits)
+cast_result : tie.Need-overflow-cast-result
+cast_result c = omega (arith, c.requires.fits)
 
 returns : tie.Need-returns
 returns c = refl
 
-pub pair-code-spec : {M : Type 1} → statement M
-pair-code-spec =
-    tie.close (tie.spec (λ c. search rules) (λ c. search rules) (λ c. search rules) (λ c. search rules) cast-result returns)
+pub pair_code_spec : {M : Type 1} → statement M
+pair_code_spec =
+    tie.close (tie.spec (λ c. search rules) (λ c. search rules) (λ c. search rules) (λ c. search rules) cast_result returns)

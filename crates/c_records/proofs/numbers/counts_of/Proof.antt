@@ -9,5 +9,5 @@ returns : tie.Need-returns
 unfolding tabulate
 returns c = refl
 
-pub counts-of-spec : {M : Type 1} → statement M
-counts-of-spec = tie.close (tie.spec (λ c. search rules) (λ c. search rules) (λ c. search rules) (λ c. search rules) returns)
+pub counts_of_spec : {M : Type 1} → statement M
+counts_of_spec = tie.close (tie.spec (λ c. search rules) (λ c. search rules) (λ c. search rules) (λ c. search rules) returns)

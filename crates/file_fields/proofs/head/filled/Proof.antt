@@ -17,5 +17,5 @@ returns c =
     let from : 8 * length file - fill ≡ entry.args.end = omega (arith, entry.requires.0) in
     c.ends-in-zeros.ensures ∙ ap (λ p. eqb (bits_at file p fill) 0) from
 
-pub filled-spec : {M : Type 1} → statement M
-filled-spec = tie.close (tie.spec (λ c. search rules) (λ c. search rules) (λ c κs. search rules) returns)
+pub filled_spec : {M : Type 1} → statement M
+filled_spec = tie.close (tie.spec (λ c. search rules) (λ c. search rules) (λ c κs. search rules) returns)

@@ -1,7 +1,7 @@
 -- `read_rest` meets its contract: the tests stand in the order of the reasons, and each way out has one law: what the tests before it told
 -- (`whole`: the length, `sound`: the minima), and the test that it is. Assumes nothing.
-use Rattle.file_fields.proofs.HeadLaws.{few-counts, Whole, HeadSound, head-length, whole, record-begins, fill-inside, head-minima, sound, head-fill}
-use Rattle.file_fields.proofs.HeadLaws.{head_done, head-stops, head-goes}
+use Rattle.file_fields.proofs.HeadLaws.{few_counts, Whole, HeadSound, head_length, whole, record_begins, fill_inside, head_minima, sound, head_fill}
+use Rattle.file_fields.proofs.HeadLaws.{head_done, head_stops, head_goes}
 use borrow.Author.Rules.{rules}
 use Rattle.file_fields.proofs.head.read_rest.Statement.{statement}
 use Rattle.file_fields.proofs.head.read_rest.Tie as tie
@@ -17,61 +17,61 @@ abbrev at_length : tie.Else2 → tie.Else1
 at_length c = c.before.before.before.before.before.before
 
 -- and the minima are valid
-is-sound : (c : tie.Else2) → let args = (at_length c).before.before.before.before.args in HeadSound args.file.now args.counts args.k args.n
-is-sound c =
+is_sound : (c : tie.Else2) → let args = (at_length c).before.before.before.before.args in HeadSound args.file.now args.counts args.k args.n
+is_sound c =
     sound (is_whole (at_length c)) c.before.before.before.before.before.read-record.ensures.1 c.before.valid-minima.ensures c.if2.false
 
-bit-length-requires : tie.Need-bit-length-requires
-bit-length-requires c κs = let begun = c.before.requires.0 in (few-counts begun.marked, begun.high, begun.few)
+bit_length_requires : tie.Need-bit-length-requires
+bit_length_requires c κs = let begun = c.before.requires.0 in (few_counts begun.marked, begun.high, begun.few)
 
 returns : tie.Need-returns
 returns c =
     let at_bits = c.before.before.before in
-    head-stops c.refused.ensures
-    (head-length at_bits.before.before.requires.0 at_bits.bit_length.ensures.0 c.before.before.has-length.ensures c.before.if1.true)
+    head_stops c.refused.ensures
+    (head_length at_bits.before.before.requires.0 at_bits.bit_length.ensures.0 c.before.before.has-length.ensures c.before.if1.true)
 
-read-record-requires : tie.Need-read-record-requires
-read-record-requires c κs = record-begins (is_whole c) c.before.before.before.before.requires.1
+read_record_requires : tie.Need-read-record-requires
+read_record_requires c κs = record_begins (is_whole c) c.before.before.before.before.requires.1
 
-returns-3 : tie.Need-returns-3
-returns-3 c =
-    let at-record = c.before.before.before.before.before.before in
-    head-stops c.refused2.ensures
-    (head-minima (is_whole at-record.before) at-record.read-record.ensures.1 c.before.before.valid-minima.ensures c.before.if2.true)
+returns_3 : tie.Need-returns-3
+returns_3 c =
+    let at_record = c.before.before.before.before.before.before in
+    head_stops c.refused2.ensures
+    (head_minima (is_whole at_record.before) at_record.read-record.ensures.1 c.before.before.valid-minima.ensures c.before.if2.true)
 
-filled-requires : tie.Need-filled-requires
-filled-requires c κs = fill-inside (is_whole (at_length c)) (at_length c).before.before.bit_length.ensures.0
+filled_requires : tie.Need-filled-requires
+filled_requires c κs = fill_inside (is_whole (at_length c)) (at_length c).before.before.bit_length.ensures.0
 
-returns-4 : tie.Need-returns-4
-returns-4 c =
-    let at-minima = c.before.before.before in
-    head-stops c.refused3.ensures
-    (head-fill (is-sound at-minima) (at_length at-minima).before.before.bit_length.ensures.0 c.before.before.filled.ensures c.before.if3.true)
+returns_4 : tie.Need-returns-4
+returns_4 c =
+    let at_minima = c.before.before.before in
+    head_stops c.refused3.ensures
+    (head_fill (is_sound at_minima) (at_length at_minima).before.before.bit_length.ensures.0 c.before.before.filled.ensures c.before.if3.true)
 
-returns-5 : tie.Need-returns-5
-returns-5 c =
-    let at-minima = c.before.before in
-    let record-got = at-minima.before.before.before.before.before.read-record.ensures in
-    head-goes record-got.0
-    (head_done (is-sound at-minima) (at_length at-minima).before.before.bit_length.ensures.0 c.before.filled.ensures c.if3.false)
-    record-got.1
+returns_5 : tie.Need-returns-5
+returns_5 c =
+    let at_minima = c.before.before in
+    let record_got = at_minima.before.before.before.before.before.read-record.ensures in
+    head_goes record_got.0
+    (head_done (is_sound at_minima) (at_length at_minima).before.before.bit_length.ensures.0 c.before.filled.ensures c.if3.false)
+    record_got.1
 
-pub read-rest-spec : {M : Type 1} → statement M
-read-rest-spec =
+pub read_rest_spec : {M : Type 1} → statement M
+read_rest_spec =
     tie.close
     (tie.spec
-    bit-length-requires
+    bit_length_requires
     (λ c κs. search rules)
     (λ c κs. search rules)
     returns
-    read-record-requires
+    read_record_requires
     (λ c. search rules)
     (λ c. search rules)
     (λ c. search rules)
     (λ c κs. search rules)
     (λ c κs. search rules)
-    returns-3
-    filled-requires
+    returns_3
+    filled_requires
     (λ c κs. search rules)
-    returns-4
-    returns-5)
+    returns_4
+    returns_5)

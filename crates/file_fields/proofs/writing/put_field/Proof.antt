@@ -3,27 +3,27 @@
 use native.Mathlib.Omega.{arith}
 use Rattle.file_fields.proofs.PuttingLaws.{puts_one}
 use Rattle.file_fields.specs.Writing.{Adds}
-use Rattle.file_fields.proofs.WritingLaws.{one-moved, adds_none, bits_small, field-more, field_end}
+use Rattle.file_fields.proofs.WritingLaws.{one_moved, adds_none, bits_small, field_more, field_end}
 use lib.Pow.{pow_pos}
 use Rattle.file_format.specs.Bits.{bits_of}
 use Prim.Native.Nat.{◌-◌, ◌/◌, ◌^◌, ◌≤◌}
 use Rattle.file_fields.proofs.writing.put_field.Statement.{statement}
 use Rattle.file_fields.proofs.writing.put_field.Tie as tie
 
-abbrev invariant-loop : tie.invariant-loop
-invariant-loop file₀ at width value done₀ file done = (done ≤ width) × Adds file₀ at (bits_of done (value / 2 ^ (width - done))) file
+abbrev invariant_loop : tie.invariant_loop
+invariant_loop file₀ at width value done₀ file done = (done ≤ width) × Adds file₀ at (bits_of done (value / 2 ^ (width - done))) file
 
-abbrev decreases-loop : tie.decreases-loop
-decreases-loop file₀ at width value done₀ file done = width - done
+abbrev decreases_loop : tie.decreases_loop
+decreases_loop file₀ at width value done₀ file done = width - done
 
-loop-holds : tie.Need-loop-init invariant-loop decreases-loop
-loop-holds c = (omega arith, adds_none)
+loop_holds : tie.Need-loop-init invariant_loop decreases_loop
+loop_holds c = (omega arith, adds_none)
 
-rem-put-part : tie.Need-nonzero-rem-put-part invariant-loop decreases-loop
-rem-put-part c = rw (one-moved c.before.taken.result (omega arith)) (pow_pos c.before.taken.result)
+rem_put_part : tie.Need-nonzero-rem-put-part invariant_loop decreases_loop
+rem_put_part c = rw (one_moved c.before.taken.result (omega arith)) (pow_pos c.before.taken.result)
 
-put-part-requires : tie.Need-put-part-requires invariant-loop decreases-loop
-put-part-requires c κs =
+put_part_requires : tie.Need-put-part-requires invariant_loop decreases_loop
+put_part_requires c κs =
     let count = c.before.taken in
     record {
       some = count.ensures.0;
@@ -32,31 +32,31 @@ put-part-requires c κs =
       room = omega (arith, c.before.before.before.loop.invariant.1.same);
     }
 
-loop-again : tie.Need-loop-preserved invariant-loop decreases-loop
-loop-again c =
+loop_again : tie.Need-loop-preserved invariant_loop decreases_loop
+loop_again c =
     let at_count = c.before.before.before.before in
     let turn = at_count.before.before.loop in
     let args = at_count.before.before.before.before.args in (
       omega arith,
-      field-more args.width args.value turn.done at_count.taken.result (omega arith) (omega arith) turn.invariant.1
-          c.before.before.put-part.ensures,
+      field_more args.width args.value turn.done at_count.taken.result (omega arith) (omega arith) turn.invariant.1
+          c.before.before.put_part.ensures,
     )
 
-same_length : tie.Need-same-length invariant-loop decreases-loop
+same_length : tie.Need-same-length invariant_loop decreases_loop
 same_length c = c.before.loop.invariant.1.same
 
-returns : tie.Need-returns invariant-loop decreases-loop
+returns : tie.Need-returns invariant_loop decreases_loop
 returns c =
     let args = c.before.before.before.args in
     puts_one _ _ (field_end args.width args.value c.before.loop.done (omega arith) c.before.loop.invariant.1)
 
-pub put-field-spec : {M : Type 1} → statement M
-put-field-spec =
+pub put_field_spec : {M : Type 1} → statement M
+put_field_spec =
     tie.close
     (tie.spec
-    invariant-loop
-    decreases-loop
-    loop-holds
+    invariant_loop
+    decreases_loop
+    loop_holds
     (λ c. omega arith)
     (λ c. omega arith)
     (λ c κs. omega arith)
@@ -67,10 +67,10 @@ put-field-spec =
     (λ c. omega arith)
     (λ c. omega arith)
     (λ c. omega arith)
-    rem-put-part
-    put-part-requires
+    rem_put_part
+    put_part_requires
     (λ c. omega arith)
     (λ c. omega arith)
-    loop-again
+    loop_again
     same_length
     returns)

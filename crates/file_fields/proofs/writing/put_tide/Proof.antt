@@ -1,5 +1,5 @@
 -- `put_tide` meets its contract: a setting and a row, one after the other. Assumes nothing.
-use Rattle.file_fields.proofs.PuttingLaws.{tide-put}
+use Rattle.file_fields.proofs.PuttingLaws.{tide_put}
 use Rattle.validity.specs.Memory.{state_of}
 use borrow.Author.Rules.{rules}
 use Rattle.file_fields.proofs.writing.put_tide.Statement.{statement}
@@ -7,14 +7,14 @@ use Rattle.file_fields.proofs.writing.put_tide.Tie as tie
 
 returns : tie.Need-returns
 returns c =
-    let after-setting = c.before.before.before.before.before.before in
-    let at-setting = after-setting.before in
-    let args = at-setting.before.before.before.before.before.before.args in
+    let after_setting = c.before.before.before.before.before.before in
+    let at_setting = after_setting.before in
+    let args = at_setting.before.before.before.before.before.before.args in
     let σ = state_of args.dataset args.distances.now args.settings.now in
-    tide-put σ args.t at-setting.wide.ensures.0 after-setting.put-field.ensures c.before.before.put-row.ensures
+    tide_put σ args.t at_setting.wide.ensures.0 after_setting.put-field.ensures c.before.before.put-row.ensures
 
-pub put-tide-spec : {M : Type 1} → statement M
-put-tide-spec =
+pub put_tide_spec : {M : Type 1} → statement M
+put_tide_spec =
     tie.close
     (tie.spec
     (λ c. search rules)

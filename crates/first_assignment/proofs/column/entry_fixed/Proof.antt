@@ -8,8 +8,8 @@ use Rattle.first_assignment.proofs.column.entry_fixed.Tie as tie
 returns : tie.Need-returns
 returns c = sym (ap bit (eq-eqb c.before.args.m c.before.args.v c.if1.true))
 
-returns-2 : tie.Need-returns-2
-returns-2 c = sym (ap bit (ne_eqb c.before.args.m c.before.args.v c.if1.false))
+returns_2 : tie.Need-returns-2
+returns_2 c = sym (ap bit (ne_eqb c.before.args.m c.before.args.v c.if1.false))
 
-pub entry-fixed-spec : {M : Type 1} → statement M
-entry-fixed-spec = tie.close (tie.spec returns returns-2)
+pub entry_fixed_spec : {M : Type 1} → statement M
+entry_fixed_spec = tie.close (tie.spec returns returns_2)

@@ -6,8 +6,8 @@ use Rattle.first_assignment.proofs.column.entry_kept.Tie as tie
 returns : tie.Need-returns
 returns c = rw (lt-ltb c.before.args.rank c.before.args.limit c.if1.true)
 
-returns-2 : tie.Need-returns-2
-returns-2 c = rw (le-ltb c.before.args.rank c.before.args.limit c.if1.false)
+returns_2 : tie.Need-returns-2
+returns_2 c = rw (le-ltb c.before.args.rank c.before.args.limit c.if1.false)
 
-pub entry-kept-spec : {M : Type 1} → statement M
-entry-kept-spec = tie.close (tie.spec returns returns-2)
+pub entry_kept_spec : {M : Type 1} → statement M
+entry_kept_spec = tie.close (tie.spec returns returns_2)

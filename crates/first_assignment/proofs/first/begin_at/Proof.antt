@@ -5,18 +5,18 @@ use borrow.Author.Rules.{rules}
 use Rattle.first_assignment.proofs.first.begin_at.Statement.{statement}
 use Rattle.first_assignment.proofs.first.begin_at.Tie as tie
 
-mul-if1 : tie.Need-overflow-mul-if1
-mul-if1 c =
+mul_if1 : tie.Need-overflow-mul-if1
+mul_if1 c =
     let few = c.before.before.requires.0.0 in
     let slots = mul-le-mul_right c.wide.result few in
     omega (arith, c.wide.ensures)
 
-pub begin-at-spec : {M : Type 1} → statement M
-begin-at-spec =
+pub begin_at_spec : {M : Type 1} → statement M
+begin_at_spec =
     tie.close
     (tie.spec
     (λ c κs. search rules)
-    mul-if1
+    mul_if1
     (λ c. search rules)
     (λ c κs. search rules)
     (λ c. search rules))

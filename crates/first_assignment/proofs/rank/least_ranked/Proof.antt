@@ -1,34 +1,34 @@
 -- best stays a block's number; blocks - m falls. Assumes nothing.
 use native.Mathlib.Omega.{arith}
 use Prim.Native.Nat.{◌≤◌, ◌<◌, ◌-◌}
-use Rattle.study.specs.Limits.{maxTides}
+use Rattle.study.specs.Limits.{max_tides}
 use Rattle.first_assignment.proofs.rank.least_ranked.Statement.{statement}
 use Rattle.first_assignment.proofs.rank.least_ranked.Tie as tie
 
-abbrev invariant-loop : tie.invariant-loop
-invariant-loop allowed blocks ranks t v best₀ m₀ best m = (m ≤ blocks) × (best < maxTides)
+abbrev invariant_loop : tie.invariant_loop
+invariant_loop allowed blocks ranks t v best₀ m₀ best m = (m ≤ blocks) × (best < max_tides)
 
-abbrev decreases-loop : tie.decreases-loop
-decreases-loop allowed blocks ranks t v best₀ m₀ best m = blocks - m
+abbrev decreases_loop : tie.decreases_loop
+decreases_loop allowed blocks ranks t v best₀ m₀ best m = blocks - m
 
-lower-rank-requires : tie.Need-lower-rank-requires invariant-loop decreases-loop
-lower-rank-requires c κs = (omega arith, omega arith)
+lower_rank_requires : tie.Need-lower-rank-requires invariant_loop decreases_loop
+lower_rank_requires c κs = (omega arith, omega arith)
 
-loop-again : tie.Need-loop-preserved invariant-loop decreases-loop
-loop-again c = let chosen = c.lower-rank.ensures in (omega arith, omega arith)
+loop_again : tie.Need-loop-preserved invariant_loop decreases_loop
+loop_again c = let chosen = c.lower-rank.ensures in (omega arith, omega arith)
 
-pub least-ranked-spec : {M : Type 1} → statement M
-least-ranked-spec =
+pub least_ranked_spec : {M : Type 1} → statement M
+least_ranked_spec =
     tie.close
     (tie.spec
-    invariant-loop
-    decreases-loop
+    invariant_loop
+    decreases_loop
     (λ c. (omega arith, omega arith))
     (λ c. omega arith)
     (λ c. omega arith)
     (λ c. omega arith)
-    lower-rank-requires
+    lower_rank_requires
     (λ c. omega arith)
     (λ c. omega arith)
-    loop-again
+    loop_again
     (λ c. omega arith))

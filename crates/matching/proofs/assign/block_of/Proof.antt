@@ -12,11 +12,11 @@ returns c =
     let l = law.below h in
     record { may = λ _. law.may h; own = λ _. refl; none = λ k. absurd (omega arith) }
 
-returns-2 : tie.Need-returns-2
-returns-2 c = search rules
+returns_2 : tie.Need-returns-2
+returns_2 c = search rules
 
-pub block-of-spec : {M : Type 1} → statement M
-block-of-spec =
+pub block_of_spec : {M : Type 1} → statement M
+block_of_spec =
     tie.close
     (tie.spec
     (λ c. search rules)
@@ -25,4 +25,4 @@ block-of-spec =
     (λ c. search rules)
     returns
     (λ c κs. search rules)
-    returns-2)
+    returns_2)

@@ -2,95 +2,95 @@
 use native.Mathlib.Omega.{arith}
 use borrow.Author.Rules.{rules}
 use Prim.Native.Nat.{◌-◌, ◌≤◌, ◌<◌}
-use Rattle.study.specs.Limits.{maxTides}
-use Rattle.matching.proofs.Writing.{WrittenTo, write-start, write-more, write-end, write-none}
+use Rattle.study.specs.Limits.{max_tides}
+use Rattle.matching.proofs.Writing.{WrittenTo, write_start, write_more, write_end, write_none}
 use Rattle.matching.proofs.assign.write_list.Statement.{statement}
 use Rattle.matching.proofs.assign.write_list.Tie as tie
 
-abbrev invariant-loop : tie.invariant-loop
-invariant-loop allowed n blocks owner slots slot list₀ t₀ list t = (t ≤ n) × WrittenTo t n blocks slots allowed owner slot list₀ list
+abbrev invariant_loop : tie.invariant_loop
+invariant_loop allowed n blocks owner slots slot list₀ t₀ list t = (t ≤ n) × WrittenTo t n blocks slots allowed owner slot list₀ list
 
-abbrev decreases-loop : tie.decreases-loop
-decreases-loop allowed n blocks owner slots slot list₀ t₀ list t = n - t
+abbrev decreases_loop : tie.decreases_loop
+decreases_loop allowed n blocks owner slots slot list₀ t₀ list t = n - t
 
 -- in a turn, from where the hint is read back to the loop and to the entry
-abbrev loop-of : tie.After-wide invariant-loop decreases-loop → tie.At-loop invariant-loop decreases-loop
-loop-of c = c.before.before.before
+abbrev loop_of : tie.After-wide invariant_loop decreases_loop → tie.At-loop invariant_loop decreases_loop
+loop_of c = c.before.before.before
 
-abbrev entry_of : tie.After-wide invariant-loop decreases-loop → tie.Start invariant-loop decreases-loop
-entry_of c = (loop-of c).before.before.before
+abbrev entry_of : tie.After-wide invariant_loop decreases_loop → tie.Start invariant_loop decreases_loop
+entry_of c = (loop_of c).before.before.before
 
 -- the tide of a turn
-inside : (c : tie.After-wide invariant-loop decreases-loop) → ((loop-of c).loop.t < (entry_of c).args.n) × ((entry_of c).args.n ≤ maxTides)
+inside : (c : tie.After-wide invariant_loop decreases_loop) → ((loop_of c).loop.t < (entry_of c).args.n) × ((entry_of c).args.n ≤ max_tides)
 inside c = (c.before.before.loop-test.true, (entry_of c).requires.1.0)
 
-loop-holds : tie.Need-loop-init invariant-loop decreases-loop
-loop-holds c = (omega arith, write-start)
+loop_holds : tie.Need-loop-init invariant_loop decreases_loop
+loop_holds c = (omega arith, write_start)
 
-slice-read-wide : tie.Need-slice-read-wide invariant-loop decreases-loop
-slice-read-wide c =
-    let at-loop = c.before.before in
-    let same = at-loop.loop.invariant.1.rest.same_length in
-    let long = at-loop.before.before.before.requires.1.1.1.1.0 in
+slice_read_wide : tie.Need-slice-read-wide invariant_loop decreases_loop
+slice_read_wide c =
+    let at_loop = c.before.before in
+    let same = at_loop.loop.invariant.1.rest.same_length in
+    let long = at_loop.before.before.before.requires.1.1.1.1.0 in
     omega arith
 
-block-of-requires : tie.Need-block-of-requires invariant-loop decreases-loop
-block-of-requires c κs =
+block_of_requires : tie.Need-block-of-requires invariant_loop decreases_loop
+block_of_requires c κs =
     let pre = (entry_of c).requires in
-    let t-inside = inside c in
-    (pre.0, (omega arith, (pre.1.1.0, (pre.1.1.1.0, pre.1.1.1.1.1 _ t-inside.0))))
+    let t_inside = inside c in
+    (pre.0, (omega arith, (pre.1.1.0, (pre.1.1.1.0, pre.1.1.1.1.1 _ t_inside.0))))
 
-same_length : tie.Need-same-length invariant-loop decreases-loop
-same_length c = (loop-of c.before.before).loop.inv.1.rest.same_length
+same_length : tie.Need-same-length invariant_loop decreases_loop
+same_length c = (loop_of c.before.before).loop.inv.1.rest.same_length
 
-returns : tie.Need-returns invariant-loop decreases-loop
+returns : tie.Need-returns invariant_loop decreases_loop
 returns c =
     let at_wide = c.before.before in
-    write-none (loop-of at_wide).loop.invariant.1 (inside at_wide).0 (c.before.block_of.ensures.none c.if1.true)
+    write_none (loop_of at_wide).loop.invariant.1 (inside at_wide).0 (c.before.block_of.ensures.none c.if1.true)
 
-cast-list : tie.Need-overflow-cast-list invariant-loop decreases-loop
-cast-list c =
+cast_list : tie.Need-overflow-cast-list invariant_loop decreases_loop
+cast_list c =
     let few = (entry_of c.before.before).pre.0 in
     let below = c.if1.false in
     omega arith
 
-slice-write-list : tie.Need-slice-write-list invariant-loop decreases-loop
-slice-write-list c =
+slice_write_list : tie.Need-slice-write-list invariant_loop decreases_loop
+slice_write_list c =
     let at_wide = c.before.before in
-    let t-inside = inside at_wide in
-    let same = (loop-of at_wide).loop.invariant.1.rest.same_length in
+    let t_inside = inside at_wide in
+    let same = (loop_of at_wide).loop.invariant.1.rest.same_length in
     let long = (entry_of at_wide).requires.1.1.1.1.0 in
     omega arith
 
-loop-again : tie.Need-loop-preserved invariant-loop decreases-loop
-loop-again c =
+loop_again : tie.Need-loop-preserved invariant_loop decreases_loop
+loop_again c =
     let at_wide = c.before.before in
-    let t-inside = inside at_wide in
+    let t_inside = inside at_wide in
     let long = (entry_of at_wide).requires.1.1.1.1.0 in
-    (omega arith, write-more (loop-of at_wide).loop.invariant.1 t-inside.0 long c.if1.false c.before.block_of.ensures)
+    (omega arith, write_more (loop_of at_wide).loop.invariant.1 t_inside.0 long c.if1.false c.before.block_of.ensures)
 
-same-length-2 : tie.Need-same-length-2 invariant-loop decreases-loop
-same-length-2 c = c.before.loop.invariant.1.rest.same_length
+same_length_2 : tie.Need-same-length-2 invariant_loop decreases_loop
+same_length_2 c = c.before.loop.invariant.1.rest.same_length
 
-returns-2 : tie.Need-returns-2 invariant-loop decreases-loop
-returns-2 c = let i = c.before.loop.invariant in write-end i.1 c.loop-test.false i.0
+returns_2 : tie.Need-returns-2 invariant_loop decreases_loop
+returns_2 c = let i = c.before.loop.invariant in write_end i.1 c.loop-test.false i.0
 
-pub write-list-spec : {M : Type 1} → statement M
-write-list-spec =
+pub write_list_spec : {M : Type 1} → statement M
+write_list_spec =
     tie.close
     (tie.spec
-    invariant-loop
-    decreases-loop
-    loop-holds
-    slice-read-wide
+    invariant_loop
+    decreases_loop
+    loop_holds
+    slice_read_wide
     (λ c κs. search rules)
-    block-of-requires
+    block_of_requires
     same_length
     returns
-    cast-list
-    slice-write-list
-    (λ c. let t-inside = inside c.before.before in omega arith)
-    (λ c. let t-inside = inside c.before.before in omega arith)
-    loop-again
-    same-length-2
-    returns-2)
+    cast_list
+    slice_write_list
+    (λ c. let t_inside = inside c.before.before in omega arith)
+    (λ c. let t_inside = inside c.before.before in omega arith)
+    loop_again
+    same_length_2
+    returns_2)

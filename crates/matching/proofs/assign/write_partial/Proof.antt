@@ -1,58 +1,58 @@
 -- The places from n on stay, since only places of the tides below t are written; n - t falls. Assumes nothing.
 use native.Mathlib.Omega.{arith}
 use Prim.Native.Nat.{◌-◌, ◌≤◌}
-use Rattle.lists.proofs.Tables.{tail-same, tail-set}
+use Rattle.lists.proofs.Tables.{tail_same, tail_set}
 use Rattle.lists.specs.Lists.{TailKept}
 use Rattle.matching.proofs.assign.write_partial.Statement.{statement}
 use Rattle.matching.proofs.assign.write_partial.Tie as tie
 
-abbrev invariant-loop : tie.invariant-loop
-invariant-loop n owner slots slot list₀ t₀ list t = (t ≤ n) × TailKept n list₀ list
+abbrev invariant_loop : tie.invariant_loop
+invariant_loop n owner slots slot list₀ t₀ list t = (t ≤ n) × TailKept n list₀ list
 
-abbrev decreases-loop : tie.decreases-loop
-decreases-loop n owner slots slot list₀ t₀ list t = n - t
+abbrev decreases_loop : tie.decreases_loop
+decreases_loop n owner slots slot list₀ t₀ list t = n - t
 
-loop-holds : tie.Need-loop-init invariant-loop decreases-loop
-loop-holds c = (omega arith, tail-same _ _)
+loop_holds : tie.Need-loop-init invariant_loop decreases_loop
+loop_holds c = (omega arith, tail_same _ _)
 
-cast-list : tie.Need-overflow-cast-list invariant-loop decreases-loop
-cast-list c =
+cast_list : tie.Need-overflow-cast-list invariant_loop decreases_loop
+cast_list c =
     let h = c.before.before.before.before.before.requires.1.1.1 _ c.before.if1.true in
     omega arith
 
-slice-write-list : tie.Need-slice-write-list invariant-loop decreases-loop
-slice-write-list c = omega (arith, c.before.before.before.before.loop.invariant.1.same_length)
+slice_write_list : tie.Need-slice-write-list invariant_loop decreases_loop
+slice_write_list c = omega (arith, c.before.before.before.before.loop.invariant.1.same_length)
 
-loop-again : tie.Need-loop-preserved invariant-loop decreases-loop
-loop-again c = (omega arith, tail-set _ _ c.before.before.before.loop-test.true c.before.before.before.before.loop.invariant.1)
+loop_again : tie.Need-loop-preserved invariant_loop decreases_loop
+loop_again c = (omega arith, tail_set _ _ c.before.before.before.loop-test.true c.before.before.before.before.loop.invariant.1)
 
-loop-again-2 : tie.Need-loop-preserved-2 invariant-loop decreases-loop
-loop-again-2 c = (omega arith, c.before.before.before.loop.invariant.1)
+loop_again_2 : tie.Need-loop-preserved-2 invariant_loop decreases_loop
+loop_again_2 c = (omega arith, c.before.before.before.loop.invariant.1)
 
-same_length : tie.Need-same-length invariant-loop decreases-loop
+same_length : tie.Need-same-length invariant_loop decreases_loop
 same_length c = c.before.loop.invariant.1.same_length
 
-returns : tie.Need-returns invariant-loop decreases-loop
+returns : tie.Need-returns invariant_loop decreases_loop
 returns c = c.before.loop.invariant.1
 
-pub write-partial-spec : {M : Type 1} → statement M
-write-partial-spec =
+pub write_partial_spec : {M : Type 1} → statement M
+write_partial_spec =
     tie.close
     (tie.spec
-    invariant-loop
-    decreases-loop
-    loop-holds
+    invariant_loop
+    decreases_loop
+    loop_holds
     (λ c. omega arith)
     (λ c. omega arith)
     (λ c. omega arith)
     (λ c. omega arith)
-    cast-list
-    slice-write-list
+    cast_list
+    slice_write_list
     (λ c. omega arith)
     (λ c. omega arith)
-    loop-again
+    loop_again
     (λ c. omega arith)
     (λ c. omega arith)
-    loop-again-2
+    loop_again_2
     same_length
     returns)

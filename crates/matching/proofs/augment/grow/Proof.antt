@@ -3,100 +3,100 @@
 use native.Mathlib.Omega.{arith}
 use mathlib.Core.Path.{refl}
 use Prim.Native.Nat.{◌-◌, ◌<◌}
-use Rattle.matching.proofs.Turns.{Growing, grow-start, grow-in-tree, grow-none, grow-found, grow-again}
+use Rattle.matching.proofs.Turns.{Growing, grow_start, grow_in_tree, grow_none, grow_found, grow_again}
 use Rattle.matching.specs.Graph.{Edge, Marked}
 use Rattle.lists.specs.Lists.{at}
 use Rattle.matching.proofs.augment.grow.Statement.{statement}
 use Rattle.matching.proofs.augment.grow.Tie as tie
 
-abbrev invariant-loop : tie.invariant-loop
-invariant-loop allowed settings owner kind slots tides tide slot from₀ rank₀ queue₀ mark₀ head₀ tail₀ from rank queue mark head tail =
+abbrev invariant_loop : tie.invariant_loop
+invariant_loop allowed settings owner kind slots tides tide slot from₀ rank₀ queue₀ mark₀ head₀ tail₀ from rank queue mark head tail =
     Growing (Edge allowed settings owner kind) slots tides (at queue₀ 0) head tail tide slot from rank queue × Marked allowed settings slots tides mark from
 
-abbrev decreases-loop : tie.decreases-loop
-decreases-loop allowed settings owner kind slots tides tide slot from₀ rank₀ queue₀ mark₀ head₀ tail₀ from rank queue mark head tail = slots - head
+abbrev decreases_loop : tie.decreases_loop
+decreases_loop allowed settings owner kind slots tides tide slot from₀ rank₀ queue₀ mark₀ head₀ tail₀ from rank queue mark head tail = slots - head
 
-loop-holds : tie.Need-loop-init invariant-loop decreases-loop
-loop-holds c =
+loop_holds : tie.Need-loop-init invariant_loop decreases_loop
+loop_holds c =
     let p = c.before.before.requires in
     let z = p.0.sized in
-    (grow-start z.few-slots z.few-tides p.0.matching p.1.0 refl, p.1.1)
+    (grow_start z.few_slots z.few_tides p.0.matching p.1.0 refl, p.1.1)
 
-mul-s : tie.Need-overflow-mul-s invariant-loop decreases-loop
-mul-s c =
-    let z = c.before.before.before.before.requires.0.sized.few-slots in
+mul_s : tie.Need-overflow-mul-s invariant_loop decreases_loop
+mul_s c =
+    let z = c.before.before.before.before.requires.0.sized.few_slots in
     let f = c.before.loop.invariant.0.tree.few in
     omega arith
 
-element-copy-out-s : tie.Need-element-copy-out-s invariant-loop decreases-loop
-element-copy-out-s c =
-    let z = c.before.before.before.before.requires.0.sized.few-slots in
+element_copy_out_s : tie.Need-element-copy-out-s invariant_loop decreases_loop
+element_copy_out_s c =
+    let z = c.before.before.before.before.requires.0.sized.few_slots in
     let f = c.before.loop.invariant.0.tree.few in
     omega arith
 
-visit-requires : tie.Need-visit-requires invariant-loop decreases-loop
-visit-requires c κs =
-    let at-loop = c.before.before.before.before.before.before in
-    let p = at-loop.before.before.before.requires in
+visit_requires : tie.Need-visit-requires invariant_loop decreases_loop
+visit_requires c κs =
+    let at_loop = c.before.before.before.before.before.before in
+    let p = at_loop.before.before.before.requires in
     let z = p.0.sized in
-    let i = at-loop.loop.invariant in
-    let h : at-loop.loop.head < at-loop.loop.tail = omega arith in
-    let in_tree = grow-in-tree z.few-slots z.few-tides p.0.matching i.0 h in
+    let i = at_loop.loop.invariant in
+    let h : at_loop.loop.head < at_loop.loop.tail = omega arith in
+    let in_tree = grow_in_tree z.few_slots z.few_tides p.0.matching i.0 h in
     (p.0, ((i.0.tree.entry _ h, in_tree), (i.0.tree, i.1)))
 
-returns : tie.Need-returns invariant-loop decreases-loop
+returns : tie.Need-returns invariant_loop decreases_loop
 returns c =
-    let at-loop = c.before.before.before.before.before.before.before.before.before in
-    let p = at-loop.before.before.before.requires in
+    let at_loop = c.before.before.before.before.before.before.before.before.before in
+    let p = at_loop.before.before.before.requires in
     let z = p.0.sized in
-    let h : at-loop.loop.head < at-loop.loop.tail = omega arith in
+    let h : at_loop.loop.head < at_loop.loop.tail = omega arith in
     let e = c.before.before.visit.ensures in
     let free = c.if1.true in
-    grow-found z.few-slots z.few-tides p.0.matching at-loop.loop.invariant.0 h e.0 free (e.1.0 free)
+    grow_found z.few_slots z.few_tides p.0.matching at_loop.loop.invariant.0 h e.0 free (e.1.0 free)
 
-add-head : tie.Need-overflow-add-head invariant-loop decreases-loop
-add-head c =
-    let at-loop = c.before.before.before.before.before.before.before.before.before in
-    let z = at-loop.before.before.before.requires.0.sized.few-slots in
-    let f = at-loop.loop.invariant.0.tree.few in
-    let h : at-loop.loop.head < at-loop.loop.tail = omega arith in
+add_head : tie.Need-overflow-add-head invariant_loop decreases_loop
+add_head c =
+    let at_loop = c.before.before.before.before.before.before.before.before.before in
+    let z = at_loop.before.before.before.requires.0.sized.few_slots in
+    let f = at_loop.loop.invariant.0.tree.few in
+    let h : at_loop.loop.head < at_loop.loop.tail = omega arith in
     omega arith
 
-loop-less : tie.Need-loop-smaller invariant-loop decreases-loop
-loop-less c =
-    let at-loop = c.before.before.before.before.before.before.before.before.before in
-    let f = at-loop.loop.invariant.0.tree.few in
-    let h : at-loop.loop.head < at-loop.loop.tail = omega arith in
+loop_less : tie.Need-loop-smaller invariant_loop decreases_loop
+loop_less c =
+    let at_loop = c.before.before.before.before.before.before.before.before.before in
+    let f = at_loop.loop.invariant.0.tree.few in
+    let h : at_loop.loop.head < at_loop.loop.tail = omega arith in
     omega arith
 
-loop-again : tie.Need-loop-preserved invariant-loop decreases-loop
-loop-again c =
-    let at-loop = c.before.before.before.before.before.before.before.before.before in
-    let p = at-loop.before.before.before.requires in
+loop_again : tie.Need-loop-preserved invariant_loop decreases_loop
+loop_again c =
+    let at_loop = c.before.before.before.before.before.before.before.before.before in
+    let p = at_loop.before.before.before.requires in
     let z = p.0.sized in
-    let h : at-loop.loop.head < at-loop.loop.tail = omega arith in
+    let h : at_loop.loop.head < at_loop.loop.tail = omega arith in
     let e = c.before.before.visit.ensures in
     let q = e.1.1 c.if1.false in
-    (grow-again z.few-slots z.few-tides p.0.matching at-loop.loop.invariant.0 h e.0 q.end, q.marked)
+    (grow_again z.few_slots z.few_tides p.0.matching at_loop.loop.invariant.0 h e.0 q.end, q.marked)
 
-returns-2 : tie.Need-returns-2 invariant-loop decreases-loop
-returns-2 c =
+returns_2 : tie.Need-returns-2 invariant_loop decreases_loop
+returns_2 c =
     let p = c.before.before.before.before.requires in
     let z = p.0.sized in
-    grow-none z.few-slots z.few-tides p.0.matching c.before.loop.invariant.0 z.few-tides (omega arith)
+    grow_none z.few_slots z.few_tides p.0.matching c.before.loop.invariant.0 z.few_tides (omega arith)
 
 pub grow_spec : {M : Type 1} → statement M
 grow_spec =
     tie.close
     (tie.spec
-    invariant-loop
-    decreases-loop
-    loop-holds
-    mul-s
-    element-copy-out-s
-    visit-requires
+    invariant_loop
+    decreases_loop
+    loop_holds
+    mul_s
+    element_copy_out_s
+    visit_requires
     returns
-    add-head
-    loop-less
-    loop-again
-    returns-2)
+    add_head
+    loop_less
+    loop_again
+    returns_2)

@@ -3,23 +3,23 @@
 use native.Mathlib.Omega.{arith}
 use Rattle.lists.specs.Lists.{at}
 use Rattle.matching.specs.Graph.{Edge, Shifting}
-use Rattle.matching.proofs.Turns.{shift-again, shift-end, shift_falls}
+use Rattle.matching.proofs.Turns.{shift_again, shift_end, shift_falls}
 use Rattle.matching.proofs.augment.shift.Statement.{statement}
 use Rattle.matching.proofs.augment.shift.Tie as tie
 
-abbrev invariant-loop : tie.invariant-loop
-invariant-loop allowed settings owner kind slots tides tide₀ slot₀ from rank root s0 t0 s₀ t₀ tide slot s t =
+abbrev invariant_loop : tie.invariant_loop
+invariant_loop allowed settings owner kind slots tides tide₀ slot₀ from rank root s0 t0 s₀ t₀ tide slot s t =
     Shifting (Edge allowed settings owner kind) slots tides root s t tide₀ tide slot from rank
 
-abbrev decreases-loop : tie.decreases-loop
-decreases-loop allowed settings owner kind slots tides tide₀ slot₀ from rank root s0 t0 s₀ t₀ tide slot s t = at rank s
+abbrev decreases_loop : tie.decreases_loop
+decreases_loop allowed settings owner kind slots tides tide₀ slot₀ from rank root s0 t0 s₀ t₀ tide slot s t = at rank s
 
-loop-holds : tie.Need-loop-init invariant-loop decreases-loop
-loop-holds c =
+loop_holds : tie.Need-loop-init invariant_loop decreases_loop
+loop_holds c =
     let p = c.before.before.requires in
     record {
       below = p.1.0.0;
-      tide-below = p.1.0.1;
+      tide_below = p.1.0.1;
       in_tree = p.1.0.2;
       matching = p.0.matching;
       free = p.1.1.0;
@@ -27,46 +27,46 @@ loop-holds c =
       kept = λ x xl h. h;
     }
 
-swap-requires : tie.Need-swap-requires invariant-loop decreases-loop
-swap-requires c κs =
+swap_requires : tie.Need-swap-requires invariant_loop decreases_loop
+swap_requires c κs =
     let z = c.before.before.before.before.before.requires.0.sized in
     let i = c.before.before.loop.invariant in
-    omega (arith, i.below, i.tide-below, z.few-slots, z.few-tides)
+    omega (arith, i.below, i.tide_below, z.few_slots, z.few_tides)
 
-returns : tie.Need-returns invariant-loop decreases-loop
+returns : tie.Need-returns invariant_loop decreases_loop
 returns c =
     let z = c.before.before.before.before.before.before.before.requires.0.sized in
     let e = c.before.swap.ensures in
-    shift-end z.few-slots z.few-tides c.before.before.before.before.loop.invariant e.0 e.1.0 e.1.1 c.if1.true
+    shift_end z.few_slots z.few_tides c.before.before.before.before.loop.invariant e.0 e.1.0 e.1.1 c.if1.true
 
-mul-s : tie.Need-overflow-mul-s invariant-loop decreases-loop
-mul-s c = let few = c.before.before.before.before.before.before.before.requires.0.sized.few-tides in omega arith
+mul_s : tie.Need-overflow-mul-s invariant_loop decreases_loop
+mul_s c = let few = c.before.before.before.before.before.before.before.requires.0.sized.few_tides in omega arith
 
-element-copy-out-s : tie.Need-element-copy-out-s invariant-loop decreases-loop
-element-copy-out-s c = let few = c.before.before.before.before.before.before.before.requires.0.sized.few-tides in omega arith
+element_copy_out_s : tie.Need-element-copy-out-s invariant_loop decreases_loop
+element_copy_out_s c = let few = c.before.before.before.before.before.before.before.requires.0.sized.few_tides in omega arith
 
-loop-less : tie.Need-loop-smaller invariant-loop decreases-loop
-loop-less c =
+loop_less : tie.Need-loop-smaller invariant_loop decreases_loop
+loop_less c =
     let z = c.before.before.before.before.before.before.before.before.requires.0.sized in
     let e = c.before.before.swap.ensures in
-    shift_falls z.few-slots z.few-tides c.before.before.before.before.before.loop.invariant e.0 e.1.0 e.1.1 c.before.if1.false
+    shift_falls z.few_slots z.few_tides c.before.before.before.before.before.loop.invariant e.0 e.1.0 e.1.1 c.before.if1.false
 
-loop-again : tie.Need-loop-preserved invariant-loop decreases-loop
-loop-again c =
+loop_again : tie.Need-loop-preserved invariant_loop decreases_loop
+loop_again c =
     let z = c.before.before.before.before.before.before.before.before.requires.0.sized in
     let e = c.before.before.swap.ensures in
-    shift-again z.few-slots z.few-tides c.before.before.before.before.before.loop.invariant e.0 e.1.0 e.1.1 c.before.if1.false
+    shift_again z.few_slots z.few_tides c.before.before.before.before.before.loop.invariant e.0 e.1.0 e.1.1 c.before.if1.false
 
-pub shift-spec : {M : Type 1} → statement M
-shift-spec =
+pub shift_spec : {M : Type 1} → statement M
+shift_spec =
     tie.close
     (tie.spec
-    invariant-loop
-    decreases-loop
-    loop-holds
-    swap-requires
+    invariant_loop
+    decreases_loop
+    loop_holds
+    swap_requires
     returns
-    mul-s
-    element-copy-out-s
-    loop-less
-    loop-again)
+    mul_s
+    element_copy_out_s
+    loop_less
+    loop_again)

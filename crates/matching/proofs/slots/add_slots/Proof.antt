@@ -3,44 +3,44 @@ use native.Mathlib.Omega.{arith}
 use native.Mathlib.Nat.{le_antisymm}
 use Prim.Native.Nat.{ℕ, ◌-◌, ◌≤◌}
 use mathlib.Core.Path.{subst}
-use Rattle.matching.proofs.Laying.{added-start, added_more}
+use Rattle.matching.proofs.Laying.{added_start, added_more}
 use Rattle.matching.specs.Slots.{Added}
 use Rattle.matching.proofs.slots.add_slots.Statement.{statement}
 use Rattle.matching.proofs.slots.add_slots.Tie as tie
 
-abbrev invariant-loop : tie.invariant-loop
-invariant-loop owner₀ kind₀ next pos m k count i₀ owner kind i = (i ≤ count) × Added pos m k i owner₀ kind₀ owner kind
+abbrev invariant_loop : tie.invariant_loop
+invariant_loop owner₀ kind₀ next pos m k count i₀ owner kind i = (i ≤ count) × Added pos m k i owner₀ kind₀ owner kind
 
-abbrev decreases-loop : tie.decreases-loop
-decreases-loop owner₀ kind₀ next pos m k count i₀ owner kind i = count - i
+abbrev decreases_loop : tie.decreases_loop
+decreases_loop owner₀ kind₀ next pos m k count i₀ owner kind i = count - i
 
-loop-holds : tie.Need-loop-init invariant-loop decreases-loop
-loop-holds c = (omega arith, added-start c.requires.0)
+loop_holds : tie.Need-loop-init invariant_loop decreases_loop
+loop_holds c = (omega arith, added_start c.requires.0)
 
-loop-again : tie.Need-loop-preserved invariant-loop decreases-loop
-loop-again c =
+loop_again : tie.Need-loop-preserved invariant_loop decreases_loop
+loop_again c =
     let l = c.loop-test.true in
     let p = c.before.before.requires.1 in
     (omega arith, added_more c.before.loop.invariant.1 (omega arith))
 
-returns : tie.Need-returns invariant-loop decreases-loop
+returns : tie.Need-returns invariant_loop decreases_loop
 returns c =
     let a = c.before.before.args in
     let turn = c.before.loop in
     let e = le_antisymm turn.invariant.0 c.loop-test.false in
     subst (λ (x : ℕ). Added a.pos a.m a.k x a.owner.now a.kind.now turn.owner turn.kind) e turn.invariant.1
 
-pub add-slots-spec : {M : Type 1} → statement M
-add-slots-spec =
+pub add_slots_spec : {M : Type 1} → statement M
+add_slots_spec =
     tie.close
     (tie.spec
-    invariant-loop
-    decreases-loop
+    invariant_loop
+    decreases_loop
     (λ c. omega arith)
     (λ c. omega arith)
     (λ c. omega arith)
     (λ c. omega arith)
-    loop-holds
+    loop_holds
     (λ c. omega arith)
     (λ c. omega arith)
     (λ c. omega arith)
@@ -48,5 +48,5 @@ add-slots-spec =
     (λ c. omega arith)
     (λ c. omega arith)
     (λ c. omega arith)
-    loop-again
+    loop_again
     returns)

@@ -5,62 +5,62 @@ use mathlib.Core.Path.{◌≡◌}
 use mathlib.Core.Bool.{true}
 use lib.ListN.{length}
 use Rattle.lists.specs.Lists.{every}
-use Rattle.lists.proofs.Scans.{every-none, every_more, test-passes, test-fails}
-use Rattle.validity.specs.Memory.{state_of, studyOf}
+use Rattle.lists.proofs.Scans.{every_none, every_more, test_passes, test_fails}
+use Rattle.validity.specs.Memory.{state_of, study_of}
 use Rattle.merge.specs.Merge.{agreeing}
-use Rattle.merge.proofs.SourceLaws.{agree-other-k, agree-lengths, agree-not, agree-every, named_by}
+use Rattle.merge.proofs.SourceLaws.{agree_other_k, agree_lengths, agree_not, agree_every, named_by}
 use Rattle.merge.proofs.pairs.agree.Statement.{statement}
 use Rattle.merge.proofs.pairs.agree.Tie as tie
 
-abbrev invariant-loop : tie.invariant-loop
-invariant-loop first d1 s1 second d2 s2 firsts seconds m q₀ q =
-    (q ≤ length firsts) × (every q (agreeing (studyOf (state_of first d1 s1)) (studyOf (state_of second d2 s2)) firsts seconds) ≡ true)
+abbrev invariant_loop : tie.invariant_loop
+invariant_loop first d1 s1 second d2 s2 firsts seconds m q₀ q =
+    (q ≤ length firsts) × (every q (agreeing (study_of (state_of first d1 s1)) (study_of (state_of second d2 s2)) firsts seconds) ≡ true)
 
-abbrev decreases-loop : tie.decreases-loop
-decreases-loop first d1 s1 second d2 s2 firsts seconds m q₀ q = length firsts - q
+abbrev decreases_loop : tie.decreases_loop
+decreases_loop first d1 s1 second d2 s2 firsts seconds m q₀ q = length firsts - q
 
 -- where the function begins, from what is known of the records
-abbrev entry : tie.After-struct-known2 invariant-loop decreases-loop → tie.Start invariant-loop decreases-loop
+abbrev entry : tie.After-struct-known2 invariant_loop decreases_loop → tie.Start invariant_loop decreases_loop
 entry c = c.before.before.before.before.before.before.before.before
 
-pair-agrees-requires : tie.Need-pair-agrees-requires invariant-loop decreases-loop
-pair-agrees-requires c κs =
+pair_agrees_requires : tie.Need-pair-agrees-requires invariant_loop decreases_loop
+pair_agrees_requires c κs =
     let loop = c.before in
     let pre = (entry loop.before.before.before).pre in (
       named_by _ _ _ _ pre.0 pre.1 (omega arith) (omega (arith, loop.before.if2.false)) loop.loop.invariant.1,
       (omega arith, omega (arith, loop.before.if2.false)),
     )
 
-returns-3 : tie.Need-returns-3 invariant-loop decreases-loop
-returns-3 c =
+returns_3 : tie.Need-returns-3 invariant_loop decreases_loop
+returns_3 c =
     let loop = c.before.before.before in
-    agree-not _ _ _ _ loop.before.if2.false _ (omega arith) (test-fails c.before.pair-agrees.ensures c.if3.true)
+    agree_not _ _ _ _ loop.before.if2.false _ (omega arith) (test_fails c.before.pair_agrees.ensures c.if3.true)
 
 -- a list has fewer places than a number can say
-add-q : tie.Need-overflow-add-q invariant-loop decreases-loop
-add-q c = let loop = c.before.before.before in omega (arith, (entry loop.before.before.before).good)
+add_q : tie.Need-overflow-add-q invariant_loop decreases_loop
+add_q c = let loop = c.before.before.before in omega (arith, (entry loop.before.before.before).good)
 
-loop-again : tie.Need-loop-preserved invariant-loop decreases-loop
-loop-again c =
-    (omega arith, every_more _ _ c.before.before.before.loop.invariant.1 (test-passes c.before.pair-agrees.ensures c.if3.false))
+loop_again : tie.Need-loop-preserved invariant_loop decreases_loop
+loop_again c =
+    (omega arith, every_more _ _ c.before.before.before.loop.invariant.1 (test_passes c.before.pair_agrees.ensures c.if3.false))
 
-returns-4 : tie.Need-returns-4 invariant-loop decreases-loop
-returns-4 c =
+returns_4 : tie.Need-returns-4 invariant_loop decreases_loop
+returns_4 c =
     let loop = c.before in
-    agree-every _ _ _ _ loop.before.if2.false loop.before.before.if1.false _ (omega arith) (omega arith) loop.loop.invariant.1
+    agree_every _ _ _ _ loop.before.if2.false loop.before.before.if1.false _ (omega arith) (omega arith) loop.loop.invariant.1
 
-pub agree-spec : {M : Type 1} → statement M
-agree-spec =
+pub agree_spec : {M : Type 1} → statement M
+agree_spec =
     tie.close
     (tie.spec
-    invariant-loop
-    decreases-loop
-    (λ c. agree-other-k _ _ _ _ c.if1.true)
-    (λ c. agree-lengths _ _ _ _ c.if2.true)
-    (λ c. (omega arith, every-none _))
-    pair-agrees-requires
-    returns-3
-    add-q
+    invariant_loop
+    decreases_loop
+    (λ c. agree_other_k _ _ _ _ c.if1.true)
+    (λ c. agree_lengths _ _ _ _ c.if2.true)
+    (λ c. (omega arith, every_none _))
+    pair_agrees_requires
+    returns_3
+    add_q
     (λ c. omega arith)
-    loop-again
-    returns-4)
+    loop_again
+    returns_4)

@@ -5,56 +5,56 @@ use native.Mathlib.Omega.{arith}
 use mathlib.Core.Path.{◌≡◌}
 use Rattle.merge.specs.Merge.{shared}
 use Rattle.merge.specs.Sources.{RestIn}
-use Rattle.merge.proofs.RestLaws.{rest-none, rest-few, rest-hit, rest-miss, rest-done}
+use Rattle.merge.proofs.RestLaws.{rest_none, rest_few, rest_hit, rest_miss, rest_done}
 use Rattle.merge.proofs.rest.find_rest.Statement.{statement}
 use Rattle.merge.proofs.rest.find_rest.Tie as tie
 
-abbrev invariant-loop : tie.invariant-loop
-invariant-loop firsts seconds n rest₀ count₀ j₀ rest count j = (j ≤ n) × RestIn (shared firsts seconds) j count rest
+abbrev invariant_loop : tie.invariant_loop
+invariant_loop firsts seconds n rest₀ count₀ j₀ rest count j = (j ≤ n) × RestIn (shared firsts seconds) j count rest
 
-abbrev decreases-loop : tie.decreases-loop
-decreases-loop firsts seconds n rest₀ count₀ j₀ rest count j = n - j
+abbrev decreases_loop : tie.decreases_loop
+decreases_loop firsts seconds n rest₀ count₀ j₀ rest count j = n - j
 
 -- where the function begins, from the loop
-abbrev entry : tie.At-loop invariant-loop decreases-loop → tie.Start invariant-loop decreases-loop
+abbrev entry : tie.At-loop invariant_loop decreases_loop → tie.Start invariant_loop decreases_loop
 entry c = c.before.before.before
 
 -- there is room in the table
-few : tie.Need-overflow-mul-rest invariant-loop decreases-loop
-few c = omega (arith, rest-few c.before.before.before.loop.invariant.1)
+few : tie.Need-overflow-mul-rest invariant_loop decreases_loop
+few c = omega (arith, rest_few c.before.before.before.loop.invariant.1)
 
-element-write-rest : tie.Need-element-write-rest invariant-loop decreases-loop
-element-write-rest c = omega (arith, rest-few c.before.before.before.loop.invariant.1)
+element_write_rest : tie.Need-element-write-rest invariant_loop decreases_loop
+element_write_rest c = omega (arith, rest_few c.before.before.before.loop.invariant.1)
 
-add-count : tie.Need-overflow-add-count invariant-loop decreases-loop
-add-count c = omega (arith, rest-few c.before.before.before.loop.invariant.1)
+add_count : tie.Need-overflow-add-count invariant_loop decreases_loop
+add_count c = omega (arith, rest_few c.before.before.before.loop.invariant.1)
 
-loop-again : tie.Need-loop-preserved invariant-loop decreases-loop
-loop-again c =
+loop_again : tie.Need-loop-preserved invariant_loop decreases_loop
+loop_again c =
     let rest = c.before.before.before.loop.invariant.1 in
-    (omega arith, rest-hit rest c.before.is-unshared.ensures c.if1.true (omega (arith, rest-few rest)))
+    (omega arith, rest_hit rest c.before.is-unshared.ensures c.if1.true (omega (arith, rest_few rest)))
 
-loop-again-2 : tie.Need-loop-preserved-2 invariant-loop decreases-loop
-loop-again-2 c = (omega arith, rest-miss c.before.before.before.loop.invariant.1 c.before.is-unshared.ensures c.if1.false)
+loop_again_2 : tie.Need-loop-preserved-2 invariant_loop decreases_loop
+loop_again_2 c = (omega arith, rest_miss c.before.before.before.loop.invariant.1 c.before.is-unshared.ensures c.if1.false)
 
-returns : tie.Need-returns invariant-loop decreases-loop
-returns c = let all : c.before.loop.j ≡ (entry c.before).args.n = omega arith in rest-done c.before.loop.invariant.1 all
+returns : tie.Need-returns invariant_loop decreases_loop
+returns c = let all : c.before.loop.j ≡ (entry c.before).args.n = omega arith in rest_done c.before.loop.invariant.1 all
 
-pub find-rest-spec : {M : Type 1} → statement M
-find-rest-spec =
+pub find_rest_spec : {M : Type 1} → statement M
+find_rest_spec =
     tie.close
     (tie.spec
-    invariant-loop
-    decreases-loop
-    (λ c. (omega arith, rest-none c.before.before.requires.1.1))
+    invariant_loop
+    decreases_loop
+    (λ c. (omega arith, rest_none c.before.before.requires.1.1))
     (λ c κs. (entry c.before).pre.0)
     few
-    element-write-rest
-    add-count
+    element_write_rest
+    add_count
     (λ c. omega arith)
     (λ c. omega arith)
-    loop-again
+    loop_again
     (λ c. omega arith)
     (λ c. omega arith)
-    loop-again-2
+    loop_again_2
     returns)

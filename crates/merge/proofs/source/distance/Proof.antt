@@ -1,7 +1,7 @@
 -- `distance` meets its contract: the memory of a dataset holds the distances of its study. Assumes nothing.
 use mathlib.Core.Path.{sym}
 use borrow.Author.Rules.{rules}
-use Rattle.validity.proofs.ValidityLaws.{study-distance}
+use Rattle.validity.proofs.ValidityLaws.{study_distance}
 use Rattle.merge.proofs.source.distance.Statement.{statement}
 use Rattle.merge.proofs.source.distance.Tie as tie
 
@@ -9,7 +9,7 @@ returns : tie.Need-returns
 returns c =
     let pre = c.before.requires in
     let study = pre.0.study in
-    (sym (study-distance _ study _ _ pre.1.0 pre.1.1), study.distance_high _ _ pre.1.0 pre.1.1)
+    (sym (study_distance _ study _ _ pre.1.0 pre.1.1), study.distance_high _ _ pre.1.0 pre.1.1)
 
-pub distance-spec : {M : Type 1} → statement M
-distance-spec = tie.close (tie.spec (λ c. search rules) (λ c. search rules) (λ c. search rules) (λ c. search rules) returns)
+pub distance_spec : {M : Type 1} → statement M
+distance_spec = tie.close (tie.spec (λ c. search rules) (λ c. search rules) (λ c. search rules) (λ c. search rules) returns)

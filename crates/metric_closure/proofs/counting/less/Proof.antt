@@ -7,9 +7,9 @@ use Rattle.metric_closure.proofs.counting.less.Tie as tie
 returns : tie.Need-returns
 returns c = (rw (lt-ltb _ _ c.if1.true), omega arith)
 
-returns-2 : tie.Need-returns-2
-returns-2 c = (rw (le-ltb _ _ c.if1.false), omega arith)
+returns_2 : tie.Need-returns-2
+returns_2 c = (rw (le-ltb _ _ c.if1.false), omega arith)
 
-pub less-spec : {M : Type 1} → statement M
-less-spec =
-    tie.close (tie.spec returns returns-2)
+pub less_spec : {M : Type 1} → statement M
+less_spec =
+    tie.close (tie.spec returns returns_2)

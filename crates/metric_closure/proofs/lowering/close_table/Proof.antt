@@ -1,46 +1,46 @@
 -- `close_table` meets its contract: the way may go by the tides passed so far. Assumes nothing.
 use Prim.Native.Nat.{◌≤◌, ◌-◌}
 use native.Mathlib.Omega.{arith}
-use Rattle.metric_closure.proofs.TableLaws.{Closing, closing-none, closing-more, closing-fits, closing-near, closing-done}
+use Rattle.metric_closure.proofs.TableLaws.{Closing, closing_none, closing_more, closing_fits, closing_near, closing_done}
 use Rattle.metric_closure.proofs.lowering.close_table.Statement.{statement}
 use Rattle.metric_closure.proofs.lowering.close_table.Tie as tie
 
-abbrev invariant-loop : tie.invariant-loop
-invariant-loop table₀ n m₀ table m = (m ≤ n) × Closing n m table₀ table
+abbrev invariant_loop : tie.invariant_loop
+invariant_loop table₀ n m₀ table m = (m ≤ n) × Closing n m table₀ table
 
-abbrev decreases-loop : tie.decreases-loop
-decreases-loop table₀ n m₀ table m = n - m
+abbrev decreases_loop : tie.decreases_loop
+decreases_loop table₀ n m₀ table m = n - m
 
-loop-holds : tie.Need-loop-init invariant-loop decreases-loop
-loop-holds c = (omega arith, closing-none)
+loop_holds : tie.Need-loop-init invariant_loop decreases_loop
+loop_holds c = (omega arith, closing_none)
 
-lower-by-requires : tie.Need-lower-by-requires invariant-loop decreases-loop
-lower-by-requires c κs =
+lower_by_requires : tie.Need-lower-by-requires invariant_loop decreases_loop
+lower_by_requires c κs =
     let inv = c.before.before.loop.invariant in
     let pre = c.before.before.before.before.requires in
-    (closing-fits inv.1 pre.0, (closing-near inv.1 pre.1, omega arith))
+    (closing_fits inv.1 pre.0, (closing_near inv.1 pre.1, omega arith))
 
-loop-again : tie.Need-loop-preserved invariant-loop decreases-loop
-loop-again c =
+loop_again : tie.Need-loop-preserved invariant_loop decreases_loop
+loop_again c =
     let call = c.before.before in
-    (omega arith, closing-more (omega arith) call.before.before.before.loop.invariant.1 call.lower_by.ensures)
+    (omega arith, closing_more (omega arith) call.before.before.before.loop.invariant.1 call.lower_by.ensures)
 
-same_length : tie.Need-same-length invariant-loop decreases-loop
+same_length : tie.Need-same-length invariant_loop decreases_loop
 same_length c = c.before.loop.invariant.1.long
 
-returns : tie.Need-returns invariant-loop decreases-loop
-returns c = closing-done (omega arith) c.before.before.before.requires.0 c.before.loop.invariant.1
+returns : tie.Need-returns invariant_loop decreases_loop
+returns c = closing_done (omega arith) c.before.before.before.requires.0 c.before.loop.invariant.1
 
-pub close-table-spec : {M : Type 1} → statement M
-close-table-spec =
+pub close_table_spec : {M : Type 1} → statement M
+close_table_spec =
     tie.close
     (tie.spec
-    invariant-loop
-    decreases-loop
-    loop-holds
-    lower-by-requires
+    invariant_loop
+    decreases_loop
+    loop_holds
+    lower_by_requires
     (λ c. omega arith)
     (λ c. omega arith)
-    loop-again
+    loop_again
     same_length
     returns)

@@ -1,16 +1,16 @@
 -- `lower_at` meets its contract: the part that is row i is lowered and put back. Assumes nothing.
 use borrow.Author.Rules.{rules}
 use mathlib.Core.Path.{refl}
-use Rattle.metric_closure.proofs.TableLaws.{row-asks, row-lowered}
+use Rattle.metric_closure.proofs.TableLaws.{row_asks, row_lowered}
 use Rattle.metric_closure.proofs.lowering.lower_at.Statement.{statement}
 use Rattle.metric_closure.proofs.lowering.lower_at.Tie as tie
 
-lower-row-requires : tie.Need-lower-row-requires
-lower-row-requires c κs =
+lower_row_requires : tie.Need-lower-row-requires
+lower_row_requires c κs =
     let start = c.before.before.before.before.before in
     let pre = start.requires in
     let starts = c.before.before.row-start.ensures.0 in
-    let asks = row-asks _ start.args.m _ start.args.line.now start.args.table.now pre.0 pre.1.1.0.1 _ _ _ starts refl refl in
+    let asks = row_asks _ start.args.m _ start.args.line.now start.args.table.now pre.0 pre.1.1.0.1 _ _ _ starts refl refl in
     asks pre.1.1.0.0 pre.1.0 pre.1.1.0.2 pre.1.1.1
 
 returns : tie.Need-returns
@@ -19,11 +19,11 @@ returns c =
     let start = call.before.before.before.before.before.before in
     let pre = start.requires in
     let starts = call.before.before.before.row-start.ensures.0 in
-    row-lowered _ start.args.m _ start.args.line.now start.args.table.now pre.0 pre.1.1.0.1 _ _ _ starts refl refl
+    row_lowered _ start.args.m _ start.args.line.now start.args.table.now pre.0 pre.1.1.0.1 _ _ _ starts refl refl
     call.lower-row.ensures
 
-pub lower-at-spec : {M : Type 1} → statement M
-lower-at-spec =
+pub lower_at_spec : {M : Type 1} → statement M
+lower_at_spec =
     tie.close
     (tie.spec
     (λ c κs. search rules)
@@ -35,6 +35,6 @@ lower-at-spec =
     (λ c. search rules)
     (λ c. search rules)
     (λ c. search rules)
-    lower-row-requires
+    lower_row_requires
     (λ c. search rules)
     returns)

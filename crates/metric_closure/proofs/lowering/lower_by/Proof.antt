@@ -8,8 +8,8 @@ use Rattle.metric_closure.proofs.TableLaws.{line_of}
 use Rattle.metric_closure.proofs.lowering.lower_by.Statement.{statement}
 use Rattle.metric_closure.proofs.lowering.lower_by.Tie as tie
 
-lower-rows-requires : tie.Need-lower-rows-requires
-lower-rows-requires c κs =
+lower_rows_requires : tie.Need-lower-rows-requires
+lower_rows_requires c κs =
     let call = c.before.before.before in
     let start = call.before.before.before.before.before.before in
     let pre = start.requires in
@@ -18,8 +18,8 @@ lower-rows-requires c κs =
     (omega (arith, length-replicate {A = ℕ} 120 0, pre.0.few)) call.copy.ensures in
     (pre.0, (pre.1.0, (pre.1.1, line)))
 
-pub lower-by-spec : {M : Type 1} → statement M
-lower-by-spec =
+pub lower_by_spec : {M : Type 1} → statement M
+lower_by_spec =
     tie.close
     (tie.spec
     (λ c κs. search rules)
@@ -31,6 +31,6 @@ lower-by-spec =
     (λ c. search rules)
     (λ c κs. search rules)
     (λ c. search rules)
-    lower-rows-requires
+    lower_rows_requires
     (λ c. search rules)
     (λ c. search rules))

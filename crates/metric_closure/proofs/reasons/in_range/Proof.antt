@@ -6,41 +6,41 @@ use mathlib.Core.Path.{◌≡◌, sym}
 use lib.Dec.{leb}
 use lib.ListN.{get_or}
 use Rattle.lists.specs.Lists.{every}
-use Rattle.lists.proofs.Scans.{every-none, every_more, every-fails, every-done, test-passes, test-fails}
+use Rattle.lists.proofs.Scans.{every_none, every_more, every_fails, every_done, test_passes, test_fails}
 use Rattle.metric_closure.specs.Call.{in_range}
 use Rattle.metric_closure.proofs.reasons.in_range.Statement.{statement}
 use Rattle.metric_closure.proofs.reasons.in_range.Tie as tie
 
-abbrev invariant-loop : tie.invariant-loop
-invariant-loop table size p₀ p = (p ≤ size) × (every p (λ p. leb (get_or table p 0) 1048575) ≡ true)
+abbrev invariant_loop : tie.invariant_loop
+invariant_loop table size p₀ p = (p ≤ size) × (every p (λ p. leb (get_or table p 0) 1048575) ≡ true)
 
-abbrev decreases-loop : tie.decreases-loop
-decreases-loop table size p₀ p = size - p
+abbrev decreases_loop : tie.decreases_loop
+decreases_loop table size p₀ p = size - p
 
-loop-holds : tie.Need-loop-init invariant-loop decreases-loop
-loop-holds c = (omega arith, every-none _)
+loop_holds : tie.Need-loop-init invariant_loop decreases_loop
+loop_holds c = (omega arith, every_none _)
 
-returns : tie.Need-returns invariant-loop decreases-loop
+returns : tie.Need-returns invariant_loop decreases_loop
 unfolding in_range
-returns c = sym (every-fails _ _ _ (omega arith) (test-fails c.before.is-near.ensures c.if1.true))
+returns c = sym (every_fails _ _ _ (omega arith) (test_fails c.before.is-near.ensures c.if1.true))
 
-loop-again : tie.Need-loop-preserved invariant-loop decreases-loop
-loop-again c = (omega arith, every_more _ _ c.before.before.before.loop.invariant.1 (test-passes c.before.is-near.ensures c.if1.false))
+loop_again : tie.Need-loop-preserved invariant_loop decreases_loop
+loop_again c = (omega arith, every_more _ _ c.before.before.before.loop.invariant.1 (test_passes c.before.is-near.ensures c.if1.false))
 
-returns-2 : tie.Need-returns-2 invariant-loop decreases-loop
+returns_2 : tie.Need-returns-2 invariant_loop decreases_loop
 unfolding in_range
-returns-2 c = sym (every-done _ _ _ (omega arith) (omega arith) c.before.loop.invariant.1)
+returns_2 c = sym (every_done _ _ _ (omega arith) (omega arith) c.before.loop.invariant.1)
 
-pub in-range-spec : {M : Type 1} → statement M
-in-range-spec =
+pub in_range_spec : {M : Type 1} → statement M
+in_range_spec =
     tie.close
     (tie.spec
-    invariant-loop
-    decreases-loop
-    loop-holds
+    invariant_loop
+    decreases_loop
+    loop_holds
     (λ c κs. omega arith)
     returns
     (λ c. omega arith)
     (λ c. omega arith)
-    loop-again
-    returns-2)
+    loop_again
+    returns_2)

@@ -8,6 +8,6 @@ use Rattle.metric_closure.proofs.reasons.same_both_ways.Tie as tie
 returns : tie.Need-returns
 returns c = ap₂ (λ x y. eqb x y) c.before.distance.ensures c.distance2.ensures
 
-pub same-both-ways-spec : {M : Type 1} → statement M
-same-both-ways-spec =
+pub same_both_ways_spec : {M : Type 1} → statement M
+same_both_ways_spec =
     tie.close (tie.spec (λ c κs. search rules) (λ c κs. search rules) returns)

@@ -5,41 +5,41 @@ use borrow.Author.Rules.{rules}
 use mathlib.Core.Bool.{true}
 use mathlib.Core.Path.{◌≡◌, sym}
 use Rattle.lists.specs.Lists.{every}
-use Rattle.lists.proofs.Scans.{every-none, every_more, every-fails, every-done, test-passes, test-fails}
-use Rattle.metric_closure.specs.Call.{symmetricRow, symmetricTable}
+use Rattle.lists.proofs.Scans.{every_none, every_more, every_fails, every_done, test_passes, test_fails}
+use Rattle.metric_closure.specs.Call.{symmetric_row, symmetric_table}
 use Rattle.metric_closure.proofs.reasons.symmetric.Statement.{statement}
 use Rattle.metric_closure.proofs.reasons.symmetric.Tie as tie
 
-abbrev invariant-loop : tie.invariant-loop
-invariant-loop table n i₀ i = (i ≤ n) × (every i (symmetricRow n table) ≡ true)
+abbrev invariant_loop : tie.invariant_loop
+invariant_loop table n i₀ i = (i ≤ n) × (every i (symmetric_row n table) ≡ true)
 
-abbrev decreases-loop : tie.decreases-loop
-decreases-loop table n i₀ i = n - i
+abbrev decreases_loop : tie.decreases_loop
+decreases_loop table n i₀ i = n - i
 
-loop-holds : tie.Need-loop-init invariant-loop decreases-loop
-loop-holds c = (omega arith, every-none _)
+loop_holds : tie.Need-loop-init invariant_loop decreases_loop
+loop_holds c = (omega arith, every_none _)
 
-returns : tie.Need-returns invariant-loop decreases-loop
-unfolding symmetricTable
-returns c = sym (every-fails _ _ _ (omega arith) (test-fails c.before.symmetric-row.ensures c.if1.true))
+returns : tie.Need-returns invariant_loop decreases_loop
+unfolding symmetric_table
+returns c = sym (every_fails _ _ _ (omega arith) (test_fails c.before.symmetric-row.ensures c.if1.true))
 
-loop-again : tie.Need-loop-preserved invariant-loop decreases-loop
-loop-again c = (omega arith, every_more _ _ c.before.before.before.loop.invariant.1 (test-passes c.before.symmetric-row.ensures c.if1.false))
+loop_again : tie.Need-loop-preserved invariant_loop decreases_loop
+loop_again c = (omega arith, every_more _ _ c.before.before.before.loop.invariant.1 (test_passes c.before.symmetric-row.ensures c.if1.false))
 
-returns-2 : tie.Need-returns-2 invariant-loop decreases-loop
-unfolding symmetricTable
-returns-2 c = sym (every-done _ _ _ (omega arith) (omega arith) c.before.loop.invariant.1)
+returns_2 : tie.Need-returns-2 invariant_loop decreases_loop
+unfolding symmetric_table
+returns_2 c = sym (every_done _ _ _ (omega arith) (omega arith) c.before.loop.invariant.1)
 
-pub symmetric-spec : {M : Type 1} → statement M
-symmetric-spec =
+pub symmetric_spec : {M : Type 1} → statement M
+symmetric_spec =
     tie.close
     (tie.spec
-    invariant-loop
-    decreases-loop
-    loop-holds
+    invariant_loop
+    decreases_loop
+    loop_holds
     (λ c κs. search rules)
     returns
     (λ c. omega arith)
     (λ c. omega arith)
-    loop-again
-    returns-2)
+    loop_again
+    returns_2)

@@ -3,61 +3,61 @@ use Prim.Native.Nat.{◌≤◌, ◌-◌}
 use native.Mathlib.Omega.{arith}
 use mathlib.Core.Path.{◌≡◌, refl}
 use lib.ListN.{length, length-set}
-use Rattle.lists.proofs.Tables.{overwrite-none, overwrite-done}
-use Rattle.metric_closure.specs.Tables.{lesserWay}
-use Rattle.metric_closure.proofs.TableLaws.{lower-more}
+use Rattle.lists.proofs.Tables.{overwrite_none, overwrite_done}
+use Rattle.metric_closure.specs.Tables.{lesser_way}
+use Rattle.metric_closure.proofs.TableLaws.{lower_more}
 use Rattle.lists.specs.Lists.{overwrite}
 use Rattle.metric_closure.proofs.row.lower_row.Statement.{statement}
 use Rattle.metric_closure.proofs.row.lower_row.Tie as tie
 
-abbrev invariant-loop : tie.invariant-loop
-invariant-loop row₀ line far n j₀ row j = (j ≤ length row₀) × (row ≡ overwrite j (lesserWay row₀ line far) row₀) × (length row ≡ length row₀)
+abbrev invariant_loop : tie.invariant_loop
+invariant_loop row₀ line far n j₀ row j = (j ≤ length row₀) × (row ≡ overwrite j (lesser_way row₀ line far) row₀) × (length row ≡ length row₀)
 
-abbrev decreases-loop : tie.decreases-loop
-decreases-loop row₀ line far n j₀ row j = length row₀ - j
+abbrev decreases_loop : tie.decreases_loop
+decreases_loop row₀ line far n j₀ row j = length row₀ - j
 
-loop-holds : tie.Need-loop-init invariant-loop decreases-loop
-loop-holds c = (omega arith, overwrite-none _ _, refl)
+loop_holds : tie.Need-loop-init invariant_loop decreases_loop
+loop_holds c = (omega arith, overwrite_none _ _, refl)
 
-add-lesser : tie.Need-overflow-add-lesser invariant-loop decreases-loop
-add-lesser c =
+add_lesser : tie.Need-overflow-add-lesser invariant_loop decreases_loop
+add_lesser c =
     let j = c.before.before.before.loop.j in
     omega (arith, c.before.before.before.before.before.before.requires.1.1.near j (omega arith))
 
-lesser-requires : tie.Need-lesser-requires invariant-loop decreases-loop
-lesser-requires c κs = tt
+lesser_requires : tie.Need-lesser-requires invariant_loop decreases_loop
+lesser_requires c κs = tt
 
-loop-again : tie.Need-loop-preserved invariant-loop decreases-loop
-loop-again c =
+loop_again : tie.Need-loop-preserved invariant_loop decreases_loop
+loop_again c =
     let inv = c.before.before.before.before.loop.invariant in (
       omega arith,
-      lower-more _ _ _ inv.1 c.lesser.ensures (omega arith),
+      lower_more _ _ _ inv.1 c.lesser.ensures (omega arith),
       simp length-set inv.2,
     )
 
-same_length : tie.Need-same-length invariant-loop decreases-loop
+same_length : tie.Need-same-length invariant_loop decreases_loop
 same_length c = c.before.loop.invariant.2
 
-returns : tie.Need-returns invariant-loop decreases-loop
-returns c = overwrite-done _ _ (omega arith) c.before.loop.invariant.1
+returns : tie.Need-returns invariant_loop decreases_loop
+returns c = overwrite_done _ _ (omega arith) c.before.loop.invariant.1
 
-pub lower-row-spec : {M : Type 1} → statement M
-lower-row-spec =
+pub lower_row_spec : {M : Type 1} → statement M
+lower_row_spec =
     tie.close
     (tie.spec
-    invariant-loop
-    decreases-loop
-    loop-holds
+    invariant_loop
+    decreases_loop
+    loop_holds
     (λ c. omega arith)
     (λ c. omega arith)
     (λ c. omega arith)
     (λ c. omega arith)
-    add-lesser
-    lesser-requires
+    add_lesser
+    lesser_requires
     (λ c. omega arith)
     (λ c. omega arith)
     (λ c. omega arith)
     (λ c. omega arith)
-    loop-again
+    loop_again
     same_length
     returns)

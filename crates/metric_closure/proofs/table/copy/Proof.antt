@@ -3,44 +3,44 @@ use Prim.Native.Nat.{◌≤◌, ◌-◌}
 use native.Mathlib.Omega.{arith}
 use mathlib.Core.Path.{◌≡◌, refl}
 use lib.ListN.{length, get_or, length-set}
-use Rattle.lists.proofs.Tables.{overwrite-none, overwrite-step, overwrite-done}
+use Rattle.lists.proofs.Tables.{overwrite_none, overwrite_step, overwrite_done}
 use Rattle.lists.specs.Lists.{overwrite}
 use Rattle.metric_closure.proofs.table.copy.Statement.{statement}
 use Rattle.metric_closure.proofs.table.copy.Tie as tie
 
-abbrev invariant-loop : tie.invariant-loop
-invariant-loop from to₀ n p₀ to p = (p ≤ length from) × (to ≡ overwrite p (λ p. get_or from p 0) to₀) × (length to ≡ length to₀)
+abbrev invariant_loop : tie.invariant_loop
+invariant_loop from to₀ n p₀ to p = (p ≤ length from) × (to ≡ overwrite p (λ p. get_or from p 0) to₀) × (length to ≡ length to₀)
 
-abbrev decreases-loop : tie.decreases-loop
-decreases-loop from to₀ n p₀ to p = length from - p
+abbrev decreases_loop : tie.decreases_loop
+decreases_loop from to₀ n p₀ to p = length from - p
 
-loop-holds : tie.Need-loop-init invariant-loop decreases-loop
-loop-holds c = (omega arith, overwrite-none _ _, refl)
+loop_holds : tie.Need-loop-init invariant_loop decreases_loop
+loop_holds c = (omega arith, overwrite_none _ _, refl)
 
-loop-again : tie.Need-loop-preserved invariant-loop decreases-loop
-loop-again c =
+loop_again : tie.Need-loop-preserved invariant_loop decreases_loop
+loop_again c =
     let inv = c.before.before.loop.invariant in
-    (omega arith, overwrite-step _ _ _ inv.1 refl (omega arith), simp length-set inv.2)
+    (omega arith, overwrite_step _ _ _ inv.1 refl (omega arith), simp length-set inv.2)
 
-same_length : tie.Need-same-length invariant-loop decreases-loop
+same_length : tie.Need-same-length invariant_loop decreases_loop
 same_length c = c.before.loop.invariant.2
 
-returns : tie.Need-returns invariant-loop decreases-loop
-returns c = overwrite-done _ _ (omega arith) c.before.loop.invariant.1
+returns : tie.Need-returns invariant_loop decreases_loop
+returns c = overwrite_done _ _ (omega arith) c.before.loop.invariant.1
 
 pub copy_spec : {M : Type 1} → statement M
 copy_spec =
     tie.close
     (tie.spec
-    invariant-loop
-    decreases-loop
-    loop-holds
+    invariant_loop
+    decreases_loop
+    loop_holds
     (λ c. omega arith)
     (λ c. omega arith)
     (λ c. omega arith)
     (λ c. omega arith)
     (λ c. omega arith)
     (λ c. omega arith)
-    loop-again
+    loop_again
     same_length
     returns)

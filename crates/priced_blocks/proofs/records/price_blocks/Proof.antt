@@ -1,18 +1,18 @@
 -- `priced_blocks::records::price_blocks` meets its contract: an instance of the walk that all calls with lent records share (blocking,
 -- LentRecords). Assumes nothing.
 use mathlib.Core.Path.{refl}
-use Rattle.priced_blocks.specs.Calls.{pricesBlocks, Billed}
+use Rattle.priced_blocks.specs.Calls.{prices_blocks, Billed}
 use Rattle.priced_blocks.specs.contracts.core.Priced as N
 use Rattle.priced_blocks.proofs.core.Priced.TheLaws as N'
 use Rattle.priced_blocks.specs.contracts.core.PricedRows as D
 use Rattle.priced_blocks.proofs.core.PricedRows.TheLaws as D'
-use Rattle.priced_blocks.proofs.core.price_core.Symbol as core-def
+use Rattle.priced_blocks.proofs.core.price_core.Symbol as core_def
 use Rattle.priced_blocks.proofs.core.price_core.Symbol.{name as #price-core}
-use Rattle.priced_blocks.proofs.core.price_core.Met as core-thm
+use Rattle.priced_blocks.proofs.core.price_core.Met as core_thm
 use Rattle.priced_blocks.specs.contracts.records.price_blocks.Key.{name as #price-blocks}
 use Rattle.priced_blocks.proofs.records.price_blocks.Statement as stated
 use Rattle.priced_blocks.proofs.records.price_blocks.Code as code
-use Rattle.blocking.proofs.LentRecords.{Handed, struct_type, lent-meets}
+use Rattle.blocking.proofs.LentRecords.{Handed, struct_type, lent_meets}
 
 abbrev handed : Handed
 handed = record {
@@ -26,8 +26,8 @@ handed = record {
   parted = λ r both. (both.0, both.1.0);
 }
 
-pub price-blocks-spec : {M : Type 1} → stated.statement M
+pub price_blocks_spec : {M : Type 1} → stated.statement M
 unfolding code.routine
-price-blocks-spec 𝓤 𝓛 𝓜 𝓡 =
-    lent-meets handed pricesBlocks Billed 𝓛 𝓜 𝓡 code.env #price-blocks #price-core (code.unfolded 𝓤 𝓛.H 𝓜 𝓡)
-    core-def.routine code.calls-priced-blocks::core::price-core (core-thm.met 𝓤 𝓛 𝓜 𝓡) code.calls-blocking::storing::put-records
+price_blocks_spec 𝓤 𝓛 𝓜 𝓡 =
+    lent_meets handed prices_blocks Billed 𝓛 𝓜 𝓡 code.env #price-blocks #price-core (code.unfolded 𝓤 𝓛.H 𝓜 𝓡)
+    core_def.routine code.calls-priced-blocks::core::price-core (core_thm.met 𝓤 𝓛 𝓜 𝓡) code.calls-blocking::storing::put-records

@@ -7,8 +7,8 @@ use Rattle.radius_search.proofs.bound.within_radius.Tie as tie
 returns : tie.Need-returns
 returns c = (rw (le-leb _ _ c.if1.true), omega arith)
 
-returns-2 : tie.Need-returns-2
-returns-2 c = (rw (lt-leb _ _ c.if1.false), omega arith)
+returns_2 : tie.Need-returns-2
+returns_2 c = (rw (lt-leb _ _ c.if1.false), omega arith)
 
-pub within-radius-spec : {M : Type 1} → statement M
-within-radius-spec = tie.close (tie.spec returns returns-2)
+pub within_radius_spec : {M : Type 1} → statement M
+within_radius_spec = tie.close (tie.spec returns returns_2)

@@ -8,11 +8,11 @@ use Rattle.radius_search.proofs.next.closer.Tie as tie
 returns : tie.Need-returns
 returns c = record { most = omega arith; least = λ y e l. absurd (omega arith); is = inl refl }
 
-returns-2 : tie.Need-returns-2
-returns-2 c = record { most = omega arith; least = λ y e l. omega arith; is = inr (refl, omega arith) }
+returns_2 : tie.Need-returns-2
+returns_2 c = record { most = omega arith; least = λ y e l. omega arith; is = inr (refl, omega arith) }
 
-returns-3 : tie.Need-returns-3
-returns-3 c = record { most = omega arith; least = λ y e l. omega arith; is = inl refl }
+returns_3 : tie.Need-returns-3
+returns_3 c = record { most = omega arith; least = λ y e l. omega arith; is = inl refl }
 
-pub closer-spec : {M : Type 1} → statement M
-closer-spec = tie.close (tie.spec returns returns-2 returns-3)
+pub closer_spec : {M : Type 1} → statement M
+closer_spec = tie.close (tie.spec returns returns_2 returns_3)

@@ -4,7 +4,7 @@ use native.Mathlib.Omega.{arith}
 use lib.ListN.{length}
 use Rattle.sheet_text.specs.Text.{ascii}
 use Rattle.sheet_text.specs.Lines.{named}
-use Rattle.sheet_text.proofs.LineLaws.{named-short, closing-put}
+use Rattle.sheet_text.proofs.LineLaws.{named_short, closing_put}
 use borrow.Author.Rules.{rules}
 use Rattle.sheet_text.proofs.lines.put_closing.Statement.{statement}
 use Rattle.sheet_text.proofs.lines.put_closing.Tie as tie
@@ -27,8 +27,8 @@ short : (s : tie.Start) → length (named (ascii "reach ") s.args.radius 32) + l
 short s =
     omega (
       arith,
-      named-short (ascii "reach ") s.args.radius 32 (omega arith),
-      named-short (ascii "widest ") s.args.widest 32 (omega arith),
+      named_short (ascii "reach ") s.args.radius 32 (omega arith),
+      named_short (ascii "widest ") s.args.widest 32 (omega arith),
     )
 
 returns : tie.Need-returns
@@ -40,11 +40,11 @@ returns c =
     let widest = (second (third counts)).put-named2.ensures in
     let word = (third counts).put-bytes.ensures in
     let p =
-    closing-put s.args.radius s.args.widest s.args.withdrawn radius widest word counts.put-counts.ensures.1 last.put_byte.ensures in
+    closing_put s.args.radius s.args.widest s.args.withdrawn radius widest word counts.put-counts.ensures.1 last.put_byte.ensures in
     (omega (arith, short s, radius.ends, widest.ends, word.ends, counts.put-counts.ensures.0, last.put_byte.ensures.ends), p)
 
-pub put-closing-spec : {M : Type 1} → statement M
-put-closing-spec =
+pub put_closing_spec : {M : Type 1} → statement M
+put_closing_spec =
     tie.close
     (tie.spec
     (λ c. search rules)

@@ -9,8 +9,8 @@ use Rattle.study.proofs.refusals.numbered.Tie as tie
 told : {x why : Refusal} → x ≡ why → numbered why ≡ numbered x
 told e = sym (ap numbered e)
 
-pub numbered-spec : {M : Type 1} → statement M
-numbered-spec =
+pub numbered_spec : {M : Type 1} → statement M
+numbered_spec =
     tie.close
     (tie.spec
     (λ c. search rules)

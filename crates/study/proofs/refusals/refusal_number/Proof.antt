@@ -4,8 +4,8 @@ use native.Mathlib.Omega.{arith}
 use mathlib.Core.Path.{sym, ap, ◌∙◌}
 use Rattle.study.specs.declared.Refusal.{Refusal}
 use Rattle.study.specs.declared.Refusal.TheVariants as RefusalCase
-use Rattle.study.specs.Refusals.{numbered, verdictOf}
-use Rattle.study.specs.Numbers.{number_of, refusalNumber}
+use Rattle.study.specs.Refusals.{numbered, verdict_of}
+use Rattle.study.specs.Numbers.{number_of, refusal_number}
 use borrow.Author.Rules.{rules}
 use Rattle.study.proofs.refusals.refusal_number.Statement.{statement}
 use Rattle.study.proofs.refusals.refusal_number.Tie as tie
@@ -35,13 +35,13 @@ small RefusalCase.NoTides = omega arith
 small RefusalCase.TooFewTides = omega arith
 small RefusalCase.WithdrawalLimit = omega arith
 
-cast-result : tie.Need-overflow-cast-result
-cast-result c = omega (arith, c.number-of.ensures, small c.before.before.answer.given.0.0)
+cast_result : tie.Need-overflow-cast-result
+cast_result c = omega (arith, c.number_of.ensures, small c.before.before.answer.given.0.0)
 
-returns-2 : tie.Need-returns-2
-returns-2 c = c.number-of.ensures ∙ sym (ap (λ a. refusalNumber (verdictOf a)) c.before.before.answer.given.1)
+returns_2 : tie.Need-returns-2
+returns_2 c = c.number_of.ensures ∙ sym (ap (λ a. refusal_number (verdict_of a)) c.before.before.answer.given.1)
 
-pub refusal-number-spec : {M : Type 1} → statement M
-refusal-number-spec =
+pub refusal_number_spec : {M : Type 1} → statement M
+refusal_number_spec =
     tie.close
-    (tie.spec (λ c. search rules) (λ c. search rules) (λ c κs. search rules) cast-result (λ c. search rules) returns-2)
+    (tie.spec (λ c. search rules) (λ c. search rules) (λ c κs. search rules) cast_result (λ c. search rules) returns_2)

@@ -1,6 +1,6 @@
 -- `minima_of` meets its contract: place by place. Assumes nothing.
-use Rattle.narrowing.specs.Narrowing.{narrowMinima}
-use Rattle.study_text.specs.Packing.{minimaFrom}
+use Rattle.narrowing.specs.Narrowing.{narrow_minima}
+use Rattle.study_text.specs.Packing.{minima_from}
 use Rattle.lists.specs.Lists.{tabulate}
 use mathlib.Core.List.{[], ◌∷◌}
 use borrow.Author.Rules.{rules}
@@ -8,7 +8,7 @@ use Rattle.study_text.proofs.calls.minima_of.Statement.{statement}
 use Rattle.study_text.proofs.calls.minima_of.Tie as tie
 
 returns : tie.Need-returns
-unfolding narrowMinima minimaFrom tabulate
+unfolding narrow_minima minima_from tabulate
 returns c =
     let k = c.before.before.before.before in
     λ i. record {
@@ -18,8 +18,8 @@ returns c =
           ∷ c.before.narrow8.ensures i ∷ [];
     }
 
-pub minima-of-spec : {M : Type 1} → statement M
-minima-of-spec =
+pub minima_of_spec : {M : Type 1} → statement M
+minima_of_spec =
     tie.close
     (tie.spec
     (λ c. search rules)

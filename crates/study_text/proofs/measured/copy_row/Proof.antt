@@ -10,18 +10,18 @@ use Rattle.study_text.proofs.MeasuredLaws.{row_copied}
 use Rattle.study_text.proofs.measured.copy_row.Statement.{statement}
 use Rattle.study_text.proofs.measured.copy_row.Tie as tie
 
-abbrev invariant-loop : tie.invariant-loop
-invariant-loop places₀ row i₀ places i = Filled (length row) (at row) places₀ places i
+abbrev invariant_loop : tie.invariant_loop
+invariant_loop places₀ row i₀ places i = Filled (length row) (at row) places₀ places i
 
-abbrev decreases-loop : tie.decreases-loop
-decreases-loop places₀ row i₀ places i = length row - i
+abbrev decreases_loop : tie.decreases_loop
+decreases_loop places₀ row i₀ places i = length row - i
 
-pub copy-row-spec : {M : Type 1} → statement M
-copy-row-spec =
+pub copy_row_spec : {M : Type 1} → statement M
+copy_row_spec =
     tie.close
     (tie.spec
-    invariant-loop
-    decreases-loop
+    invariant_loop
+    decreases_loop
     (λ c. filled_none)
     (λ c. omega arith)
     (λ c. omega arith)

@@ -5,8 +5,8 @@ use borrow.Author.Rules.{rules}
 use Rattle.study_text.proofs.numbers.number.Statement.{statement}
 use Rattle.study_text.proofs.numbers.number.Tie as tie
 
-pub number-spec : {M : Type 1} → statement M
-number-spec =
+pub number_spec : {M : Type 1} → statement M
+number_spec =
     tie.close
     (tie.spec
     (λ c κs. search rules)

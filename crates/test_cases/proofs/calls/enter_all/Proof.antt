@@ -7,24 +7,24 @@ use borrow.Author.Rules.{rules}
 use Rattle.test_cases.proofs.calls.enter_all.Statement.{statement}
 use Rattle.test_cases.proofs.calls.enter_all.Tie as tie
 
-abbrev invariant-loop : tie.invariant-loop
-invariant-loop distances₀ settings₀ row next₀ n₀ distances settings next n =
+abbrev invariant_loop : tie.invariant_loop
+invariant_loop distances₀ settings₀ row next₀ n₀ distances settings next n =
     (n ≤ length row) × (length distances ≡ length distances₀) × (length settings ≡ length settings₀)
 
-abbrev decreases-loop : tie.decreases-loop
-decreases-loop distances₀ settings₀ row next₀ n₀ distances settings next n = length row - n
+abbrev decreases_loop : tie.decreases_loop
+decreases_loop distances₀ settings₀ row next₀ n₀ distances settings next n = length row - n
 
-slice-aggregate-entered : tie.Need-slice-aggregate-entered invariant-loop decreases-loop
-slice-aggregate-entered c = sym (length-take-le _ _ (omega arith))
+slice_aggregate_entered : tie.Need-slice-aggregate-entered invariant_loop decreases_loop
+slice_aggregate_entered c = sym (length-take-le _ _ (omega arith))
 
-pub enter-all-spec : {M : Type 1} → statement M
-enter-all-spec =
+pub enter_all_spec : {M : Type 1} → statement M
+enter_all_spec =
     tie.close
     (tie.spec
-    invariant-loop
-    decreases-loop
+    invariant_loop
+    decreases_loop
     (λ c. search rules)
-    slice-aggregate-entered
+    slice_aggregate_entered
     (λ c κs. search rules)
     (λ c. search rules)
     (λ c. search rules)

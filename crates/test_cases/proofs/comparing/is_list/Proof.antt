@@ -5,18 +5,18 @@ use borrow.Author.Rules.{rules}
 use Rattle.test_cases.proofs.comparing.is_list.Statement.{statement}
 use Rattle.test_cases.proofs.comparing.is_list.Tie as tie
 
-abbrev invariant-loop : tie.invariant-loop
-invariant-loop n given list expected₀ t₀ expected t = (t ≤ n) × (length expected ≡ 9)
+abbrev invariant_loop : tie.invariant_loop
+invariant_loop n given list expected₀ t₀ expected t = (t ≤ n) × (length expected ≡ 9)
 
-abbrev decreases-loop : tie.decreases-loop
-decreases-loop n given list expected₀ t₀ expected t = n - t
+abbrev decreases_loop : tie.decreases_loop
+decreases_loop n given list expected₀ t₀ expected t = n - t
 
-pub is-list-spec : {M : Type 1} → statement M
-is-list-spec =
+pub is_list_spec : {M : Type 1} → statement M
+is_list_spec =
     tie.close
     (tie.spec
-    invariant-loop
-    decreases-loop
+    invariant_loop
+    decreases_loop
     (λ c. search rules)
     (λ c. search rules)
     (λ c. search rules)

@@ -4,18 +4,18 @@ use Rattle.core.specs.Prelude.{◌-◌, ◌≤◌}
 use Rattle.test_cases.proofs.comparing.right_records.Statement.{statement}
 use Rattle.test_cases.proofs.comparing.right_records.Tie as tie
 
-abbrev invariant-loop : tie.invariant-loop
-invariant-loop small list centres records m₀ m = m ≤ 120
+abbrev invariant_loop : tie.invariant_loop
+invariant_loop small list centres records m₀ m = m ≤ 120
 
-abbrev decreases-loop : tie.decreases-loop
-decreases-loop small list centres records m₀ m = 120 - m
+abbrev decreases_loop : tie.decreases_loop
+decreases_loop small list centres records m₀ m = 120 - m
 
-pub right-records-spec : {M : Type 1} → statement M
-right-records-spec =
+pub right_records_spec : {M : Type 1} → statement M
+right_records_spec =
     tie.close
     (tie.spec
-    invariant-loop
-    decreases-loop
+    invariant_loop
+    decreases_loop
     (λ c. search rules)
     (λ c. search rules)
     (λ c. search rules)

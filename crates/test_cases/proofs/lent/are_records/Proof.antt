@@ -4,18 +4,18 @@ use Rattle.core.specs.Prelude.{◌-◌, ◌≤◌}
 use Rattle.test_cases.proofs.lent.are_records.Statement.{statement}
 use Rattle.test_cases.proofs.lent.are_records.Tie as tie
 
-abbrev invariant-loop : tie.invariant-loop
-invariant-loop records expected m₀ m = m ≤ 6
+abbrev invariant_loop : tie.invariant_loop
+invariant_loop records expected m₀ m = m ≤ 6
 
-abbrev decreases-loop : tie.decreases-loop
-decreases-loop records expected m₀ m = 6 - m
+abbrev decreases_loop : tie.decreases_loop
+decreases_loop records expected m₀ m = 6 - m
 
-pub are-records-spec : {M : Type 1} → statement M
-are-records-spec =
+pub are_records_spec : {M : Type 1} → statement M
+are_records_spec =
     tie.close
     (tie.spec
-    invariant-loop
-    decreases-loop
+    invariant_loop
+    decreases_loop
     (λ c. search rules)
     (λ c. search rules)
     (λ c. search rules)

@@ -5,14 +5,14 @@ use Rattle.study.specs.contracts.Blocked as N
 use Rattle.study.proofs.Blocked.TheLaws as N'
 use Rattle.blocking.proofs.LentRecords.{enum_type}
 use Rattle.blocking.specs.contracts.records.block as block
-use Rattle.blocking.proofs.records.block.Symbol as block-def
-use Rattle.blocking.proofs.records.block.Met as block-thm
+use Rattle.blocking.proofs.records.block.Symbol as block_def
+use Rattle.blocking.proofs.records.block.Met as block_thm
 use Rattle.test_cases.specs.contracts.lent.LentBlocks as D
 use Rattle.test_cases.proofs.lent.LentBlocks.TheLaws as D'
 use Rattle.test_cases.specs.contracts.lent.lend_block.Key.{name as #lend-block}
 use Rattle.test_cases.proofs.lent.lend_block.Statement.{statement}
 use Rattle.test_cases.proofs.lent.lend_block.Code as code
-use Rattle.test_cases.proofs.SixLent.{Returned, array-into, six-lent}
+use Rattle.test_cases.proofs.SixLent.{Returned, array_into, six_lent}
 
 abbrev result : Returned
 result = record {
@@ -22,12 +22,12 @@ result = record {
   facts = D'.the_plain;
   returned = λ r ws. record { answer = r; records = ws };
   laid = refl;
-  is_made = λ r ws u m is is'. ((u ∷ [], (m ∷ [], tt)), (refl, (is, (array-into 6 ws (m ∷ []) is', tt))));
+  is_made = λ r ws u m is is'. ((u ∷ [], (m ∷ [], tt)), (refl, (is, (array_into 6 ws (m ∷ []) is', tt))));
 }
 
-pub lend-block-spec : {M : Type 1} → statement M
+pub lend_block_spec : {M : Type 1} → statement M
 unfolding code.routine
-lend-block-spec 𝓤 𝓛 𝓜 𝓡 =
-    six-lent result 𝓛 𝓜 𝓡 code.env #lend-block block-def.name (code.unfolded 𝓤 𝓛.H 𝓜 𝓡)
+lend_block_spec 𝓤 𝓛 𝓜 𝓡 =
+    six_lent result 𝓛 𝓜 𝓡 code.env #lend-block block_def.name (code.unfolded 𝓤 𝓛.H 𝓜 𝓡)
     (λ κs a. (block.clauses 𝓛 𝓜.mem 𝓡.run κs a).ensures)
-    block-def.routine code.calls-blocking::records::block (block-thm.met 𝓤 𝓛 𝓜 𝓡)
+    block_def.routine code.calls-blocking::records::block (block_thm.met 𝓤 𝓛 𝓜 𝓡)

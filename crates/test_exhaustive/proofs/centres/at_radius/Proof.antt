@@ -4,18 +4,18 @@ use Prim.Native.Nat.{◌≤◌, ◌-◌}
 use Rattle.test_exhaustive.proofs.centres.at_radius.Statement.{statement}
 use Rattle.test_exhaustive.proofs.centres.at_radius.Tie as tie
 
-abbrev invariant-loop : tie.invariant-loop
-invariant-loop small g n found₀ t₀ found t = t ≤ n
+abbrev invariant_loop : tie.invariant_loop
+invariant_loop small g n found₀ t₀ found t = t ≤ n
 
-abbrev decreases-loop : tie.decreases-loop
-decreases-loop small g n found₀ t₀ found t = n - t
+abbrev decreases_loop : tie.decreases_loop
+decreases_loop small g n found₀ t₀ found t = n - t
 
-pub at-radius-spec : {M : Type 1} → statement M
-at-radius-spec =
+pub at_radius_spec : {M : Type 1} → statement M
+at_radius_spec =
     tie.close
     (tie.spec
-    invariant-loop
-    decreases-loop
+    invariant_loop
+    decreases_loop
     (λ c. search rules)
     (λ c κs. search rules)
     (λ c. search rules)

@@ -4,18 +4,18 @@ use Prim.Native.Nat.{◌≤◌, ◌-◌}
 use Rattle.test_exhaustive.proofs.exhaustive.all_meet.Statement.{statement}
 use Rattle.test_exhaustive.proofs.exhaustive.all_meet.Tie as tie
 
-abbrev invariant-loop : tie.invariant-loop
-invariant-loop small list last m₀ m = m ≤ last
+abbrev invariant_loop : tie.invariant_loop
+invariant_loop small list last m₀ m = m ≤ last
 
-abbrev decreases-loop : tie.decreases-loop
-decreases-loop small list last m₀ m = last - m
+abbrev decreases_loop : tie.decreases_loop
+decreases_loop small list last m₀ m = last - m
 
-pub all-meet-spec : {M : Type 1} → statement M
-all-meet-spec =
+pub all_meet_spec : {M : Type 1} → statement M
+all_meet_spec =
     tie.close
     (tie.spec
-    invariant-loop
-    decreases-loop
+    invariant_loop
+    decreases_loop
     (λ c. search rules)
     (λ c. search rules)
     (λ c κs. search rules)

@@ -4,18 +4,18 @@ use Prim.Native.Nat.{◌≤◌, ◌-◌}
 use Rattle.test_exhaustive.proofs.exhaustive.first_far.Statement.{statement}
 use Rattle.test_exhaustive.proofs.exhaustive.first_far.Tie as tie
 
-abbrev invariant-loop : tie.invariant-loop
-invariant-loop small g centres list n t₀ t = t ≤ n
+abbrev invariant_loop : tie.invariant_loop
+invariant_loop small g centres list n t₀ t = t ≤ n
 
-abbrev decreases-loop : tie.decreases-loop
-decreases-loop small g centres list n t₀ t = n - t
+abbrev decreases_loop : tie.decreases_loop
+decreases_loop small g centres list n t₀ t = n - t
 
-pub first-far-spec : {M : Type 1} → statement M
-first-far-spec =
+pub first_far_spec : {M : Type 1} → statement M
+first_far_spec =
     tie.close
     (tie.spec
-    invariant-loop
-    decreases-loop
+    invariant_loop
+    decreases_loop
     (λ c. search rules)
     (λ c κs. search rules)
     (λ c κs. search rules)

@@ -4,18 +4,18 @@ use Prim.Native.Nat.{◌≤◌, ◌-◌}
 use Rattle.test_exhaustive.proofs.exhaustive.gap_above.Statement.{statement}
 use Rattle.test_exhaustive.proofs.exhaustive.gap_above.Tie as tie
 
-abbrev invariant-loop : tie.invariant-loop
-invariant-loop small g radius₀ turn₀ radius turn = turn ≤ 22
+abbrev invariant_loop : tie.invariant_loop
+invariant_loop small g radius₀ turn₀ radius turn = turn ≤ 22
 
-abbrev decreases-loop : tie.decreases-loop
-decreases-loop small g radius₀ turn₀ radius turn = 22 - turn
+abbrev decreases_loop : tie.decreases_loop
+decreases_loop small g radius₀ turn₀ radius turn = 22 - turn
 
-pub gap-above-spec : {M : Type 1} → statement M
-gap-above-spec =
+pub gap_above_spec : {M : Type 1} → statement M
+gap_above_spec =
     tie.close
     (tie.spec
-    invariant-loop
-    decreases-loop
+    invariant_loop
+    decreases_loop
     (λ c κs. search rules)
     (λ c. search rules)
     (λ c. search rules)

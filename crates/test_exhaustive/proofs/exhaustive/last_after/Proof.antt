@@ -4,13 +4,13 @@ use Prim.Native.Nat.{◌≤◌}
 use Rattle.test_exhaustive.proofs.exhaustive.last_after.Statement.{statement}
 use Rattle.test_exhaustive.proofs.exhaustive.last_after.Tie as tie
 
-abbrev invariant-loop : tie.invariant-loop
-invariant-loop t last next₀ i₀ next i = i ≤ 6
+abbrev invariant_loop : tie.invariant_loop
+invariant_loop t last next₀ i₀ next i = i ≤ 6
 
-abbrev decreases-loop : tie.decreases-loop
-decreases-loop t last next₀ i₀ next i = i
+abbrev decreases_loop : tie.decreases_loop
+decreases_loop t last next₀ i₀ next i = i
 
-pub last-after-spec : {M : Type 1} → statement M
-last-after-spec =
+pub last_after_spec : {M : Type 1} → statement M
+last_after_spec =
     tie.close
-    (tie.spec invariant-loop decreases-loop (λ c. search rules) (λ c. search rules) (λ c. search rules) (λ c. search rules) (λ c. search rules) (λ c. search rules))
+    (tie.spec invariant_loop decreases_loop (λ c. search rules) (λ c. search rules) (λ c. search rules) (λ c. search rules) (λ c. search rules) (λ c. search rules))

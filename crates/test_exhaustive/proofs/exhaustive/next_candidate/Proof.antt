@@ -4,13 +4,13 @@ use Prim.Native.Nat.{◌≤◌, ◌-◌}
 use Rattle.test_exhaustive.proofs.exhaustive.next_candidate.Statement.{statement}
 use Rattle.test_exhaustive.proofs.exhaustive.next_candidate.Tie as tie
 
-abbrev invariant-loop : tie.invariant-loop
-invariant-loop small g least₀ p₀ least p = p ≤ 49
+abbrev invariant_loop : tie.invariant_loop
+invariant_loop small g least₀ p₀ least p = p ≤ 49
 
-abbrev decreases-loop : tie.decreases-loop
-decreases-loop small g least₀ p₀ least p = 49 - p
+abbrev decreases_loop : tie.decreases_loop
+decreases_loop small g least₀ p₀ least p = 49 - p
 
-pub next-candidate-spec : {M : Type 1} → statement M
-next-candidate-spec =
+pub next_candidate_spec : {M : Type 1} → statement M
+next_candidate_spec =
     tie.close
-    (tie.spec invariant-loop decreases-loop (λ c. search rules) (λ c κs. search rules) (λ c. search rules) (λ c. search rules) (λ c. search rules) (λ c. search rules))
+    (tie.spec invariant_loop decreases_loop (λ c. search rules) (λ c κs. search rules) (λ c. search rules) (λ c. search rules) (λ c. search rules) (λ c. search rules))

@@ -4,18 +4,18 @@ use Prim.Native.Nat.{◌≤◌}
 use Rattle.test_exhaustive.proofs.exhaustive.next_list.Statement.{statement}
 use Rattle.test_exhaustive.proofs.exhaustive.next_list.Tie as tie
 
-abbrev invariant-loop : tie.invariant-loop
-invariant-loop n last next₀ i₀ next i = i ≤ 7
+abbrev invariant_loop : tie.invariant_loop
+invariant_loop n last next₀ i₀ next i = i ≤ 7
 
-abbrev decreases-loop : tie.decreases-loop
-decreases-loop n last next₀ i₀ next i = i
+abbrev decreases_loop : tie.decreases_loop
+decreases_loop n last next₀ i₀ next i = i
 
-pub next-list-spec : {M : Type 1} → statement M
-next-list-spec =
+pub next_list_spec : {M : Type 1} → statement M
+next_list_spec =
     tie.close
     (tie.spec
-    invariant-loop
-    decreases-loop
+    invariant_loop
+    decreases_loop
     (λ c. search rules)
     (λ c. search rules)
     (λ c. search rules)

@@ -4,13 +4,13 @@ use Prim.Native.Nat.{◌≤◌, ◌-◌}
 use Rattle.test_exhaustive.proofs.partitions.diameter.Statement.{statement}
 use Rattle.test_exhaustive.proofs.partitions.diameter.Tie as tie
 
-abbrev invariant-loop : tie.invariant-loop
-invariant-loop small list block greatest₀ p₀ greatest p = p ≤ 49
+abbrev invariant_loop : tie.invariant_loop
+invariant_loop small list block greatest₀ p₀ greatest p = p ≤ 49
 
-abbrev decreases-loop : tie.decreases-loop
-decreases-loop small list block greatest₀ p₀ greatest p = 49 - p
+abbrev decreases_loop : tie.decreases_loop
+decreases_loop small list block greatest₀ p₀ greatest p = 49 - p
 
-pub diameter-spec : {M : Type 1} → statement M
-diameter-spec =
+pub diameter_spec : {M : Type 1} → statement M
+diameter_spec =
     tie.close
-    (tie.spec invariant-loop decreases-loop (λ c. search rules) (λ c κs. search rules) (λ c. search rules) (λ c. search rules) (λ c. search rules) (λ c. search rules))
+    (tie.spec invariant_loop decreases_loop (λ c. search rules) (λ c κs. search rules) (λ c. search rules) (λ c. search rules) (λ c. search rules) (λ c. search rules))

@@ -4,18 +4,18 @@ use Prim.Native.Nat.{◌≤◌, ◌-◌}
 use Rattle.test_exhaustive.proofs.partitions.meets.Statement.{statement}
 use Rattle.test_exhaustive.proofs.partitions.meets.Tie as tie
 
-abbrev invariant-loop : tie.invariant-loop
-invariant-loop small list block j₀ j = j ≤ 8
+abbrev invariant_loop : tie.invariant_loop
+invariant_loop small list block j₀ j = j ≤ 8
 
-abbrev decreases-loop : tie.decreases-loop
-decreases-loop small list block j₀ j = 8 - j
+abbrev decreases_loop : tie.decreases_loop
+decreases_loop small list block j₀ j = 8 - j
 
-pub meets-spec : {M : Type 1} → statement M
-meets-spec =
+pub meets_spec : {M : Type 1} → statement M
+meets_spec =
     tie.close
     (tie.spec
-    invariant-loop
-    decreases-loop
+    invariant_loop
+    decreases_loop
     (λ c κs. search rules)
     (λ c κs. search rules)
     (λ c. search rules)

@@ -4,18 +4,18 @@ use Prim.Native.Nat.{◌≤◌, ◌-◌}
 use Rattle.test_exhaustive.proofs.small.table.Statement.{statement}
 use Rattle.test_exhaustive.proofs.small.table.Tie as tie
 
-abbrev invariant-loop : tie.invariant-loop
-invariant-loop x y distances₀ p₀ distances p = p ≤ 49
+abbrev invariant_loop : tie.invariant_loop
+invariant_loop x y distances₀ p₀ distances p = p ≤ 49
 
-abbrev decreases-loop : tie.decreases-loop
-decreases-loop x y distances₀ p₀ distances p = 49 - p
+abbrev decreases_loop : tie.decreases_loop
+decreases_loop x y distances₀ p₀ distances p = 49 - p
 
-pub table-spec : {M : Type 1} → statement M
-table-spec =
+pub table_spec : {M : Type 1} → statement M
+table_spec =
     tie.close
     (tie.spec
-    invariant-loop
-    decreases-loop
+    invariant_loop
+    decreases_loop
     (λ c. search rules)
     (λ c κs. search rules)
     (λ c κs. search rules)

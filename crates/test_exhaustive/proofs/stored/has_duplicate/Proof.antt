@@ -4,18 +4,18 @@ use Prim.Native.Nat.{◌≤◌, ◌-◌}
 use Rattle.test_exhaustive.proofs.stored.has_duplicate.Statement.{statement}
 use Rattle.test_exhaustive.proofs.stored.has_duplicate.Tie as tie
 
-abbrev invariant-loop : tie.invariant-loop
-invariant-loop small p₀ p = p ≤ 49
+abbrev invariant_loop : tie.invariant_loop
+invariant_loop small p₀ p = p ≤ 49
 
-abbrev decreases-loop : tie.decreases-loop
-decreases-loop small p₀ p = 49 - p
+abbrev decreases_loop : tie.decreases_loop
+decreases_loop small p₀ p = 49 - p
 
-pub has-duplicate-spec : {M : Type 1} → statement M
-has-duplicate-spec =
+pub has_duplicate_spec : {M : Type 1} → statement M
+has_duplicate_spec =
     tie.close
     (tie.spec
-    invariant-loop
-    decreases-loop
+    invariant_loop
+    decreases_loop
     (λ c. search rules)
     (λ c κs. search rules)
     (λ c. search rules)

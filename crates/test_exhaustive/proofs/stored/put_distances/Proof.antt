@@ -6,18 +6,18 @@ use Prim.Native.Nat.{◌≤◌, ◌-◌}
 use Rattle.test_exhaustive.proofs.stored.put_distances.Statement.{statement}
 use Rattle.test_exhaustive.proofs.stored.put_distances.Tie as tie
 
-abbrev invariant-loop : tie.invariant-loop
-invariant-loop small distances₀ p₀ distances p = (p ≤ 49) × (length distances ≡ length distances₀)
+abbrev invariant_loop : tie.invariant_loop
+invariant_loop small distances₀ p₀ distances p = (p ≤ 49) × (length distances ≡ length distances₀)
 
-abbrev decreases-loop : tie.decreases-loop
-decreases-loop small distances₀ p₀ distances p = 49 - p
+abbrev decreases_loop : tie.decreases_loop
+decreases_loop small distances₀ p₀ distances p = 49 - p
 
-pub put-distances-spec : {M : Type 1} → statement M
-put-distances-spec =
+pub put_distances_spec : {M : Type 1} → statement M
+put_distances_spec =
     tie.close
     (tie.spec
-    invariant-loop
-    decreases-loop
+    invariant_loop
+    decreases_loop
     (λ c. search rules)
     (λ c κs. search rules)
     (λ c. search rules)

@@ -6,18 +6,18 @@ use Prim.Native.Nat.{◌≤◌, ◌-◌}
 use Rattle.test_exhaustive.proofs.stored.put_settings.Statement.{statement}
 use Rattle.test_exhaustive.proofs.stored.put_settings.Tie as tie
 
-abbrev invariant-loop : tie.invariant-loop
-invariant-loop settings₀ kinds n t₀ settings t = (t ≤ n) × (length settings ≡ length settings₀)
+abbrev invariant_loop : tie.invariant_loop
+invariant_loop settings₀ kinds n t₀ settings t = (t ≤ n) × (length settings ≡ length settings₀)
 
-abbrev decreases-loop : tie.decreases-loop
-decreases-loop settings₀ kinds n t₀ settings t = n - t
+abbrev decreases_loop : tie.decreases_loop
+decreases_loop settings₀ kinds n t₀ settings t = n - t
 
-pub put-settings-spec : {M : Type 1} → statement M
-put-settings-spec =
+pub put_settings_spec : {M : Type 1} → statement M
+put_settings_spec =
     tie.close
     (tie.spec
-    invariant-loop
-    decreases-loop
+    invariant_loop
+    decreases_loop
     (λ c. search rules)
     (λ c κs. search rules)
     (λ c. search rules)

@@ -3,18 +3,18 @@ use Rattle.std.proofs.Common.{◌-◌, ◌≤◌, arith}
 use Rattle.test_search.proofs.plain.exists.Statement.{statement}
 use Rattle.test_search.proofs.plain.exists.Tie as tie
 
-abbrev invariant-loop : tie.invariant-loop
-invariant-loop q settings allowed list₀ tried₀ list tried = tried ≤ 729
+abbrev invariant_loop : tie.invariant_loop
+invariant_loop q settings allowed list₀ tried₀ list tried = tried ≤ 729
 
-abbrev decreases-loop : tie.decreases-loop
-decreases-loop q settings allowed list₀ tried₀ list tried = 729 - tried
+abbrev decreases_loop : tie.decreases_loop
+decreases_loop q settings allowed list₀ tried₀ list tried = 729 - tried
 
-pub exists-spec : {M : Type 1} → statement M
-exists-spec =
+pub exists_spec : {M : Type 1} → statement M
+exists_spec =
     tie.close
     (tie.spec
-    invariant-loop
-    decreases-loop
+    invariant_loop
+    decreases_loop
     (λ c. omega arith)
     (λ c κs. omega arith)
     (λ c. omega arith)

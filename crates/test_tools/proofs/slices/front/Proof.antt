@@ -6,8 +6,8 @@ use borrow.Author.Rules.{rules}
 use Rattle.test_tools.proofs.slices.front.Statement.{statement}
 use Rattle.test_tools.proofs.slices.front.Tie as tie
 
-slice-aggregate-result : tie.Need-slice-aggregate-result
-slice-aggregate-result c = sym (length-take-le _ _ (omega arith))
+slice_aggregate_result : tie.Need-slice-aggregate-result
+slice_aggregate_result c = sym (length-take-le _ _ (omega arith))
 
-pub front-spec : {M : Type 1} → statement M
-front-spec = tie.close (tie.spec slice-aggregate-result (λ c. search rules) (λ c. search rules))
+pub front_spec : {M : Type 1} → statement M
+front_spec = tie.close (tie.spec slice_aggregate_result (λ c. search rules) (λ c. search rules))

@@ -6,8 +6,8 @@ use borrow.Author.Rules.{rules}
 use Rattle.test_tools.proofs.slices.front_row.Statement.{statement}
 use Rattle.test_tools.proofs.slices.front_row.Tie as tie
 
-slice-aggregate-result : tie.Need-slice-aggregate-result
-slice-aggregate-result c = sym (length-take-le _ _ (omega arith))
+slice_aggregate_result : tie.Need-slice-aggregate-result
+slice_aggregate_result c = sym (length-take-le _ _ (omega arith))
 
-pub front-row-spec : {M : Type 1} → statement M
-front-row-spec = tie.close (tie.spec slice-aggregate-result (λ c. search rules) (λ c. search rules))
+pub front_row_spec : {M : Type 1} → statement M
+front_row_spec = tie.close (tie.spec slice_aggregate_result (λ c. search rules) (λ c. search rules))

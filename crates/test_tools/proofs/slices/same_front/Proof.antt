@@ -5,18 +5,18 @@ use Prim.Native.Nat.{◌≤◌, ◌-◌}
 use Rattle.test_tools.proofs.slices.same_front.Statement.{statement}
 use Rattle.test_tools.proofs.slices.same_front.Tie as tie
 
-abbrev invariant-loop : tie.invariant-loop
-invariant-loop a b i₀ i = i ≤ length a
+abbrev invariant_loop : tie.invariant_loop
+invariant_loop a b i₀ i = i ≤ length a
 
-abbrev decreases-loop : tie.decreases-loop
-decreases-loop a b i₀ i = length a - i
+abbrev decreases_loop : tie.decreases_loop
+decreases_loop a b i₀ i = length a - i
 
-pub same-front-spec : {M : Type 1} → statement M
-same-front-spec =
+pub same_front_spec : {M : Type 1} → statement M
+same_front_spec =
     tie.close
     (tie.spec
-    invariant-loop
-    decreases-loop
+    invariant_loop
+    decreases_loop
     (λ c. search rules)
     (λ c. search rules)
     (λ c. search rules)

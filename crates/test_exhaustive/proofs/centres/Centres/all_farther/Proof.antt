@@ -4,18 +4,18 @@ use Prim.Native.Nat.{◌≤◌, ◌-◌}
 use Rattle.test_exhaustive.proofs.centres.Centres.all_farther.Statement.{statement}
 use Rattle.test_exhaustive.proofs.centres.Centres.all_farther.Tie as tie
 
-abbrev invariant-loop : tie.invariant-loop
-invariant-loop self small g t count m₀ m = m ≤ count
+abbrev invariant_loop : tie.invariant_loop
+invariant_loop self small g t count m₀ m = m ≤ count
 
-abbrev decreases-loop : tie.decreases-loop
-decreases-loop self small g t count m₀ m = count - m
+abbrev decreases_loop : tie.decreases_loop
+decreases_loop self small g t count m₀ m = count - m
 
-pub all-farther-spec : {M : Type 1} → statement M
-all-farther-spec =
+pub all_farther_spec : {M : Type 1} → statement M
+all_farther_spec =
     tie.close
     (tie.spec
-    invariant-loop
-    decreases-loop
+    invariant_loop
+    decreases_loop
     (λ c. search rules)
     (λ c. search rules)
     (λ c κs. search rules)

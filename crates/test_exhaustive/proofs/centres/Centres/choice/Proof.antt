@@ -4,18 +4,18 @@ use Prim.Native.Nat.{◌≤◌, ◌-◌}
 use Rattle.test_exhaustive.proofs.centres.Centres.choice.Statement.{statement}
 use Rattle.test_exhaustive.proofs.centres.Centres.choice.Tie as tie
 
-abbrev invariant-loop : tie.invariant-loop
-invariant-loop self small t place count m₀ m = m ≤ count
+abbrev invariant_loop : tie.invariant_loop
+invariant_loop self small t place count m₀ m = m ≤ count
 
-abbrev decreases-loop : tie.decreases-loop
-decreases-loop self small t place count m₀ m = count - m
+abbrev decreases_loop : tie.decreases_loop
+decreases_loop self small t place count m₀ m = count - m
 
-pub choice-spec : {M : Type 1} → statement M
-choice-spec =
+pub choice_spec : {M : Type 1} → statement M
+choice_spec =
     tie.close
     (tie.spec
-    invariant-loop
-    decreases-loop
+    invariant_loop
+    decreases_loop
     (λ c. search rules)
     (λ c. search rules)
     (λ c. search rules)

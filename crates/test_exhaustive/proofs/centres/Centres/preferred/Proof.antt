@@ -4,18 +4,18 @@ use Prim.Native.Nat.{◌≤◌, ◌-◌}
 use Rattle.test_exhaustive.proofs.centres.Centres.preferred.Statement.{statement}
 use Rattle.test_exhaustive.proofs.centres.Centres.preferred.Tie as tie
 
-abbrev invariant-loop : tie.invariant-loop
-invariant-loop self small t block count sum₀ m₀ sum m = (m ≤ count) × (sum ≤ m)
+abbrev invariant_loop : tie.invariant_loop
+invariant_loop self small t block count sum₀ m₀ sum m = (m ≤ count) × (sum ≤ m)
 
-abbrev decreases-loop : tie.decreases-loop
-decreases-loop self small t block count sum₀ m₀ sum m = count - m
+abbrev decreases_loop : tie.decreases_loop
+decreases_loop self small t block count sum₀ m₀ sum m = count - m
 
-pub preferred-spec : {M : Type 1} → statement M
-preferred-spec =
+pub preferred_spec : {M : Type 1} → statement M
+preferred_spec =
     tie.close
     (tie.spec
-    invariant-loop
-    decreases-loop
+    invariant_loop
+    decreases_loop
     (λ c. search rules)
     (λ c. search rules)
     (λ c κs. search rules)
