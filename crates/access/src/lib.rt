@@ -1,4 +1,6 @@
 // With what every call but Open and Read begins: for any record and memory of any length, the reasons that calls share.
+#![tactic(auto)]
+
 ghost use Rattle.std.specs.Prelude.{◌≡◌, []};
 ghost use Rattle.study.specs.Refusals.{is_user, verdict_of};
 ghost use Rattle.validity.specs.Memory.{entry_state};

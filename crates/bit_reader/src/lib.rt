@@ -1,6 +1,8 @@
 // The fields of a file, one after the other. A place, a byte and a bit in it, is carried from field to field, and no position is divided.
 // `field_at` reads one field, and `ends_in_zeros` looks at the bits past the last one; no other function knows how bits lie in bytes. `BitReader`
 // holds the bytes and a place; its `take` is a thin call onto `field_at` and hands the reader on, past the field.
+#![tactic(auto)]
+
 ghost use Rattle.std.specs.Prelude.{◌≡◌, ℕ, ◌+◌, ◌-◌, ◌*◌, ◌≤◌, ◌<◌, leb, eqb, get_or, length};
 ghost use Rattle.file_format.specs.Bits.{bits_at};
 ghost use Rattle.bit_reader.specs.Fields.{BitsRead, Askable, FieldRead, Stepped, TakenFrom, AskableTwo, TwoRead};

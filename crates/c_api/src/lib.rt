@@ -2,6 +2,8 @@
 // A dataset's record is 15 numbers of 16 bits: k, n, b0, b1 .. b8, and each user's withdrawals. Each call answers 0, or the refusal's number;
 // for 7 its pair i < j besides, as 7 + 256 i + 65,536 j. A single number has 32 bits, and is narrowed where the call behind takes a byte:
 // the contracts speak of the number as it is given. include/tides.h declares them.
+#![tactic(auto)]
+
 use blocking::block::block_core;
 use blocking::centres::centres_into;
 use blocking::judge::judge;

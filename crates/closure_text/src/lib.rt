@@ -1,4 +1,6 @@
 // A measured study as text into the text of its metric closure: the same study with its distances lowered (document 02, 2.1: mended).
+#![tactic(auto)]
+
 use crate::lines::{put_head, put_lowered, put_tides};
 use crate::table::{close_table, fill_table};
 use study::{Dataset, MAX_TIDES, Refusal, TABLE_SIZE};

@@ -1,4 +1,6 @@
 // Open, Minima, Enter, Withdraw: for any record and memory of any length, the answer and what stands afterwards.
+#![tactic(auto)]
+
 ghost use Rattle.std.specs.Prelude.{◌≡◌, T};
 ghost use Rattle.study.specs.Refusals.{is_user, verdict_of};
 ghost use Rattle.validity.specs.Memory.{state_of, entry_state, exit_state};

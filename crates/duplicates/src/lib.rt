@@ -1,4 +1,6 @@
 // The last of Enter's reasons (document 02, 2.8): a duplicate (twin), a tide at distance 0 from a tide of its setting.
+#![tactic(auto)]
+
 ghost use Rattle.std.specs.Prelude.{◌≡◌, ◌≤◌, ◌<◌, length};
 ghost use Rattle.study.specs.Refusals.{verdict_of};
 ghost use Rattle.duplicates.specs.Scan.{duplicate_of, duplicate_answer};

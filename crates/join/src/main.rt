@@ -1,6 +1,8 @@
 // Merges the two study files that the arguments name (document 02, 2.9: two books joined). The pairs stand as text on standard input: on a line of
 // its own each, the tide's number in the first study and in the second. The merged study file goes to standard output. Where something is
 // wrong, one line about it goes to standard error, and nothing to standard output.
+#![tactic(auto)]
+
 ghost use Rattle.io.specs.Counts.{IsPrefixLen};
 
 use libc::{STDERR_FILENO, STDIN_FILENO};

@@ -1,1 +1,2 @@
 // Laws of finite lists, counts and tables, in specs/. There is no code.
+#![tactic(auto)]

@@ -1,6 +1,8 @@
 // Whether every tide can be given an allowed block so that each block meets the minima, and such an
 // assignment. The minima of all blocks are laid out as slots; each slot gets a tide of its own by
 // augmenting paths; the other tides go to any block that they may go to.
+#![tactic(auto)]
+
 mod assign;
 mod augment;
 mod slots;

@@ -1,5 +1,7 @@
 // Mends the measured study that stands as text on standard input: the same study with its distances lowered goes to standard output, as
 // text. Where the text is wrong, one line about it goes to standard error, and nothing to standard output.
+#![tactic(auto)]
+
 use closure_text::{TEXT_ROOM, mend};
 use libc::STDIN_FILENO;
 use text_report::write_report;

@@ -1,5 +1,7 @@
 // Two datasets merged into one (document 02, 2.9: two books joined): for any records and memory of any length, the answer and what stands
 // afterwards.
+#![tactic(auto)]
+
 use crate::counts::{added_counts, counts_fit};
 use crate::pairs::{agree, names_none};
 use crate::rest::find_rest;

@@ -1,5 +1,7 @@
 // Two study files and the text of their pairs into the file of the merged study (document 02, 2.9: two books joined): through Read of both,
 // the merge and Write.
+#![tactic(auto)]
+
 use crate::pairs::{Listed, list_pairs};
 use merge::merge;
 use sheet_of_file::blank;

@@ -1,4 +1,6 @@
 // The metric closure of a table of distances, in place (document 02, 2.1: mending a measured table). The table is n rows of n.
+#![tactic(auto)]
+
 use crate::counting::close_counted;
 use crate::reasons::{in_range, symmetric};
 use study::{MAX_TIDES, Refusal};

@@ -1,4 +1,6 @@
 // Numbers for calls that take bytes.
+#![tactic(auto)]
+
 ghost use Rattle.std.specs.Prelude.{◌≡◌};
 ghost use Rattle.narrowing.specs.Narrowing.{narrowed};
 

@@ -1,4 +1,6 @@
 // Each tide's nearest centre (document 02, 2.4): its block number and its distance.
+#![tactic(auto)]
+
 ghost use Rattle.std.specs.Prelude.{◌≡◌, ◌≤◌, ◌<◌, length, take};
 ghost use Rattle.lists.specs.Lists.{at, overwrite};
 ghost use Rattle.study.specs.Problem.{nearest_distance, nearest_block};

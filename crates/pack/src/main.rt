@@ -1,5 +1,7 @@
 // Packs the study that stands as text on standard input: its study file goes to standard output. Where the text is wrong, one line
 // about it goes to standard error, and nothing to standard output.
+#![tactic(auto)]
+
 use libc::STDIN_FILENO;
 use study_text::pack;
 use text_report::write_report;

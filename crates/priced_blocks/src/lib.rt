@@ -1,5 +1,7 @@
 // Block with what its blocks cost (document 02, 2.3: tariff for a trial): for any record and memory of any length, the answer and what
 // stands afterwards. No function of a public module has a `requires`.
+#![tactic(auto)]
+
 pub mod core;
 mod cost;
 pub mod records;

@@ -1,5 +1,7 @@
 // The least radius with an assignment, through the promise of the matching search alone. The radii are taken upwards, as far at a time
 // as the centres stay; there, and only there, existence is monotone, and the least radius is found by bisection.
+#![tactic(auto)]
+
 pub mod bound;
 pub mod centres;
 pub mod counts;

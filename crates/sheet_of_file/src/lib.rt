@@ -1,4 +1,6 @@
 // The printed sheet of any bytes: they are read as a study file, its tides are blocked, and the answer becomes text.
+#![tactic(auto)]
+
 ghost use Rattle.std.specs.Prelude.{◌≡◌, ◌≤◌};
 ghost use Rattle.study.specs.Refusals.{numbered};
 ghost use Rattle.validity.specs.Memory.{entry_state};

@@ -1,4 +1,6 @@
 // The text of the printed sheet: for any answer of Block, any records and any counts of withdrawals.
+#![tactic(auto)]
+
 use crate::lines::{put_closing, put_lines};
 use crate::putting::{put_bytes, put_refusal};
 use study::{BlockRecord, Blocked, MAX_TIDES, MAX_USERS};

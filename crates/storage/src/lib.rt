@@ -1,4 +1,6 @@
 // What the calls write into lent memory.
+#![tactic(auto)]
+
 ghost use Rattle.std.specs.Prelude.{◌≡◌, ◌≤◌, ◌<◌, length};
 ghost use Rattle.lists.specs.Lists.{at, overwrite};
 ghost use Rattle.study.specs.Limits.{max_tides, table_size};

@@ -1,4 +1,6 @@
 // The types that all calls share. The mathematics stands in specs/.
+#![tactic(auto)]
+
 pub mod refusals;
 
 ghost use Rattle.std.specs.Prelude.{◌≡◌};

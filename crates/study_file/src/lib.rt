@@ -1,4 +1,6 @@
 // Read and Write: for any record, memory and bytes of any length, the answer and what stands afterwards.
+#![tactic(auto)]
+
 ghost use Rattle.std.specs.Prelude.{◌≡◌};
 ghost use Rattle.validity.specs.Memory.{state_of, entry_state, exit_state};
 ghost use Rattle.access.specs.Calls.{answer, after, reply, list_after};

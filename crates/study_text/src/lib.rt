@@ -1,4 +1,6 @@
 // A study as text into its study file, through Open, Minima, Enter and Write.
+#![tactic(auto)]
+
 use crate::calls::{Finished, Over, read_text};
 use study::{MAX_TIDES, Refusal, TABLE_SIZE};
 use study_file::{Written, write};

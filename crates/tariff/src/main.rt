@@ -1,4 +1,6 @@
 // Reads a study file from standard input and prints its tariff.
+#![tactic(auto)]
+
 ghost use Rattle.std.specs.Prelude.{◌≤◌};
 
 use libc::{STDIN_FILENO, STDOUT_FILENO};

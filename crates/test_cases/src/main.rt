@@ -1,5 +1,7 @@
 // Document 01's cases and studies for document 02, 2.6, through the calls; lent records, and the part that Centres hands back; and Block beside a
 // plain blocker for up to seven tides. Each group prints how many of its answers and places came out as expected.
+#![tactic(auto)]
+
 mod calls;
 mod cases;
 mod comparing;

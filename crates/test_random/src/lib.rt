@@ -1,4 +1,6 @@
 // Numbers from a fixed generator.
+#![tactic(auto)]
+
 ghost use Rattle.std.specs.Prelude.{◌+◌, ◌-◌, ◌<◌, ◌≤◌};
 
 // The next state of a multiplicative generator modulo the prime 2^31 - 1.

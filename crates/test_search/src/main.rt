@@ -2,6 +2,8 @@
 // compared with plain enumeration of every list, and a list that it leaves on yes is checked. Each
 // table is searched from a hint of any kind, and again, from the list that is left, with one pair
 // more allowed.
+#![tactic(auto)]
+
 mod plain;
 
 ghost use Rattle.std.specs.Prelude.{◌≡◌, ℕ, ◌<◌, ◌≤◌, true, slice_index};

@@ -1,4 +1,6 @@
 // What a program that reads a text writes: what it made of the text, or what is wrong with the text.
+#![tactic(auto)]
+
 use libc::{STDERR_FILENO, STDOUT_FILENO};
 use study::Refusal;
 use study::refusals::number_of;

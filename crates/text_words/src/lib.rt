@@ -1,5 +1,7 @@
 // The words of a text, one after the other: runs of bytes other than space, tab, line end and `#`, which begins a comment to its
 // line's end.
+#![tactic(auto)]
+
 ghost use Rattle.std.specs.Prelude.{◌≡◌, false, ◌+◌, ◌≤◌, ◌<◌, length, drop};
 ghost use Rattle.text_words.specs.Words.{newline, newlines, ends_word, begins, comment_after, digit, with_digit};
 ghost use Rattle.text_words.specs.Words.{start_of, word_of, numeral_of, next_of, CursorWithin, capped};

@@ -1,4 +1,6 @@
 // The triangle inequality at one more tide: the first pair of earlier tides with which it violates it.
+#![tactic(auto)]
+
 ghost use Rattle.std.specs.Prelude.{◌≡◌, ◌<◌, ◌≤◌, true, not, length, slice_index};
 ghost use Rattle.study.specs.Limits.{max_tides, table_size, cell};
 ghost use Rattle.study.specs.Calls.{triangle, violations};

@@ -1,5 +1,7 @@
 // Reason 21: whether a record and memory are a dataset. Each function is one test of specs/Memory.antt.
 // A dataset (document 01: book) is a record and lent memory: 14,400 distances in rows of 120, and 120 setting bytes.
+#![tactic(auto)]
+
 ghost use Rattle.std.specs.Prelude.{◌≡◌, true, false, cond, ◌≤◌, ◌<◌, leb, ltb, eqb, length, get_or};
 ghost use Rattle.lists.specs.Lists.{every, sum_below};
 ghost use Rattle.study.specs.Limits.{max_tides, table_size, max_distance, max_settings};
