@@ -1,6 +1,5 @@
 -- The hinted block where the table allows it, else the first allowed. Assumes nothing.
 use native.Mathlib.Omega.{arith}
-use borrow.Author.Rules.{rules}
 use Rattle.promise.proofs.Pairs.{allows_yes}
 use Rattle.matching.proofs.assign.free_block.Goals as goal
 

@@ -1,9 +1,6 @@
 -- The list is written for the tides below t, and its places from n on stay; n - t falls. Assumes nothing.
-use native.Mathlib.Omega.{arith}
-use borrow.Author.Rules.{rules}
-use Prim.Native.Nat.{◌-◌, ◌≤◌, ◌<◌}
-use Rattle.study.specs.Limits.{max_tides}
-use Rattle.matching.proofs.Writing.{WrittenTo, write_start, write_more, write_end, write_none}
+use Prim.Native.Nat.{◌-◌, ◌≤◌}
+use Rattle.matching.proofs.Writing.{WrittenTo}
 use Rattle.matching.proofs.assign.write_list.Given as goal
 
 abbrev pub invariant-loop-t : goal.invariant-loop-t

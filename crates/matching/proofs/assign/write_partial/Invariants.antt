@@ -1,7 +1,5 @@
 -- The places from n on stay, since only places of the tides below t are written; n - t falls. Assumes nothing.
-use native.Mathlib.Omega.{arith}
 use Prim.Native.Nat.{◌-◌, ◌≤◌}
-use Rattle.lists.proofs.Tables.{tail_same, tail_set}
 use Rattle.lists.specs.Lists.{TailKept}
 use Rattle.matching.proofs.assign.write_partial.Given as goal
 

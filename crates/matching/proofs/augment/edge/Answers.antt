@@ -3,7 +3,6 @@ use mathlib.Core.Bool.{true≢false, false≢true}
 use mathlib.Core.Logic.{inl, inr, ⊎_elim}
 use native.Mathlib.Omega.{arith}
 use borrow.Author.Tests.{eqb-true, eqb-false}
-use borrow.Author.Rules.{rules}
 use Rattle.promise.proofs.Pairs.{allows_yes, allows_no}
 use Rattle.matching.proofs.augment.edge.Goals as goal
 

@@ -1,9 +1,7 @@
 -- The slots of rank below head are scanned: every tide that they can hold is seen, and none of those is free; slots - head falls, since the
 -- queue never holds more than the slots. Assumes nothing.
-use native.Mathlib.Omega.{arith}
-use mathlib.Core.Path.{refl}
-use Prim.Native.Nat.{◌-◌, ◌<◌}
-use Rattle.matching.proofs.Turns.{Growing, grow_start, grow_in_tree, grow_none, grow_found, grow_again}
+use Prim.Native.Nat.{◌-◌}
+use Rattle.matching.proofs.Turns.{Growing}
 use Rattle.matching.specs.Graph.{Edge, Marked}
 use Rattle.lists.specs.Lists.{at}
 use Rattle.matching.proofs.augment.grow.Given as goal

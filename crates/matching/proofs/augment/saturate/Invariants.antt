@@ -1,11 +1,5 @@
 -- Each slot below slots - left has a tide, in a matching; left falls. Assumes nothing.
-use native.Mathlib.Omega.{arith}
 use Prim.Native.Nat.{◌-◌, ◌≤◌}
-use mathlib.Core.Logic.{⊎_elim}
-use mathlib.Core.Bool.{true≢false, false≢true}
-use mathlib.Core.Path.{refl}
-use borrow.Author.Tests.{not-true, not-false}
-use Rattle.matching.proofs.Turns.{saturated_start, saturated_skip, saturated_more, saturated_end}
 use Rattle.matching.specs.Graph.{Edge, Saturated}
 use Rattle.matching.proofs.augment.saturate.Given as goal
 

@@ -1,10 +1,6 @@
 -- Every tide below t that the slot can hold is seen, and none of those seen here is free; tides - t falls. Assumes nothing.
-use mathlib.Core.Path.{refl, ◌∙◌}
 use Prim.Native.Nat.{◌-◌, ◌≤◌}
-use mathlib.Core.Logic.{⊎_elim}
-use native.Mathlib.Omega.{arith}
 use Rattle.matching.specs.Graph.{Edge, Scanning}
-use Rattle.matching.proofs.Turns.{scan_start, scan_skip, scan_room, scan_push, scan_end}
 use Rattle.matching.proofs.augment.scan.Given as goal
 
 abbrev pub invariant-loop-t : goal.invariant-loop-t

@@ -1,9 +1,7 @@
 -- The tables are a matching, the tide t is free and the slot s can hold it, and s lies on a path back to the root; the rank of s falls.
 -- Assumes nothing.
-use native.Mathlib.Omega.{arith}
 use Rattle.lists.specs.Lists.{at}
 use Rattle.matching.specs.Graph.{Edge, Shifting}
-use Rattle.matching.proofs.Turns.{shift_again, shift_end, shift_falls}
 use Rattle.matching.proofs.augment.shift.Given as goal
 
 abbrev pub invariant-loop-slots : goal.invariant-loop-slots

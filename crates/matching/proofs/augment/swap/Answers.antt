@@ -1,11 +1,10 @@
 -- The stores are what `freed` says, by whether the slot held a tide. Assumes nothing.
-use mathlib.Core.Path.{refl, sym}
-use borrow.Author.Rules.{rules}
+use mathlib.Core.Path.{sym}
 use Rattle.matching.proofs.Shift.{freed_yes, freed_no}
 use Rattle.matching.proofs.augment.swap.Goals as goal
 
 pub returns-then-o-tides-clause-slot_after : goal.returns-then-o-tides-clause-slot_after
-returns-then-o-tides-clause-slot_after c = (refl, (refl, sym (freed_yes _ _ _ _ _ c.if-o-tides.true)))
+returns-then-o-tides-clause-slot_after c = sym (freed_yes _ _ _ _ _ c.if-o-tides.true)
 
 pub returns-else-o-tides-clause-slot_after : goal.returns-else-o-tides-clause-slot_after
-returns-else-o-tides-clause-slot_after c = (refl, (refl, sym (freed_no _ _ _ _ _ c.if-o-tides.false)))
+returns-else-o-tides-clause-slot_after c = sym (freed_no _ _ _ _ _ c.if-o-tides.false)

@@ -1,7 +1,6 @@
 -- The slots of the first j settings of the block stand from start up to pos; 8 - j falls. Assumes nothing.
-use native.Mathlib.Omega.{arith}
 use Prim.Native.Nat.{◌-◌, ◌≤◌}
-use Rattle.matching.proofs.Laying.{PartAdded, part_start, part_room, part_within, part_more, part_end}
+use Rattle.matching.proofs.Laying.{PartAdded}
 use Rattle.matching.proofs.slots.add_block.Given as goal
 
 abbrev pub invariant-loop-j : goal.invariant-loop-j

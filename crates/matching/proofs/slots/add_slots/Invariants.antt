@@ -1,9 +1,5 @@
 -- i slots of the block and kind stand from pos on; count - i falls. Assumes nothing.
-use native.Mathlib.Omega.{arith}
-use native.Mathlib.Nat.{le_antisymm}
-use Prim.Native.Nat.{ℕ, ◌-◌, ◌≤◌}
-use mathlib.Core.Path.{subst}
-use Rattle.matching.proofs.Laying.{added_start, added_more}
+use Prim.Native.Nat.{◌-◌, ◌≤◌}
 use Rattle.matching.specs.Slots.{Added}
 use Rattle.matching.proofs.slots.add_slots.Given as goal
 

@@ -1,7 +1,6 @@
 -- The slots of the first m blocks stand up to pos; blocks - m falls. Assumes nothing.
-use native.Mathlib.Omega.{arith}
 use Prim.Native.Nat.{◌-◌, ◌≤◌}
-use Rattle.matching.proofs.Laying.{LaidOut, laid_start, laid_room, laid_more, laid_end}
+use Rattle.matching.proofs.Laying.{LaidOut}
 use Rattle.matching.proofs.slots.lay_out.Given as goal
 
 abbrev pub invariant-loop-m : goal.invariant-loop-m

@@ -1,5 +1,4 @@
 -- The tables are a matching; n - t falls. Assumes nothing.
-use native.Mathlib.Omega.{arith}
 use Prim.Native.Nat.{◌-◌}
 use Rattle.matching.specs.Graph.{Edge}
 use Rattle.matching.specs.Matching.{Matching}
