@@ -9,7 +9,8 @@ use Rattle.radius_search.proofs.bisect.Given as goal
 
 abbrev pub invariant-loop-low : goal.invariant-loop-low
 invariant-loop-low l =
-    Bracketed l.distances l.n (meeting l.minima l.n l.settings) l.start l.limit l.low l.high × (length l.allowed ≡ length l.initial.allowed) × TailKept l.n l.initial.list l.list
+    Bracketed l.distances l.n (meeting l.minima l.n l.settings) l.start l.limit l.low l.high ×
+    (length l.allowed ≡ length l.initial.allowed) × TailKept l.n l.initial.list l.list
 
 abbrev pub decreases-loop-low : goal.decreases-loop-low
 decreases-loop-low l = l.high - l.low

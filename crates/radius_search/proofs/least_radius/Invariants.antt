@@ -11,7 +11,8 @@ use Rattle.radius_search.proofs.least_radius.Given as goal
 
 abbrev pub invariant-loop-centres : goal.invariant-loop-centres
 invariant-loop-centres l =
-    Lowest (input_problem l.distances l.settings l.n l.minima) l.g × (l.g < no_radius) × (length l.centres ≡ max_tides) × (length l.allowed ≡ length l.initial.allowed) × TailKept l.n l.initial.list l.list
+    Lowest (input_problem l.distances l.settings l.n l.minima) l.g × (l.g < no_radius) × (length l.centres ≡ max_tides) ×
+    (length l.allowed ≡ length l.initial.allowed) × TailKept l.n l.initial.list l.list
 
 abbrev pub decreases-loop-centres : goal.decreases-loop-centres
 decreases-loop-centres l = no_radius - l.g

@@ -2,11 +2,6 @@
 use Rattle.first_assignment.proofs.FirstLaws.{tried_nowhere}
 use Rattle.first_assignment.proofs.first.lower.Goals as goal
 
--- TODO helper over c
--- -- from where the column is restricted back to the entry
--- abbrev entry_of : tie.After-restrict → tie.Start
--- entry_of c = c.before.before.before.before.before
-
 pub returns-then-first_allowed-blocks-clause-search_tried : goal.returns-then-first_allowed-blocks-clause-search_tried
 returns-then-first_allowed-blocks-clause-search_tried c =
     let t_inside = c.requires.t_lt_n.0 in

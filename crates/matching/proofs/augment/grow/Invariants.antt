@@ -8,7 +8,8 @@ use Rattle.matching.proofs.augment.grow.Given as goal
 
 abbrev pub invariant-loop-head : goal.invariant-loop-head
 invariant-loop-head l =
-    Growing (Edge l.allowed l.settings l.owner l.kind) l.slots l.tides (at l.initial.queue 0) l.head l.tail l.tide l.slot l.from l.rank l.queue × Marked l.allowed l.settings l.slots l.tides l.mark l.from
+    Growing (Edge l.allowed l.settings l.owner l.kind) l.slots l.tides (at l.initial.queue 0) l.head l.tail l.tide l.slot l.from l.rank l.queue ×
+    Marked l.allowed l.settings l.slots l.tides l.mark l.from
 
 abbrev pub decreases-loop-head : goal.decreases-loop-head
 decreases-loop-head l = l.slots - l.head
