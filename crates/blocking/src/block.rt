@@ -14,7 +14,7 @@ use study::{Answer, Blocked, Dataset, MAX_DISTANCE, MAX_TIDES, Refusal};
 
 // The records of the blocks as rows of numbers: centres' tide numbers, numbers of tides, diameters. `count` is the number of blocks, 0 on a
 // refusal. The places past it are free: they may hold any numbers, and no record is made of them.
-#[derive(Drop)]
+#[derive(Clone, Copy)]
 pub struct BlockRows {
     pub count: usize,
     pub centres: [u8; MAX_TIDES],
@@ -23,7 +23,7 @@ pub struct BlockRows {
 }
 
 // Block's answer, and the rows of its blocks; there are none on a refusal.
-#[derive(Drop)]
+#[derive(Clone, Copy)]
 pub struct Computed {
     pub answer: Blocked,
     pub rows: BlockRows,

@@ -12,7 +12,7 @@ use study::refusals::refusal_number;
 use study::{Answer, Dataset, Refusal};
 
 // The answer, and how many centres stand in the front of the list.
-#[derive(Drop)]
+#[derive(Clone, Copy)]
 pub struct Counted {
     pub answer: Answer,
     pub count: usize,

@@ -28,7 +28,7 @@ pub fn block(
 }
 
 // Block's answer and records by value, for callers that lend no records.
-#[derive(Drop)]
+#[derive(Clone, Copy)]
 pub struct Blocking {
     pub answer: Blocked,
     pub records: [BlockRecord; MAX_TIDES],

@@ -19,7 +19,7 @@ ghost use Rattle.merge_text.specs.Joining.{report_of, made, merged_by, join_answ
 ghost use Rattle.merge_text.specs.Steps.{FileRead, Merged, Tells};
 
 // What is wrong with a line of the pairs' text.
-#[derive(Drop)]
+#[derive(Clone, Copy)]
 pub enum Fault {
     NotANumber,
     // Above 4,294,967,295.
@@ -33,7 +33,7 @@ pub enum Fault {
 }
 
 // The byte length of the merged file, or what is wrong.
-#[derive(Drop)]
+#[derive(Clone, Copy)]
 pub enum Joined {
     Done(usize),
     // Read's refusal of the first file.

@@ -16,7 +16,7 @@ use study::{Answer, Dataset, MAX_TIDES, Outcome, Refusal, TABLE_SIZE};
 use validity::is_short;
 
 // The byte length of the file that was written, or why none was.
-#[derive(Drop)]
+#[derive(Clone, Copy)]
 pub enum Written {
     Done(usize),
     Refused(Refusal),

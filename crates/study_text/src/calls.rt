@@ -17,14 +17,14 @@ use study::{Answer, Dataset, MAX_SETTINGS, MAX_TIDES, MAX_USERS, Minima, Outcome
 use text_words::{Cursor, Word, next};
 
 // Why no more is read: the text's end, with its line, or what stops it.
-#[derive(Drop)]
+#[derive(Clone, Copy)]
 pub enum Over {
     End(usize),
     Stopped(Packed),
 }
 
 // Whether more is read.
-#[derive(Drop)]
+#[derive(Clone, Copy)]
 pub enum Step {
     Going,
     Over(Over),
@@ -32,7 +32,7 @@ pub enum Step {
 
 // The record after a call, and the place in the text. The place is free where no more is read, the record where something stops the
 // reading; what holds of them all the same is said by `Reaches` and `Begins`.
-#[derive(Drop)]
+#[derive(Clone, Copy)]
 pub struct Reached {
     pub step: Step,
     pub dataset: Dataset,
@@ -40,7 +40,7 @@ pub struct Reached {
 }
 
 // The record at the text's end; it is free where something stops the reading.
-#[derive(Drop)]
+#[derive(Clone, Copy)]
 pub struct Finished {
     pub over: Over,
     pub dataset: Dataset,
