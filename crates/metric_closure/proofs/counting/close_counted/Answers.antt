@@ -1,9 +1,5 @@
 -- `close_counted` meets its contract: the closed table is counted against the copy. Assumes nothing.
-use native.Mathlib.Omega.{arith}
-use borrow.Author.Rules.{rules}
-use mathlib.Core.Path.{sym}
-use Rattle.metric_closure.proofs.TableLaws.{few_places}
-use Rattle.metric_closure.proofs.CallLaws.{front_long, closed_fits, copied_fits, counted}
+use Rattle.metric_closure.proofs.CallLaws.{counted}
 use Rattle.metric_closure.proofs.counting.close_counted.Goals as goal
 
 pub returns-clause-value : goal.returns-clause-value

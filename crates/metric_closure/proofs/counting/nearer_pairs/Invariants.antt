@@ -1,9 +1,6 @@
 -- `nearer_pairs` meets its contract: the pairs whose later tide is passed. Assumes nothing.
 use Prim.Native.Nat.{◌≤◌, ◌-◌}
-use native.Mathlib.Omega.{arith}
-use mathlib.Core.Path.{refl}
-use lib.ListN.{length-take, length-drop}
-use Rattle.metric_closure.proofs.TableLaws.{PairsTo, pairs_none, pairs_more, pairs_done, row_counted}
+use Rattle.metric_closure.proofs.TableLaws.{PairsTo}
 use Rattle.metric_closure.proofs.counting.nearer_pairs.Given as goal
 
 abbrev pub invariant-loop-i : goal.invariant-loop-i

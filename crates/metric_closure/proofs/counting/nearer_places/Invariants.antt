@@ -1,12 +1,9 @@
 -- `nearer_places` meets its contract: the count_below over the places passed so far. Assumes nothing.
 use Prim.Native.Nat.{◌≤◌, ◌-◌}
-use native.Mathlib.Omega.{arith}
-use mathlib.Core.Path.{◌≡◌, sym}
+use mathlib.Core.Path.{◌≡◌}
 use lib.Dec.{ltb}
 use lib.ListN.{length, get_or}
-use Rattle.lists.specs.Lists.{bit, sum_below, count_below}
-use Rattle.lists.proofs.Counts.{sum_zero}
-use Rattle.lists.proofs.Scans.{sum_more, sum_done}
+use Rattle.lists.specs.Lists.{bit, sum_below}
 use Rattle.metric_closure.proofs.counting.nearer_places.Given as goal
 
 abbrev pub invariant-loop-j : goal.invariant-loop-j

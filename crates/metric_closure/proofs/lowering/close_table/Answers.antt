@@ -1,7 +1,6 @@
 -- `close_table` meets its contract: the way may go by the tides passed so far. Assumes nothing.
-use Prim.Native.Nat.{◌≤◌, ◌-◌}
 use native.Mathlib.Omega.{arith}
-use Rattle.metric_closure.proofs.TableLaws.{Closing, closing_none, closing_more, closing_fits, closing_near, closing_done}
+use Rattle.metric_closure.proofs.TableLaws.{closing_none, closing_more, closing_near, closing_done}
 use Rattle.metric_closure.proofs.lowering.close_table.Goals as goal
 
 pub loop-m-init : goal.loop-m-init
@@ -11,7 +10,7 @@ pub lower_by-requires-clause-in_range : goal.lower_by-requires-clause-in_range
 lower_by-requires-clause-in_range c =
     let inv = c.loop-m.invariant in
     let pre = c.requires in
-    closing_near inv.1 pre.1
+    closing_near inv.1 pre.in_range
 
 pub loop-m-preserved : goal.loop-m-preserved
 loop-m-preserved c =

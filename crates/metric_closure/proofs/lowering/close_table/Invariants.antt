@@ -1,7 +1,6 @@
 -- `close_table` meets its contract: the way may go by the tides passed so far. Assumes nothing.
 use Prim.Native.Nat.{◌≤◌, ◌-◌}
-use native.Mathlib.Omega.{arith}
-use Rattle.metric_closure.proofs.TableLaws.{Closing, closing_none, closing_more, closing_fits, closing_near, closing_done}
+use Rattle.metric_closure.proofs.TableLaws.{Closing}
 use Rattle.metric_closure.proofs.lowering.close_table.Given as goal
 
 abbrev pub invariant-loop-m : goal.invariant-loop-m

@@ -1,6 +1,5 @@
 -- `lower_by` meets its contract: the line holds row m, and every row is lowered by it. Assumes nothing.
 use native.Mathlib.Omega.{arith}
-use borrow.Author.Rules.{rules}
 use mathlib.Core.Path.{refl}
 use Prim.Native.Nat.{ℕ}
 use lib.ListN.{replicate, length-replicate}
@@ -11,6 +10,6 @@ pub lower_rows-requires-clause-line_of : goal.lower_rows-requires-clause-line_of
 lower_rows-requires-clause-line_of c =
     let pre = c.requires in
     let starts = c.row_start-start.ensures.0 in
-    let line = line_of _ _ c.args.table.now pre.0 pre.1.1 _ _ starts (replicate 120 0) refl
-    (omega (arith, length-replicate {A = ℕ} 120 0, pre.0.few)) c.copy.ensures in
+    let line = line_of _ _ c.args.table.now pre.fits pre.m_lt_n _ _ starts (replicate 120 0) refl
+    (omega (arith, length-replicate {A = ℕ} 120 0, pre.fits.few)) c.copy.ensures in
     line

@@ -1,8 +1,6 @@
 -- `lower_rows` meets its contract: the rows passed so far are lowered, the rest is as before. Assumes nothing.
 use Prim.Native.Nat.{◌≤◌, ◌-◌}
-use native.Mathlib.Omega.{arith}
 use Rattle.metric_closure.specs.Tables.{Lowered}
-use Rattle.metric_closure.proofs.TableLaws.{line_near, lowered_none, lowered_more, lowered_near, lowered_done, lowered_fits}
 use Rattle.metric_closure.proofs.lowering.lower_rows.Given as goal
 
 abbrev pub invariant-loop-i : goal.invariant-loop-i

@@ -1,11 +1,6 @@
 -- `in_range` meets its contract: the places passed so far are in range. Assumes nothing.
-use Prim.Native.Nat.{◌≤◌, ◌-◌}
 use native.Mathlib.Omega.{arith}
-use mathlib.Core.Bool.{true}
-use mathlib.Core.Path.{◌≡◌, sym}
-use lib.Dec.{leb}
-use lib.ListN.{get_or}
-use Rattle.lists.specs.Lists.{every}
+use mathlib.Core.Path.{sym}
 use Rattle.lists.proofs.Scans.{every_none, every_more, every_fails, every_done, test_passes, test_fails}
 use Rattle.metric_closure.specs.Call.{in_range}
 use Rattle.std.proofs.lemmas.Bool.{not_from_false, not_from_true}

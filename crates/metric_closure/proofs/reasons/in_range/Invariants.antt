@@ -1,13 +1,10 @@
 -- `in_range` meets its contract: the places passed so far are in range. Assumes nothing.
 use Prim.Native.Nat.{◌≤◌, ◌-◌}
-use native.Mathlib.Omega.{arith}
 use mathlib.Core.Bool.{true}
-use mathlib.Core.Path.{◌≡◌, sym}
+use mathlib.Core.Path.{◌≡◌}
 use lib.Dec.{leb}
 use lib.ListN.{get_or}
 use Rattle.lists.specs.Lists.{every}
-use Rattle.lists.proofs.Scans.{every_none, every_more, every_fails, every_done, test_passes, test_fails}
-use Rattle.metric_closure.specs.Call.{in_range}
 use Rattle.metric_closure.proofs.reasons.in_range.Given as goal
 
 abbrev pub invariant-loop-p : goal.invariant-loop-p

@@ -1,12 +1,8 @@
 -- `symmetric` meets its contract: the rows passed so far are symmetric. Assumes nothing.
-use Prim.Native.Nat.{◌≤◌, ◌-◌}
 use native.Mathlib.Omega.{arith}
-use borrow.Author.Rules.{rules}
-use mathlib.Core.Bool.{true}
-use mathlib.Core.Path.{◌≡◌, sym}
-use Rattle.lists.specs.Lists.{every}
+use mathlib.Core.Path.{sym}
 use Rattle.lists.proofs.Scans.{every_none, every_more, every_fails, every_done, test_passes, test_fails}
-use Rattle.metric_closure.specs.Call.{symmetric_row, symmetric_table}
+use Rattle.metric_closure.specs.Call.{symmetric_table}
 use Rattle.std.proofs.lemmas.Bool.{not_from_false, not_from_true}
 use Rattle.metric_closure.proofs.reasons.symmetric.Goals as goal
 

@@ -1,12 +1,9 @@
 -- `symmetric` meets its contract: the rows passed so far are symmetric. Assumes nothing.
 use Prim.Native.Nat.{◌≤◌, ◌-◌}
-use native.Mathlib.Omega.{arith}
-use borrow.Author.Rules.{rules}
 use mathlib.Core.Bool.{true}
-use mathlib.Core.Path.{◌≡◌, sym}
+use mathlib.Core.Path.{◌≡◌}
 use Rattle.lists.specs.Lists.{every}
-use Rattle.lists.proofs.Scans.{every_none, every_more, every_fails, every_done, test_passes, test_fails}
-use Rattle.metric_closure.specs.Call.{symmetric_row, symmetric_table}
+use Rattle.metric_closure.specs.Call.{symmetric_row}
 use Rattle.metric_closure.proofs.reasons.symmetric.Given as goal
 
 abbrev pub invariant-loop-i : goal.invariant-loop-i

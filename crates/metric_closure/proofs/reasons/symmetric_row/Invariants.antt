@@ -1,13 +1,10 @@
 -- `symmetric_row` meets its contract: the tides passed so far are as far both ways. Assumes nothing.
 use Prim.Native.Nat.{◌≤◌, ◌-◌}
-use native.Mathlib.Omega.{arith}
 use mathlib.Core.Bool.{true}
 use mathlib.Core.Path.{◌≡◌}
 use lib.Dec.{eqb}
 use Rattle.lists.specs.Lists.{every}
-use Rattle.lists.proofs.Scans.{every_none, every_more, every_fails, test_passes, test_fails}
 use Rattle.metric_closure.specs.Call.{entry}
-use Rattle.metric_closure.proofs.TableLaws.{row_fails, row_decides}
 use Rattle.metric_closure.proofs.reasons.symmetric_row.Given as goal
 
 abbrev pub invariant-loop-j : goal.invariant-loop-j

@@ -1,12 +1,9 @@
 -- `lower_row` meets its contract: the places passed so far hold the lesser of the two ways, the rest is as before. Assumes nothing.
-use Prim.Native.Nat.{◌≤◌, ◌-◌}
 use native.Mathlib.Omega.{arith}
-use mathlib.Core.Path.{◌≡◌, refl}
-use lib.ListN.{length, length-set}
-use Rattle.lists.proofs.Tables.{overwrite_none, overwrite_done}
-use Rattle.metric_closure.specs.Tables.{lesser_way}
+use mathlib.Core.Path.{refl}
+use lib.ListN.{length-set}
+use Rattle.lists.proofs.Tables.{overwrite_none}
 use Rattle.metric_closure.proofs.TableLaws.{lower_more}
-use Rattle.lists.specs.Lists.{overwrite}
 use Rattle.metric_closure.proofs.row.lower_row.Goals as goal
 
 pub loop-j-init : goal.loop-j-init

@@ -1,10 +1,8 @@
 -- `copy` meets its contract: the places passed so far hold what is copied, the rest is as before. Assumes nothing.
-use Prim.Native.Nat.{◌≤◌, ◌-◌}
 use native.Mathlib.Omega.{arith}
-use mathlib.Core.Path.{◌≡◌, refl}
-use lib.ListN.{length, get_or, length-set}
-use Rattle.lists.proofs.Tables.{overwrite_none, overwrite_step, overwrite_done}
-use Rattle.lists.specs.Lists.{overwrite}
+use mathlib.Core.Path.{refl}
+use lib.ListN.{length-set}
+use Rattle.lists.proofs.Tables.{overwrite_none, overwrite_step}
 use Rattle.metric_closure.proofs.table.copy.Goals as goal
 
 pub loop-p-init : goal.loop-p-init
