@@ -242,7 +242,7 @@ pub fn tides_judge(
     }
 }
 
-// Write: the byte length of the study file goes into `result`.
+// Write: the byte length of the study file goes into `res`.
 pub fn tides_write(
     numbers: &[u16],
     distances: &[u32],

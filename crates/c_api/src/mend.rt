@@ -6,7 +6,7 @@ ghost use Rattle.c_api.specs.Api.{mend_verdict, mend_table, mend_result};
 use c_records::code::refusal_code;
 use metric_closure::{Closed, close};
 
-// Lowers each distance of n rows of n to the least sum over any chain of tides: how many pairs were lowered goes into `result`.
+// Lowers each distance of n rows of n to the least sum over any chain of tides: how many pairs were lowered goes into `res`.
 pub fn tides_mend(table: &mut [u32], n: usize, res: &mut [u32]) -> u32
     ensures code { result ≡ code (mend_verdict n table.old res.old) }
     ensures table { table.new ≡ mend_table n table.old res.old }

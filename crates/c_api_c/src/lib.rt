@@ -151,7 +151,7 @@ pub extern "C" fn tides_judge(
     c_api::tides_judge(numbers, distances, settings, list, res)
 }
 
-// Write: the byte length of the study file goes into `result`.
+// Write: the byte length of the study file goes into `res`.
 #[unsafe(no_mangle)]
 pub extern "C" fn tides_write(
     numbers: &[u16],
@@ -170,7 +170,7 @@ pub extern "C" fn tides_write(
     c_api::tides_write(numbers, distances, settings, file, res)
 }
 
-// Lowers each distance of n rows of n to the least sum over any chain of tides: how many pairs were lowered goes into `result`.
+// Lowers each distance of n rows of n to the least sum over any chain of tides: how many pairs were lowered goes into `res`.
 #[unsafe(no_mangle)]
 pub extern "C" fn tides_mend(table: &mut [u32], n: usize, res: &mut [u32]) -> u32
     ensures code { result ≡ code (mend_verdict n table.old res.old) }
