@@ -6,11 +6,6 @@ use Rattle.dataset.proofs.AnswerLaws.{withdraw_23, withdraw_26, withdraw_done}
 use Rattle.lists.proofs.Scans.{between_in, between_low, between_high}
 use Rattle.dataset.proofs.withdraw_answer.Goals as goal
 
--- TODO helper over c
--- -- where the function begins, from where the counts are taken out
--- abbrev entry_of : tie.After-counts → tie.Start
--- entry_of c = c.before
-
 pub returns-then-number-lt1 : goal.returns-then-number-lt1
 returns-then-number-lt1 c = withdraw_23 _ _ _ c.requires (between_low 1 _ _ c.if-number-lt1.true)
 
