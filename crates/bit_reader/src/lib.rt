@@ -113,14 +113,14 @@ pub fn ends_in_zeros(bytes: &[u8], width: usize) -> bool
 }
 
 // Bytes and the place of the next bit in them.
-#[derive(Clone, Copy)]
+#[derive(Drop)]
 pub struct BitReader<'a> {
     pub bytes: &'a [u8],
     pub place: Place,
 }
 
 // A field's answer, and the reader past the field.
-#[derive(Clone, Copy)]
+#[derive(Drop)]
 pub struct Taken<'a> {
     pub value: FieldValue,
     pub rest: BitReader<'a>,
