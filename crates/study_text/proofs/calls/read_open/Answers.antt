@@ -16,5 +16,5 @@ returns-in-Number c =
     let blank : Dataset = record { k = 1; n = 0; minima = record { b0 = 1; b = replicate 8 0 }; withdrawn = replicate 4 0 } in
     let s = state_of blank c.args.distances.now c.args.settings.now in
     open_goes c.args.from c.number-given.ensures s c.«open».result _ _ c.in-Number.is c.requires.cursor_within
-    (short_no s c.requires.table_size_in_bounds.0 c.requires.table_size_in_bounds.1) c.narrow.ensures c.«open».ensures
+    (short_no s c.requires.table_size_in_bounds.0 c.requires.table_size_in_bounds.1) c.narrow.ensures (c.«open».ensures.answer, c.«open».ensures.leaves)
     c.called.ensures

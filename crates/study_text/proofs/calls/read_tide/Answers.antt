@@ -30,13 +30,16 @@ slice_bounds-take_tide-end c =
     omega arith
 
 pub slice_bounds-take_tide-end-in-Read : goal.slice_bounds-take_tide-end-in-Read
-slice_bounds-take_tide-end-in-Read c = sym (length-take-le _ _ (slice_reshare_prefix_take_tide c))
+slice_bounds-take_tide-end-in-Read c = 
+    let row_fits : c.args.dataset.n ≤ length c.args.row.now =
+    omega (arith, held_few c.args.rule (state_of c.args.dataset c.args.distances.now c.args.settings.now) c.requires.1, c.requires.2) in
+    sym (length-take-le _ _ (omega arith))
 
 pub returns-in-Stopped : goal.returns-in-Stopped
 returns-in-Stopped c =
     let row_fits : c.args.dataset.n ≤ length c.args.row.now =
     omega (arith, held_few c.args.rule (state_of c.args.dataset c.args.distances.now c.args.settings.now) c.requires.1, c.requires.2) in
-    tide_stops c.args.rule _ c.requires.0 c.requires.1 c.args.setting c.read_row-read.new.1.1.0 c.read_row-read.ensures
+    tide_stops c.args.rule _ c.requires.0 c.requires.1 c.args.setting c.read_row-read.new.row c.read_row-read.ensures
     (length-take-le c.args.dataset.n c.args.row.now row_fits) c.in-Stopped.is c.stopped.ensures
 
 pub returns-in-Read : goal.returns-in-Read
@@ -44,8 +47,8 @@ returns-in-Read c =
     let row_fits : c.args.dataset.n ≤ length c.args.row.now =
     omega (arith, held_few c.args.rule (state_of c.args.dataset c.args.distances.now c.args.settings.now) c.requires.1, c.requires.2) in
     let long = length-take-le c.args.dataset.n c.args.row.now row_fits in
-    let row = c.read_row-read.new.1.1.0 in
+    let row = c.read_row-read.new.row in
     tide_goes c.args.rule _ c.requires.0 c.requires.1 c.args.setting row c.take_tide.result c.read_row-read.ensures long
-    c.read-in-Read-1.given.1
+    c.in-Read.is
     (take_at row (drop c.args.dataset.n c.args.row.now) c.args.dataset.n (omega (arith, c.read_row-read.auto, long)))
     c.take_tide.ensures c.called.ensures

@@ -7,4 +7,4 @@ use Rattle.study_text.proofs.calls.take_tide.Goals as goal
 pub returns-in-Entered : goal.returns-in-Entered
 returns-in-Entered c =
     let rule = c.in-Entered.is in
-    took_as rule (enter_took c.enter.result.answer (held_as rule _ c.requires) c.narrow.ensures c.enter.ensures)
+    took_as rule (enter_took c.enter.result.answer (held_as rule _ c.requires) c.narrow.ensures (c.enter.ensures.answer, c.enter.ensures.leaves))
