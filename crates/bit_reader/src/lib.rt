@@ -113,7 +113,7 @@ pub fn ends_in_zeros(bytes: &[u8], width: usize) -> bool
 }
 
 // Bytes and the place of the next bit in them.
-#[derive(Drop)]
+#[derive(Clone, Copy)]
 pub struct BitReader<'a> {
     pub bytes: &'a [u8],
     pub place: Place,
@@ -150,7 +150,7 @@ impl<'a> BitReader<'a> {
     }
 }
 
-// The field at a place, with plain parameters, for callers that the borrow checker covers.
+// The field at a place, with plain parameters.
 pub fn read_field(bytes: &[u8], place: Place, width: usize) -> FieldValue
     requires { Askable place width }
     ensures { (n : ℕ) → BitsRead place n → FieldRead bytes.now n width result }

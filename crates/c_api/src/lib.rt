@@ -1,4 +1,5 @@
-// The calls for C and whoever links C: functions on numbers and slices, each with the whole contract of the Rattle call behind it.
+// The calls for C and whoever links C: functions on numbers and slices, each with the whole contract of the Rattle call behind it. The crate
+// c_api_c hands them to C.
 // A dataset's record is 15 numbers of 16 bits: k, n, b0, b1 .. b8, and each user's withdrawals. Each call answers 0, or the refusal's number;
 // for 7 its pair i < j besides, as 7 + 256 i + 65,536 j. A single number has 32 bits, and is narrowed where the call behind takes a byte:
 // the contracts speak of the number as it is given. include/tides.h declares them.
@@ -18,7 +19,7 @@ pub mod mend;
 pub mod merging;
 pub mod tariff;
 
-ghost use Rattle.core.specs.Prelude.{◌≡◌, false};
+ghost use Rattle.std.specs.Prelude.{◌≡◌, false};
 ghost use Rattle.access.specs.Calls.{first_list};
 ghost use Rattle.dataset.specs.Calls.{opens_dataset, sets_minima, enters_tide, withdraws_tide};
 ghost use Rattle.study_file.specs.Calls.{reads_file, writes_file};
@@ -28,13 +29,7 @@ ghost use Rattle.c_api.specs.Api.{lacks, c_verdict, c_left, c_output, c_result};
 ghost use Rattle.c_api.specs.Api.{places, blocks_verdict, blocks_left};
 
 // Open: an empty dataset with k settings.
-#[unsafe(no_mangle)]
-pub extern "C" fn tides_open(
-    numbers: &mut [u16],
-    distances: &mut [u32],
-    settings: &mut [u8],
-    k: u32,
-) -> u32
+pub fn tides_open(numbers: &mut [u16], distances: &mut [u32], settings: &mut [u8], k: u32) -> u32
     ensures code { result ≡ code (c_verdict (lent numbers.old distances.old settings.old) false (opens_dataset k)) }
     ensures leaves { lent numbers.new distances.new settings.new ≡ c_left (lent numbers.old distances.old settings.old) false (opens_dataset k) }
 {
@@ -46,13 +41,7 @@ pub extern "C" fn tides_open(
 }
 
 // Minima: they are 9 bytes: b0, b1 .. b8.
-#[unsafe(no_mangle)]
-pub extern "C" fn tides_minima(
-    numbers: &mut [u16],
-    distances: &[u32],
-    settings: &[u8],
-    minima: &[u8],
-) -> u32
+pub fn tides_minima(numbers: &mut [u16], distances: &[u32], settings: &[u8], minima: &[u8]) -> u32
     ensures code { result
         ≡ code (c_verdict (lent numbers.old distances.now settings.now) (lacks 9 minima.now) (sets_minima (minima_at 0 minima.now))) }
     ensures leaves { lent numbers.new distances.now settings.now
@@ -69,8 +58,7 @@ pub extern "C" fn tides_minima(
 }
 
 // Enter: a tide with its setting, and its distances to the tides already there.
-#[unsafe(no_mangle)]
-pub extern "C" fn tides_enter(
+pub fn tides_enter(
     numbers: &mut [u16],
     distances: &mut [u32],
     settings: &mut [u8],
@@ -96,8 +84,7 @@ pub extern "C" fn tides_enter(
 }
 
 // Withdraw: the tide of this number goes, and is counted for this user.
-#[unsafe(no_mangle)]
-pub extern "C" fn tides_withdraw(
+pub fn tides_withdraw(
     numbers: &mut [u16],
     distances: &mut [u32],
     settings: &mut [u8],
@@ -122,8 +109,7 @@ pub extern "C" fn tides_withdraw(
 }
 
 // Read: the dataset of a study file.
-#[unsafe(no_mangle)]
-pub extern "C" fn tides_read(
+pub fn tides_read(
     numbers: &mut [u16],
     distances: &mut [u32],
     settings: &mut [u8],
@@ -143,8 +129,7 @@ pub extern "C" fn tides_read(
 
 // Centres at g: their number goes into `count`, their tide numbers into `list`; for each tide the nearest centre's block number goes into
 // `nearest`, and its distance into `away`.
-#[unsafe(no_mangle)]
-pub extern "C" fn tides_centres(
+pub fn tides_centres(
     numbers: &[u16],
     distances: &[u32],
     settings: &[u8],
@@ -185,8 +170,7 @@ pub extern "C" fn tides_centres(
 }
 
 // Block: the result is 3 numbers: how many blocks, the radius, the greatest diameter.
-#[unsafe(no_mangle)]
-pub extern "C" fn tides_block(
+pub fn tides_block(
     numbers: &[u16],
     distances: &[u32],
     settings: &[u8],
@@ -224,8 +208,7 @@ pub extern "C" fn tides_block(
 }
 
 // Judge: the result is 2 numbers: 1 and the greatest diameter for yes, 0 and 0 for no.
-#[unsafe(no_mangle)]
-pub extern "C" fn tides_judge(
+pub fn tides_judge(
     numbers: &[u16],
     distances: &[u32],
     settings: &[u8],
@@ -259,9 +242,8 @@ pub extern "C" fn tides_judge(
     }
 }
 
-// Write: the byte length of the study file goes into `result`.
-#[unsafe(no_mangle)]
-pub extern "C" fn tides_write(
+// Write: the byte length of the study file goes into `res`.
+pub fn tides_write(
     numbers: &[u16],
     distances: &[u32],
     settings: &[u8],

@@ -1,13 +1,12 @@
 // A merge for C. Two datasets are only read, and the third is written.
-ghost use Rattle.core.specs.Prelude.{◌≡◌};
+ghost use Rattle.std.specs.Prelude.{◌≡◌};
 ghost use Rattle.c_records.specs.Record.{lent, code};
 ghost use Rattle.c_api.specs.Api.{c_verdict, c_left, lacks_either, merge_of};
 
 use c_records::numbers::{RECORD_SIZE, dataset_of, store_outcome};
 
 // A merge: the third dataset becomes the first and the second merged. Pair q is tide firsts[q] of the first and tide seconds[q] of the second.
-#[unsafe(no_mangle)]
-pub extern "C" fn tides_merge(
+pub fn tides_merge(
     n1: &[u16],
     d1: &[u32],
     s1: &[u8],

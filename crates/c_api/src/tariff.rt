@@ -1,5 +1,5 @@
 // Block with what its blocks cost, for C (document 02, 2.3: tariff for a trial).
-ghost use Rattle.core.specs.Prelude.{◌≡◌, ◌∷◌};
+ghost use Rattle.std.specs.Prelude.{◌≡◌, ◌∷◌};
 ghost use Rattle.priced_blocks.specs.Calls.{prices_blocks};
 ghost use Rattle.c_records.specs.Record.{lent, code};
 ghost use Rattle.c_api.specs.Api.{places, blocks_verdict, blocks_left};
@@ -32,8 +32,7 @@ fn bill_row(blocks: u32, radius: u32, widest: u32, priced: Priced) -> [u32; 12]
 }
 
 // The tariff: the result is 12 numbers: Block's three, the total in pence and the eight settings' shares of it.
-#[unsafe(no_mangle)]
-pub extern "C" fn tides_tariff(
+pub fn tides_tariff(
     numbers: &[u16],
     distances: &[u32],
     settings: &[u8],

@@ -3,74 +3,78 @@
 // wrong, one line about it goes to standard error, and nothing to standard output.
 #![tactic(auto)]
 
-ghost use Rattle.io.specs.Counts.{IsPrefixLen};
+ghost use Rattle.std.specs.Io.{ReadsAtMost};
 
-use libc::{STDERR_FILENO, STDIN_FILENO};
 use merge_text::{Fault, Joined, join};
+use reading::read_full;
+use std::env::Env;
+use std::fs::File;
+use std::io::Write;
+use std::{fs, io};
 use text_report::{say, say_refused, write_front};
 
-// The file that argument i names, opened; below 0 where that can't be done.
-fn open(i: usize) -> i32 {
-    let mut name = io::buffer();
-    let length = os::arg(i, &mut name);
-    os::open_read(&name[..length])
+// The file that argument i names, opened; none where that can't be done.
+fn open(rt: &HostRuntime, i: usize) -> Option<File> {
+    let mut name = [0u8; 4096];
+    let length = rt.arg(i, &mut name).ok()?;
+    let path = str::from_utf8(&name[..length]).ok()?;
+    fs::open(rt, path).ok()
 }
 
 // The file's first bytes, as many as there is room for.
-fn read_file(fd: i32, bytes: &mut [u8]) -> usize
-    ensures { IsPrefixLen result bytes.new }
+fn read_file(mut file: File, bytes: &mut [u8]) -> io::Result<usize>
+    ensures { ReadsAtMost result bytes.new }
 {
-    let n = io::read_full(fd, bytes);
-    libc::close(fd);
-    n
+    read_full(&mut file, bytes)
 }
 
 // A line of the pairs' text, and what is wrong there.
-fn say_fault(line: usize, fault: Fault) {
+fn say_fault<E: Write>(err: &mut E, line: usize, fault: Fault) -> io::Result<()> {
     match fault {
-        Fault::NotANumber => say(line, b"not a number\n"),
-        Fault::TooLarge => say(line, b"number too large\n"),
-        Fault::Missing => say(line, b"number missing\n"),
-        Fault::TooMany => say(line, b"more than two numbers\n"),
-        Fault::TooLong => say(line, b"text too long\n"),
+        Fault::NotANumber => say(err, line, b"not a number\n"),
+        Fault::TooLarge => say(err, line, b"number too large\n"),
+        Fault::Missing => say(err, line, b"number missing\n"),
+        Fault::TooMany => say(err, line, b"more than two numbers\n"),
+        Fault::TooLong => say(err, line, b"text too long\n"),
     }
 }
 
 // As many of the bytes as the merged file has, or what is wrong.
-fn write_report(joined: Joined, bytes: &[u8]) {
+fn write_report<O: Write, E: Write>(
+    out: &mut O,
+    err: &mut E,
+    joined: Joined,
+    bytes: &[u8],
+) -> io::Result<()> {
     match joined {
-        Joined::Done(length) => write_front(bytes, length),
-        Joined::FirstRefused(why) => say_refused(b"first: ", why),
-        Joined::SecondRefused(why) => say_refused(b"second: ", why),
-        Joined::WrongLine(line, fault) => say_fault(line, fault),
-        Joined::Refused(why) => say_refused(b"", why),
+        Joined::Done(length) => write_front(out, bytes, length),
+        Joined::FirstRefused(why) => say_refused(err, b"first: ", why),
+        Joined::SecondRefused(why) => say_refused(err, b"second: ", why),
+        Joined::WrongLine(line, fault) => say_fault(err, line, fault),
+        Joined::Refused(why) => say_refused(err, b"", why),
     }
 }
 
 // The merge of the two opened files.
-fn join_files(first: i32, second: i32) {
+fn join_files(rt: &HostRuntime, first: File, second: File) -> io::Result<()> {
     // one byte more than the longest file decides (`Decided` of merge_text/specs/Limit.antt)
     let mut a = [0u8; 17915];
-    let n = read_file(first, &mut a);
+    let n = read_file(first, &mut a)?;
     let mut b = [0u8; 17915];
-    let m = read_file(second, &mut b);
+    let m = read_file(second, &mut b)?;
     let mut pairs = [0u8; 131073];
-    let count = io::read_full(STDIN_FILENO, &mut pairs);
+    let count = read_full(&mut rt.stdin(), &mut pairs)?;
     let mut file = [0u8; 17914];
     let joined = join(&a[..n], &b[..m], &pairs[..count], &mut file);
-    write_report(joined, &file);
+    write_report(&mut rt.stdout(), &mut rt.stderr(), joined, &file)
 }
 
-fn main() {
-    let first = open(1);
-    if first < 0 {
-        io::write_all(STDERR_FILENO, b"first: cannot be opened\n");
-        return;
-    }
-    let second = open(2);
-    if second < 0 {
-        io::write_all(STDERR_FILENO, b"second: cannot be opened\n");
-        return;
-    }
-    join_files(first, second);
+fn main(rt: HostRuntime) -> io::Result<()> {
+    let Some(first) = open(&rt, 1) else {
+        return rt.stderr().write_all(b"first: cannot be opened\n");
+    };
+    let Some(second) = open(&rt, 2) else {
+        return rt.stderr().write_all(b"second: cannot be opened\n");
+    };
+    join_files(&rt, first, second)
 }

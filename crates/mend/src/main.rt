@@ -3,13 +3,14 @@
 #![tactic(auto)]
 
 use closure_text::{TEXT_ROOM, mend};
-use libc::STDIN_FILENO;
+use reading::read_full;
+use std::io;
 use text_report::write_report;
 
-fn main() {
+fn main(rt: HostRuntime) -> io::Result<()> {
     let mut text = [0u8; 131073];
-    let n = io::read_full(STDIN_FILENO, &mut text);
+    let n = read_full(&mut rt.stdin(), &mut text)?;
     let mut out = [0u8; TEXT_ROOM];
     let mended = mend(&text[..n], &mut out);
-    write_report(mended, &out);
+    write_report(&mut rt.stdout(), &mut rt.stderr(), mended, &out)
 }

@@ -3,20 +3,22 @@
 
 ghost use Rattle.std.specs.Prelude.{◌≤◌};
 
-use libc::{STDIN_FILENO, STDOUT_FILENO};
+use reading::read_full;
+use std::io;
+use std::io::Write;
 
-// The first `length` bytes to standard output.
-fn print(bytes: [u8; 185], length: usize)
+// The first `length` bytes.
+fn print<O: Write>(out: &mut O, bytes: [u8; 185], length: usize) -> io::Result<()>
     requires { length ≤ 185 }
 {
-    io::write_all(STDOUT_FILENO, &bytes[..length]);
+    out.write_all(&bytes[..length])
 }
 
-fn main() {
+fn main(rt: HostRuntime) -> io::Result<()> {
     // one byte more than the longest file decides (`Decided` of tariff_text/specs/Limit.antt)
     let mut input = [0u8; 17915];
-    let count = io::read_full(STDIN_FILENO, &mut input);
+    let count = read_full(&mut rt.stdin(), &mut input)?;
     let text = tariff_text::tariff(&input[..count]);
     let bytes = text.bytes;
-    print(bytes, text.length);
+    print(&mut rt.stdout(), bytes, text.length)
 }

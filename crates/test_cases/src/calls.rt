@@ -15,13 +15,12 @@ fn third(first: u32, second: u32) -> Outcome {
     dataset::enter(two, &mut distances, &mut settings, 1, &[first, second])
 }
 
-pub fn case_7() {
+pub fn case_7() -> Tally {
     tally::new()
         .outcome(third(1, 2), 0)
         .outcome(third(1, 4), 0)
         .pair(third(1, 1), 1, 2)
         .pair(third(1, 5), 1, 2)
-        .print(b"case 7");
 }
 
 // Case 8's file, as it is written and as document 01 has it; then each with its last byte 1.
@@ -74,9 +73,9 @@ fn files(so_far: Tally, file: &[u8], filled: &[u8]) -> Tally {
         .outcome(read(front(file, 6)), 8)
 }
 
-pub fn case_8() {
+pub fn case_8() -> Tally {
     let t = files(written_empty(tally::new()), &NEW, &NEW_FILL);
-    files(t, &OLD, &OLD_FILL).print(b"case 8");
+    files(t, &OLD, &OLD_FILL)
 }
 
 // As many tides as the row is long, each at the row's distances from those before it.
@@ -111,7 +110,7 @@ fn left(
 
 // 120 tides, each at 1 from every other: tide 120 has entered. Another is refused, whatever its setting and row; after user 4 withdraws tide 5,
 // one at 2 from all enters.
-pub fn case_9() {
+pub fn case_9() -> Tally {
     let mut distances = [7u32; 14403];
     let mut settings = [9u8; 123];
     let empty = opened(&mut distances, &mut settings, 1);
@@ -121,5 +120,5 @@ pub fn case_9() {
     let gone = dataset::withdraw(full, &mut distances, &mut settings, 4, 5);
     let between = left(before, gone, 0, 119, 1, &distances, 0);
     let again = dataset::enter(gone.dataset, &mut distances, &mut settings, 1, &[2; 119]);
-    left(between, again, 0, MAX_TIDES, 1, &distances, 2).print(b"case 9");
+    left(between, again, 0, MAX_TIDES, 1, &distances, 2)
 }

@@ -85,7 +85,7 @@ fn approves(small: Small, list: [u8; 7], expected: u32) -> bool {
     }
 }
 
-pub fn case_1() {
+pub fn case_1() -> Tally {
     let small = line(6, [2, 5, 0, 1, 3, 7, 0], 3);
     let t = blocks(
         tally::new(),
@@ -100,7 +100,6 @@ pub fn case_1() {
     );
     t.see(!has_assignment(small, 3))
         .see(has_assignment(small, 4))
-        .print(b"case 1");
 }
 
 // Two settings, one tide of each to a block.
@@ -118,7 +117,7 @@ fn pairs(b0: u8) -> Small {
 }
 
 // With b0 = 1, which Minima takes as 2 (document 02, 2.2), Block gives the same.
-pub fn case_2() {
+pub fn case_2() -> Tally {
     let expected = Expected {
         count: 2,
         radius: 1,
@@ -126,11 +125,11 @@ pub fn case_2() {
         diameters: [1, 1, 0],
         list: [1, 1, 2, 2, 0, 0, 0],
     };
-    blocks(blocks(tally::new(), pairs(2), expected), pairs(1), expected).print(b"case 2");
+    blocks(blocks(tally::new(), pairs(2), expected), pairs(1), expected)
 }
 
 // Cases 3, 4 and 5 hold a duplicate, so that they come in by file (document 02, 2.8).
-pub fn case_3() {
+pub fn case_3() -> Tally {
     let small = line(4, [2, 0, 2, 4, 0, 0, 0], 2);
     let t = blocks(
         tally::new(),
@@ -145,10 +144,9 @@ pub fn case_3() {
     );
     t.see(approves(small, [1, 1, 2, 2, 0, 0, 0], 2))
         .see(has_duplicate(small))
-        .print(b"case 3");
 }
 
-pub fn case_4() {
+pub fn case_4() -> Tally {
     let small = line(5, [0, 10, 5, 5, 5, 0, 0], 2);
     blocks(
         tally::new().see(has_duplicate(small)),
@@ -161,10 +159,9 @@ pub fn case_4() {
             list: [1, 2, 1, 1, 2, 0, 0],
         },
     )
-    .print(b"case 4");
 }
 
-pub fn case_5() {
+pub fn case_5() -> Tally {
     let small = line(3, [0; 7], 1);
     let t = blocks(
         tally::new().see(has_duplicate(small)),
@@ -188,10 +185,9 @@ pub fn case_5() {
             list: [1, 2, 0, 0, 0, 0, 0],
         },
     )
-    .print(b"case 5");
 }
 
-pub fn case_6() {
+pub fn case_6() -> Tally {
     let t = refused(tally::new(), line(2, [0, 5, 0, 0, 0, 0, 0], 3), 25);
     blocks(
         t,
@@ -204,7 +200,6 @@ pub fn case_6() {
             list: [1, 1, 0, 0, 0, 0, 0],
         },
     )
-    .print(b"case 6");
 }
 
 // Three blocks of two tides. Tide 4 is at 30 from block 2's centre, at 50 from block 3's and at 60 from block 1's. With it in block 2, as
@@ -226,7 +221,7 @@ fn second_choice(so_far: Tally) -> Tally {
 
 // Document 02, 2.6. In the first study tides 3 and 4 are at 1 from block 2's centre and at 40 from block 1's; by number the list would be
 // 1 2 1 2. In the second tide 4 is at 1 from block 1's centre; by number the list would be 1 2 1 1 2 2.
-pub fn nearest_first() {
+pub fn nearest_first() -> Tally {
     let one = blocks(
         tally::new(),
         line(4, [0, 41, 40, 40, 0, 0, 0], 2),
@@ -249,5 +244,5 @@ pub fn nearest_first() {
             list: [1, 2, 2, 1, 2, 1, 0],
         },
     );
-    second_choice(two).print(b"nearest first");
+    second_choice(two)
 }

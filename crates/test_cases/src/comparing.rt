@@ -1,5 +1,7 @@
 // Block beside the plain blocker: answer, list, records, and the places past the last tide and block.
 use blocking::records::block_by_value;
+use std::io;
+use std::io::Write;
 use study::{BlockRecord, Blocked, MAX_TIDES, wide};
 use test_exhaustive::centres::Centres;
 use test_exhaustive::exhaustive::{Order, Plain};
@@ -172,16 +174,16 @@ impl Compared {
         }
     }
 
-    pub fn print(self) {
-        self.agreed.print(b"block as the plain blocker");
-        self.no_tides.print(b"with no tides");
-        self.too_few.print(b"with too few tides");
-        self.several.print(b"with several blocks");
+    pub fn print<O: Write>(self, out: &mut O) -> io::Result<()> {
+        self.agreed.print(out, b"block as the plain blocker")?;
+        self.no_tides.print(out, b"with no tides")?;
+        self.too_few.print(out, b"with too few tides")?;
+        self.several.print(out, b"with several blocks")?;
         self.gaps
-            .print(b"with no assignment at a greater candidate");
-        self.raised.print(b"with b0 below the sum of the b's");
-        self.by_number.print(b"with another list by number");
-        self.by_file.print(b"with a duplicate, by file");
+            .print(out, b"with no assignment at a greater candidate")?;
+        self.raised.print(out, b"with b0 below the sum of the b's")?;
+        self.by_number.print(out, b"with another list by number")?;
+        self.by_file.print(out, b"with a duplicate, by file")
     }
 }
 

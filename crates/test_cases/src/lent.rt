@@ -176,14 +176,12 @@ fn refused(number: u32) -> Expected {
 }
 
 // Four tides; seven with b0 = 8, and with a record too few.
-pub fn block_trials() {
+pub fn block_trials() -> Tally {
     let t = blocks(tally::new(), study(4, 2), done());
-    blocks(blocks(t, study(7, 8), refused(25)), study(7, 2), refused(1)).print(b"lent records");
+    blocks(blocks(t, study(7, 8), refused(25)), study(7, 2), refused(1))
 }
 
-pub fn tariff_trials() {
+pub fn tariff_trials() -> Tally {
     let t = prices(tally::new(), study(4, 2), done());
-    prices(prices(t, study(7, 8), refused(25)), study(7, 2), refused(1)).print(
-        b"lent records of the tariff",
-    );
+    prices(prices(t, study(7, 8), refused(25)), study(7, 2), refused(1))
 }

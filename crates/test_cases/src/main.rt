@@ -8,19 +8,22 @@ mod comparing;
 mod lent;
 mod part;
 
-fn main() {
-    cases::case_1();
-    cases::case_2();
-    cases::case_3();
-    cases::case_4();
-    cases::case_5();
-    cases::case_6();
-    calls::case_7();
-    calls::case_8();
-    calls::case_9();
-    cases::nearest_first();
-    lent::block_trials();
-    lent::tariff_trials();
-    part::trials();
-    comparing::trials(6000).print();
+use std::io;
+
+fn main(rt: HostRuntime) -> io::Result<()> {
+    let mut out = rt.stdout();
+    cases::case_1().print(&mut out, b"case 1")?;
+    cases::case_2().print(&mut out, b"case 2")?;
+    cases::case_3().print(&mut out, b"case 3")?;
+    cases::case_4().print(&mut out, b"case 4")?;
+    cases::case_5().print(&mut out, b"case 5")?;
+    cases::case_6().print(&mut out, b"case 6")?;
+    calls::case_7().print(&mut out, b"case 7")?;
+    calls::case_8().print(&mut out, b"case 8")?;
+    calls::case_9().print(&mut out, b"case 9")?;
+    cases::nearest_first().print(&mut out, b"nearest first")?;
+    lent::block_trials().print(&mut out, b"lent records")?;
+    lent::tariff_trials().print(&mut out, b"lent records of the tariff")?;
+    part::trials().print(&mut out, b"returned part")?;
+    comparing::trials(6000).print(&mut out)
 }

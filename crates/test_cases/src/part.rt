@@ -76,6 +76,6 @@ fn refused(so_far: Tally) -> Tally {
         .see(same_front(&away, &[172, 172, 172]))
 }
 
-pub fn trials() {
-    refused(accepted(tally::new())).print(b"returned part");
+pub fn trials() -> Tally {
+    refused(accepted(tally::new()))
 }

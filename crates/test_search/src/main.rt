@@ -11,6 +11,8 @@ ghost use Rattle.test_search.specs.Ranges.{Between, FilledTables, Modest, DrawnQ
 
 use crate::plain::{Question, exists, is_assignment};
 use matching::search;
+use std::io;
+use std::io::Write;
 use std::num::wrapping_add_u64;
 use study::{MAX_TIDES, Minima, TABLE_SIZE};
 use test_random::{draw, next};
@@ -162,13 +164,12 @@ fn tally(count: u64, r: u8, k: u8) -> u64 {
     }
 }
 
-fn print(name: &[u8], count: u64) {
-    io::write_all(1, name);
-    io::print_decimal(1, count);
-    io::write_all(1, b"\n");
+fn print<O: Write>(out: &mut O, name: &[u8], count: u64) -> io::Result<()> {
+    out.write_all(name)?;
+    writeln!(out, "{count}")
 }
 
-fn main() {
+fn main(rt: HostRuntime) -> io::Result<()> {
     let mut yes: u64 = 0;
     let mut no: u64 = 0;
     let mut wrong: u64 = 0;
@@ -183,7 +184,8 @@ fn main() {
         wrong = tally(tally(wrong, first, 2), second, 2);
         i += 1;
     }
-    print(b"yes ", yes);
-    print(b"no ", no);
-    print(b"wrong ", wrong);
+    let mut out = rt.stdout();
+    print(&mut out, b"yes ", yes)?;
+    print(&mut out, b"no ", no)?;
+    print(&mut out, b"wrong ", wrong)
 }

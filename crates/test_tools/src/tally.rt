@@ -1,4 +1,6 @@
 // Counts of trials, and of those that came out as expected.
+use std::io;
+use std::io::Write;
 use study::refusals::number_of;
 use study::{Answer, Outcome, Refusal};
 
@@ -65,12 +67,10 @@ impl Tally {
         self.see(false)
     }
 
-    pub fn print(self, name: &[u8]) {
-        io::write_all(1, name);
-        io::write_all(1, b" ");
-        io::print_decimal(1, self.right as u64);
-        io::write_all(1, b" of ");
-        io::print_decimal(1, self.tried as u64);
-        io::write_all(1, b"\n");
+    pub fn print<O: Write>(self, out: &mut O, name: &[u8]) -> io::Result<()> {
+        let right = self.right;
+        let tried = self.tried;
+        out.write_all(name)?;
+        writeln!(out, " {right} of {tried}")
     }
 }

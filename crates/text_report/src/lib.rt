@@ -1,25 +1,23 @@
 // What a program that reads a text writes: what it made of the text, or what is wrong with the text.
 #![tactic(auto)]
 
-use libc::{STDERR_FILENO, STDOUT_FILENO};
+use std::io;
+use std::io::Write;
 use study::Refusal;
 use study::refusals::number_of;
 use study_text::Packed;
 
 // A line of the text, and what is wrong there.
-pub fn say(line: usize, words: &[u8]) {
-    io::write_all(STDERR_FILENO, b"line ");
-    io::print_decimal(STDERR_FILENO, line as u64);
-    io::write_all(STDERR_FILENO, b": ");
-    io::write_all(STDERR_FILENO, words);
+pub fn say<E: Write>(err: &mut E, line: usize, words: &[u8]) -> io::Result<()> {
+    write!(err, "line {line}: ")?;
+    err.write_all(words)
 }
 
 // What is refused, and the refusal's number.
-pub fn say_refused(what: &[u8], why: Refusal) {
-    io::write_all(STDERR_FILENO, what);
-    io::write_all(STDERR_FILENO, b"refused ");
-    io::print_decimal(STDERR_FILENO, number_of(why) as u64);
-    io::write_all(STDERR_FILENO, b"\n");
+pub fn say_refused<E: Write>(err: &mut E, what: &[u8], why: Refusal) -> io::Result<()> {
+    let number = number_of(why);
+    err.write_all(what)?;
+    writeln!(err, "refused {number}")
 }
 
 // The first n bytes; all where there are fewer.
@@ -30,23 +28,28 @@ fn front(bytes: &[u8], n: usize) -> &[u8] {
     bytes
 }
 
-// The first n bytes to standard output; all where there are fewer.
-pub fn write_front(bytes: &[u8], n: usize) {
-    io::write_all(STDOUT_FILENO, front(bytes, n));
+// The first n bytes; all where there are fewer.
+pub fn write_front<O: Write>(out: &mut O, bytes: &[u8], n: usize) -> io::Result<()> {
+    out.write_all(front(bytes, n))
 }
 
-// As many of the bytes as were made of the text, to standard output. Where the text is wrong, one line about it goes to standard error,
-// and nothing to standard output.
-pub fn write_report(packed: Packed, bytes: &[u8]) {
+// As many of the bytes as were made of the text, to the output. Where the text is wrong, one line about it goes to the error output,
+// and nothing to the output.
+pub fn write_report<O: Write, E: Write>(
+    out: &mut O,
+    err: &mut E,
+    packed: Packed,
+    bytes: &[u8],
+) -> io::Result<()> {
     match packed {
-        Packed::Done(length) => write_front(bytes, length),
+        Packed::Done(length) => write_front(out, bytes, length),
         Packed::Refused(line, why) => {
-            say(line, b"");
-            say_refused(b"", why);
+            say(err, line, b"")?;
+            say_refused(err, b"", why)
         }
-        Packed::NotANumber(line) => say(line, b"not a number\n"),
-        Packed::TooLarge(line) => say(line, b"number too large\n"),
-        Packed::Missing(line) => say(line, b"number missing\n"),
-        Packed::TooLong(line) => say(line, b"text too long\n"),
+        Packed::NotANumber(line) => say(err, line, b"not a number\n"),
+        Packed::TooLarge(line) => say(err, line, b"number too large\n"),
+        Packed::Missing(line) => say(err, line, b"number missing\n"),
+        Packed::TooLong(line) => say(err, line, b"text too long\n"),
     }
 }

@@ -4,4 +4,5 @@ use borrow.Author.Rules.{rules}
 use Rattle.sheet_text.proofs.sheet_text.Goals as goal
 
 pub returns-clause-text : goal.returns-clause-text
-returns-clause-text c = (c.put_sheet-length.ensures.0, puts_text c.put_sheet-length.ensures.1)
+returns-clause-text c =
+    puts_text c.put_sheet-length.ensures.1

@@ -14,33 +14,24 @@ use Rattle.sheet_text.proofs.NumberLaws.{decimal_short}
 use Rattle.sheet_text.proofs.LineLaws.{spaced_none, spaced_more, spaced_done}
 use Rattle.sheet_text.proofs.lines.put_counts.Goals as goal
 
--- TODO helper over c
--- -- the turn of a count
--- abbrev turn_of : tie.After-put-byte invariant_loop decreases_loop → tie.At-loop invariant_loop decreases_loop
--- turn_of c = c.before.before.before
-
--- TODO helper over c
--- -- the count
--- abbrev count_of : tie.After-put-byte invariant_loop decreases_loop → ℕ
--- count_of c = get_or (turn_of c).before.before.args.t3 (turn_of c).loop.i 0
-
--- TODO helper over c
--- short : (c : tie.After-put-byte invariant_loop decreases_loop) → length (decimal (count_of c)) ≤ 5
--- short c =
---     let fits : Fits w16 (count_of c) = search rules in
---     decimal_short 4 (count_of c) (omega (arith, fits))
-
 pub loop-i-init : goal.loop-i-init
-loop-i-init c = ((omega arith, omega arith), spaced_none c.args.t3 (omega arith))
+loop-i-init c = ((omega arith, omega arith), spaced_none c.args.counts (omega arith))
 
 pub put_number-end-requires : goal.put_number-end-requires
 put_number-end-requires c =
-    omega (arith, short c, c.loop-i.invariant.1.same)
+    let count_of : ℕ = get_or c.args.counts c.loop-i.i 0 in
+    let short : length (decimal count_of) ≤ 5 =
+    let fits : Fits w16 count_of = search rules in
+    decimal_short 4 count_of (omega (arith, fits)) in
+    omega (arith, short, c.loop-i.invariant.1.same)
 
 pub loop-i-preserved : goal.loop-i-preserved
 loop-i-preserved c =
-    let turn = turn_of c in
-    let counts = turn.before.before.args.t3 in
+    let count_of : ℕ = get_or c.args.counts c.loop-i.i 0 in
+    let short : length (decimal count_of) ≤ 5 =
+    let fits : Fits w16 count_of = search rules in
+    decimal_short 4 count_of (omega (arith, fits)) in
+    let counts = c.args.counts in
     let four : length counts ≡ 4 = search rules in
-    let more = spaced_more counts turn.loop.i (omega arith) turn.loop.inv.1 c.put_byte-after_blank.ensures c.put_number-end.ensures in
-    ((omega arith, omega (arith, short c)), more)
+    let more = spaced_more counts c.loop-i.i (omega arith) c.loop-i.invariant.1 c.put_byte-after_blank.ensures c.put_number-end.ensures in
+    ((omega arith, omega (arith, short)), more)

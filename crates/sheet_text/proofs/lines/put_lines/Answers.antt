@@ -12,12 +12,12 @@ use Rattle.sheet_text.proofs.PuttingLaws.{puts_as}
 use Rattle.sheet_text.proofs.lines.put_lines.Goals as goal
 
 pub loop-i-init : goal.loop-i-init
-loop-i-init c = ((omega arith, omega arith, omega arith), lines_none line c.args.t4 (omega arith))
+loop-i-init c = ((omega arith, omega arith, omega arith), lines_none line c.args.records (omega arith))
 
 pub loop-i-preserved : goal.loop-i-preserved
 loop-i-preserved c =
     let turn = c.loop-i in
-    let records = c.args.t4 in
+    let records = c.args.records in
     let long : length records ≡ 120 = search rules in
     let more = lines_more line records _ turn.i (omega arith) turn.invariant.1 c.put_line-end.ensures.1 in
     ((omega arith, omega arith, omega arith), more)

@@ -6,10 +6,10 @@ use borrow.Author.Rules.{rules}
 use Rattle.sheet_text.proofs.putting.put_refusal.Goals as goal
 
 pub put_named-requires : goal.put_named-requires
-put_named-requires c = omega (arith, refused_short c.number_of.result (omega (arith, c.number_of.type-inv)))
+put_named-requires c = omega (arith, refused_short c.number_of.result (omega (arith, c.number_of.type_inv)))
 
 pub returns : goal.returns
 returns c =
     let n = c.number_of in
     let p = refused_put (numbered c.args.why) n.ensures c.put_named.ensures in
-    (omega (arith, p.ends, refused_short n.result (omega (arith, n.type-inv))), p)
+    (omega (arith, p.ends, refused_short n.result (omega (arith, n.type_inv))), p)
