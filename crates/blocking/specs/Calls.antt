@@ -1,5 +1,5 @@
 -- Centres, Block and Judge, each as one value; what it answers and leaves is said of every call in access. Assumes nothing.
-use Rattle.core.specs.Prelude.{ℕ, List, [], ◌∷◌, length}
+use Rattle.std.specs.Prelude.{ℕ, List, [], ◌∷◌, length}
 use Rattle.lists.specs.Lists.{overwrite, over}
 use Rattle.study.specs.declared.BlockRecord.{BlockRecord}
 use Rattle.study.specs.declared.Blocked.{Blocked}

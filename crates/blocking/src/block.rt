@@ -1,5 +1,5 @@
 // Block: the core, by plain rows of numbers.
-ghost use Rattle.core.specs.Prelude.{◌≡◌};
+ghost use Rattle.std.specs.Prelude.{◌≡◌};
 ghost use Rattle.study.specs.Refusals.{verdict_of};
 ghost use Rattle.validity.specs.Memory.{state_of};
 ghost use Rattle.access.specs.Calls.{reply, list_after};

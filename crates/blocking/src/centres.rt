@@ -1,5 +1,5 @@
 // Centres at a radius, and each tide's nearest of them.
-ghost use Rattle.core.specs.Prelude.{◌≡◌, ℕ, [], ◌∷◌, length, drop};
+ghost use Rattle.std.specs.Prelude.{◌≡◌, ℕ, [], ◌∷◌, length, drop};
 ghost use Rattle.study.specs.Refusals.{verdict_of};
 ghost use Rattle.study.specs.Numbers.{refusal_number};
 ghost use Rattle.validity.specs.Memory.{state_of};

@@ -1,5 +1,5 @@
 // What an accepted Block writes and answers.
-ghost use Rattle.core.specs.Prelude.{◌≡◌, length};
+ghost use Rattle.std.specs.Prelude.{◌≡◌, length};
 ghost use Rattle.validity.specs.Memory.{state_of};
 ghost use Rattle.access.specs.Calls.{reply, list_after};
 ghost use Rattle.blocking.specs.Calls.{makes_blocks, blocked_reply};

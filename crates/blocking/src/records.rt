@@ -1,5 +1,5 @@
 // Block's records in a lent slice. The core computes plain rows; the functions here are thin.
-ghost use Rattle.core.specs.Prelude.{◌≡◌};
+ghost use Rattle.std.specs.Prelude.{◌≡◌};
 ghost use Rattle.validity.specs.Memory.{state_of};
 ghost use Rattle.access.specs.Calls.{reply, list_after, records_after};
 ghost use Rattle.blocking.specs.Calls.{makes_blocks, blocked_reply};
