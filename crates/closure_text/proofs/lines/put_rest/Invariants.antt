@@ -1,0 +1,17 @@
+-- `put_rest` meets its contract. The loop's invariant: the first i numbers are put, of at most seven digits and a blank each; length - i falls.
+-- Assumes nothing.
+use Prim.Native.Nat.{ℕ, ◌+◌, ◌-◌, ◌*◌, ◌≤◌}
+use native.Mathlib.Omega.{arith}
+use mathlib.Core.List.{flat_map}
+use lib.ListN.{length, take, get_or}
+use Rattle.sheet_text.specs.Text.{decimal, spaced}
+use Rattle.sheet_text.specs.Putting.{PutText}
+use Rattle.sheet_text.proofs.LineLaws.{spaced_none, spaced_more, spaced_done}
+use Rattle.closure_text.proofs.LineLaws.{number_short}
+use Rattle.closure_text.proofs.lines.put_rest.Given as goal
+
+abbrev pub invariant-loop-i : goal.invariant-loop-i
+invariant-loop-i l = (l.i ≤ length l.rest) × (l.end ≤ l.at + 8 * l.i) × PutText l.initial.out l.at (flat_map spaced (take l.i l.rest)) l.end l.out
+
+abbrev pub decreases-loop-i : goal.decreases-loop-i
+decreases-loop-i l = length l.rest - l.i

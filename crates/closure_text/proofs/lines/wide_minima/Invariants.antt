@@ -1,0 +1,17 @@
+-- `wide_minima` meets its contract. The loop's invariant: the first i numbers stand in place of zeros; 8 - i falls. Assumes nothing.
+use borrow.Author.Rules.{rules}
+use native.Mathlib.Omega.{arith}
+use Prim.Native.Nat.{◌-◌, ◌≤◌}
+use mathlib.Core.Path.{◌≡◌, sym, subst}
+use lib.ListN.{length, get_or, replicate}
+use Rattle.lists.specs.Lists.{overwrite}
+use Rattle.lists.proofs.Tables.{overwrite_none, overwrite_step, overwrite_done}
+use Rattle.metric_closure.specs.Tables.{InRange}
+use Rattle.closure_text.proofs.LineLaws.{all_eight, range_none, range_more}
+use Rattle.closure_text.proofs.lines.wide_minima.Given as goal
+
+abbrev pub invariant-loop-i : goal.invariant-loop-i
+invariant-loop-i l = (l.i ≤ 8) × (l.row ≡ overwrite l.i (λ i. get_or l.b i 0) (replicate 8 0)) × InRange l.i l.b
+
+abbrev pub decreases-loop-i : goal.decreases-loop-i
+decreases-loop-i l = 8 - l.i

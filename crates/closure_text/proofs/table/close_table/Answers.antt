@@ -1,0 +1,19 @@
+-- `close_table` meets its contract: such a table is not refused. Assumes nothing.
+use borrow.Author.Rules.{rules}
+use Rattle.closure_text.proofs.RowLaws.{told_pairs, pairs_few, never_refused, closed_left}
+use Rattle.closure_text.proofs.table.close_table.Goals as goal
+
+pub overflow_cast-result : goal.overflow_cast-result
+overflow_cast-result c =
+    let pre = c.requires in
+    record { fits = pairs_few _ pre c.close-closed.ensures.answer c.in-Done.is }
+
+pub returns-in-Done : goal.returns-in-Done
+returns-in-Done c =
+    let pre = c.requires in
+    let told = (c.close-closed.ensures.answer, c.close-closed.ensures.leaves) in
+    (told_pairs _ pre told.0 c.in-Done.is, closed_left c.close-closed.result pre told.0 told.1)
+
+pub returns-in-Refused : goal.returns-in-Refused
+returns-in-Refused c =
+    never_refused _ c.requires c.close-closed.ensures.answer c.in-Refused.is

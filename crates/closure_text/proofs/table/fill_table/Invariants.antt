@@ -1,0 +1,18 @@
+-- `fill_table` meets its contract. The loop's invariant: the places passed so far hold the distances, the rest is as before; n · n - p falls.
+-- Assumes nothing.
+use Prim.Native.Nat.{◌*◌, ◌/◌, ◌%◌, ◌≤◌, ◌-◌}
+use native.Mathlib.Omega.{arith}
+use mathlib.Core.Path.{◌≡◌, refl}
+use lib.ListN.{length, length-set}
+use Rattle.lists.specs.Lists.{overwrite}
+use Rattle.lists.proofs.Tables.{overwrite_none, overwrite_step, overwrite_done}
+use Rattle.metric_closure.proofs.TableLaws.{few_places, in_row}
+use Rattle.closure_text.specs.Rows.{lower_cell}
+use Rattle.closure_text.proofs.table.fill_table.Given as goal
+
+abbrev pub invariant-loop-p : goal.invariant-loop-p
+invariant-loop-p l =
+    (l.p ≤ l.n * l.n) × (l.table ≡ overwrite l.p (λ p. lower_cell l.distances (p / l.n) (p % l.n)) l.initial.table) × (length l.table ≡ length l.initial.table)
+
+abbrev pub decreases-loop-p : goal.decreases-loop-p
+decreases-loop-p l = l.n * l.n - l.p
