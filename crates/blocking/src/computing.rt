@@ -8,7 +8,7 @@ ghost use Rattle.blocking.specs.Rows.{Lending, RowsOf};
 
 use crate::block::{BlockRows, Computed};
 use crate::front::put_centres;
-use blocking_core::core::block_rows;
+use blocking_core::kernel::block_rows;
 use study::{Blocked, Dataset, MAX_TIDES};
 
 // What an accepted Block answers, the rows of its blocks, and its list.

@@ -1,5 +1,5 @@
 -- From the reply and the rows of a core that divides into blocks to what the call for C answers and writes. Assumes nothing.
-use Rattle.core.specs.Prelude.{◌≡◌, ℕ, ◌<◌, ◌≤◌, min, true, ◌||◌, List, [], ◌∷◌, map, length, get_or, replicate}
+use Rattle.std.specs.Prelude.{◌≡◌, ℕ, ◌<◌, ◌≤◌, min, true, ◌||◌, List, [], ◌∷◌, map, length, get_or, replicate}
 use native.Mathlib.Omega.{arith}
 use mathlib.Core.Path.{refl, sym, ap, ◌∙◌, subst}
 use mathlib.Core.Logic.{⊎_elim}

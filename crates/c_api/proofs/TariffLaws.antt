@@ -1,5 +1,5 @@
 -- From the bill of the tariff's core to Block's reply and to the twelve numbers that are written. Assumes nothing.
-use Rattle.core.specs.Prelude.{◌≡◌, ℕ, List, [], ◌∷◌, length, get_or, take, drop, replicate}
+use Rattle.std.specs.Prelude.{◌≡◌, ℕ, List, [], ◌∷◌, length, get_or, take, drop, replicate}
 use native.Mathlib.Omega.{arith}
 use mathlib.Core.Path.{refl, sym, ap, ◌∙◌}
 use lib.ListN.{length-replicate}
@@ -20,7 +20,7 @@ use Rattle.blocking.specs.declared.block.BlockRows.{BlockRows}
 use Rattle.blocking.specs.Calls.{figure_numbers, makes_blocks, blocked_reply}
 use Rattle.blocking.specs.Rows.{no_record, Lending, RowsOf}
 use Rattle.pricing.specs.Tariff.{shares}
-use Rattle.priced_blocks.specs.declared.core.Priced.{Priced}
+use Rattle.priced_blocks.specs.declared.kernel.Priced.{Priced}
 use Rattle.priced_blocks.specs.Calls.{price_numbers, prices_blocks, with_bill, Billed}
 use Rattle.priced_blocks.proofs.ReplyLaws.{as_block, same_records}
 use Rattle.c_records.proofs.RecordLaws.{front_written}

@@ -1,5 +1,5 @@
 -- What the calls for C answer and leave. Assumes nothing.
-use Rattle.core.specs.Prelude.{ℕ, min, Bool, cond, ◌||◌, List, [], ◌∷◌, map, length, nat_lt, slice_index}
+use Rattle.std.specs.Prelude.{ℕ, min, Bool, cond, ◌||◌, List, [], ◌∷◌, map, length, nat_lt, slice_index}
 use Rattle.lists.specs.Lists.{tabulate, over}
 use Rattle.study.specs.declared.BlockRecord.{BlockRecord}
 use Rattle.study.specs.Refusals.{number, Verdict, refused, settled}

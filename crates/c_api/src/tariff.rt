@@ -7,7 +7,7 @@ ghost use Rattle.c_api.specs.Api.{places, blocks_verdict, blocks_left};
 use c_records::code::refusal_code;
 use c_records::numbers::{RECORD_SIZE, dataset_of};
 use c_records::rows::{least, put_columns, put_numbers};
-use priced_blocks::core::{Priced, price_core};
+use priced_blocks::kernel::{Priced, price_core};
 use study::Blocked;
 
 // The numbers of an accepted tariff in one row.

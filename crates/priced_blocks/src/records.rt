@@ -1,11 +1,11 @@
 // The tariff with its records in a lent slice: Block's thin function, over the core that prices.
-ghost use Rattle.core.specs.Prelude.{◌≡◌};
+ghost use Rattle.std.specs.Prelude.{◌≡◌};
 ghost use Rattle.validity.specs.Memory.{state_of};
 ghost use Rattle.access.specs.Calls.{list_after, records_after};
 ghost use Rattle.blocking.specs.Calls.{};
 ghost use Rattle.priced_blocks.specs.Calls.{prices_blocks, Billed};
 
-use crate::core::{Priced, price_core};
+use crate::kernel::{Priced, price_core};
 use blocking::storing::put_records;
 use study::{BlockRecord, Dataset};
 

@@ -9,7 +9,7 @@
 --     says     what the call's contract says at its end
 --     CALL     the call's name
 -- Assumes nothing.
-use Rattle.core.specs.Prelude.{◌≡◌, ℕ, T as Holds, List, [], ◌∷◌, map, length, replicate}
+use Rattle.std.specs.Prelude.{◌≡◌, ℕ, T as Holds, List, [], ◌∷◌, map, length, replicate}
 use mathlib.Core.Path.{refl, ◌∙◌, subst}
 use lib.Dec.{lit<}
 use lib.ListN.{length-map}

@@ -1,6 +1,6 @@
 // Block and the tariff (document 02, 2.3) with six lent records of known contents, and a list of nine places that hold 170.
 use blocking::records::block;
-use priced_blocks::core::Priced;
+use priced_blocks::kernel::Priced;
 use priced_blocks::records::price_blocks;
 use study::{BlockRecord, Blocked, Dataset, Minima};
 use test_exhaustive::small::{Small, table};

@@ -1,6 +1,6 @@
 -- The eight shares in order. No loop. Assumes nothing.
 use borrow.Author.Rules.{rules}
-use Rattle.core.specs.Prelude.{◌≡◌, ◌∷◌, length}
+use Rattle.std.specs.Prelude.{◌≡◌, ◌∷◌, length}
 use mathlib.Core.Path.{ap}
 use Rattle.c_api.proofs.TariffLaws.{eight_places}
 use Rattle.c_api.proofs.tariff.bill_row.Statement.{statement}

@@ -2,13 +2,13 @@
 -- LentRecords). Assumes nothing.
 use mathlib.Core.Path.{refl}
 use Rattle.priced_blocks.specs.Calls.{prices_blocks, Billed}
-use Rattle.priced_blocks.specs.contracts.core.Priced as N
-use Rattle.priced_blocks.proofs.core.Priced.TheLaws as N'
-use Rattle.priced_blocks.specs.contracts.core.PricedRows as D
-use Rattle.priced_blocks.proofs.core.PricedRows.TheLaws as D'
-use Rattle.priced_blocks.proofs.core.price_core.Symbol as core_def
-use Rattle.priced_blocks.proofs.core.price_core.Symbol.{name as #price-core}
-use Rattle.priced_blocks.proofs.core.price_core.Met as core_thm
+use Rattle.priced_blocks.specs.contracts.kernel.Priced as N
+use Rattle.priced_blocks.proofs.kernel.Priced.TheLaws as N'
+use Rattle.priced_blocks.specs.contracts.kernel.PricedRows as D
+use Rattle.priced_blocks.proofs.kernel.PricedRows.TheLaws as D'
+use Rattle.priced_blocks.proofs.kernel.price_core.Symbol as core_def
+use Rattle.priced_blocks.proofs.kernel.price_core.Symbol.{name as #price-core}
+use Rattle.priced_blocks.proofs.kernel.price_core.Met as core_thm
 use Rattle.priced_blocks.specs.contracts.records.price_blocks.Key.{name as #price-blocks}
 use Rattle.priced_blocks.proofs.records.price_blocks.Statement as stated
 use Rattle.priced_blocks.proofs.records.price_blocks.Code as code

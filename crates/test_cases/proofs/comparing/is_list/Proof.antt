@@ -1,6 +1,6 @@
 -- `is_list` is safe and ends: the list keeps its length; n - t falls. Assumes nothing.
 use native.Mathlib.Omega.{arith}
-use Rattle.core.specs.Prelude.{◌≡◌, ◌-◌, ◌≤◌, length}
+use Rattle.std.specs.Prelude.{◌≡◌, ◌-◌, ◌≤◌, length}
 use borrow.Author.Rules.{rules}
 use Rattle.test_cases.proofs.comparing.is_list.Statement.{statement}
 use Rattle.test_cases.proofs.comparing.is_list.Tie as tie

@@ -1,6 +1,6 @@
 -- `right_records` is safe and ends: 120 - m falls. Assumes nothing.
 use borrow.Author.Rules.{rules}
-use Rattle.core.specs.Prelude.{◌-◌, ◌≤◌}
+use Rattle.std.specs.Prelude.{◌-◌, ◌≤◌}
 use Rattle.test_cases.proofs.comparing.right_records.Statement.{statement}
 use Rattle.test_cases.proofs.comparing.right_records.Tie as tie
 

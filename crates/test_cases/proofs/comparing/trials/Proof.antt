@@ -1,6 +1,6 @@
 -- `trials` is safe and ends: count - i falls. Assumes nothing.
 use borrow.Author.Rules.{rules}
-use Rattle.core.specs.Prelude.{◌-◌, ◌≤◌}
+use Rattle.std.specs.Prelude.{◌-◌, ◌≤◌}
 use Rattle.test_cases.proofs.comparing.trials.Statement.{statement}
 use Rattle.test_cases.proofs.comparing.trials.Tie as tie
 

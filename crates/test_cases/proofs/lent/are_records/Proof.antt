@@ -1,6 +1,6 @@
 -- `are_records` is safe and ends: 6 - m falls. Assumes nothing.
 use borrow.Author.Rules.{rules}
-use Rattle.core.specs.Prelude.{◌-◌, ◌≤◌}
+use Rattle.std.specs.Prelude.{◌-◌, ◌≤◌}
 use Rattle.test_cases.proofs.lent.are_records.Statement.{statement}
 use Rattle.test_cases.proofs.lent.are_records.Tie as tie
 

@@ -1,6 +1,6 @@
 -- `lend_block` is safe and ends: an instance of the walk of functions that lend six records (SixLent). Assumes nothing.
 use mathlib.Core.Path.{refl}
-use Rattle.core.specs.Prelude.{[], ◌∷◌}
+use Rattle.std.specs.Prelude.{[], ◌∷◌}
 use Rattle.study.specs.contracts.Blocked as N
 use Rattle.study.proofs.Blocked.TheLaws as N'
 use Rattle.blocking.proofs.LentRecords.{enum_type}

@@ -1,8 +1,8 @@
 -- `lend_tariff` is safe and ends: an instance of the walk of functions that lend six records (SixLent). Assumes nothing.
 use mathlib.Core.Path.{refl}
-use Rattle.core.specs.Prelude.{[], ◌∷◌}
-use Rattle.priced_blocks.specs.contracts.core.Priced as N
-use Rattle.priced_blocks.proofs.core.Priced.TheLaws as N'
+use Rattle.std.specs.Prelude.{[], ◌∷◌}
+use Rattle.priced_blocks.specs.contracts.kernel.Priced as N
+use Rattle.priced_blocks.proofs.kernel.Priced.TheLaws as N'
 use Rattle.blocking.proofs.LentRecords.{struct_type}
 use Rattle.priced_blocks.specs.contracts.records.price_blocks as price
 use Rattle.priced_blocks.proofs.records.price_blocks.Symbol as price_def

@@ -2,7 +2,7 @@
 use Rattle.lists.proofs.Fills.{Filled}
 use Rattle.study.specs.Problem.{labels}
 use Prim.Native.Nat.{◌+◌, ◌-◌}
-use Rattle.blocking_core.proofs.core.number.Given as goal
+use Rattle.blocking_core.proofs.kernel.number.Given as goal
 
 abbrev pub invariant-loop-t : goal.invariant-loop-t
 invariant-loop-t l = Filled l.n (λ x. labels l.blocks x + 1) l.initial.list l.list l.t

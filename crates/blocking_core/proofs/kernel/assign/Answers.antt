@@ -1,7 +1,7 @@
 -- The radius is the least, the assignment at it the first, and `number` writes it into the list. Assumes nothing.
 use Rattle.blocking_core.proofs.CoreLaws.{assigned_core}
 use Rattle.radius_search.proofs.FrontLaws.{centres_in, rows_of}
-use Rattle.blocking_core.proofs.core.assign.Goals as goal
+use Rattle.blocking_core.proofs.kernel.assign.Goals as goal
 
 pub first_assignment-requires-clause-ranking : goal.first_assignment-requires-clause-ranking
 first_assignment-requires-clause-ranking c =

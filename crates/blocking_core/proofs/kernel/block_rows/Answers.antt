@@ -1,7 +1,7 @@
 -- What `assign` finds and what `measure` counts, together. Assumes nothing.
 use Rattle.blocking_core.proofs.CoreLaws.{core_blocks}
 use Rattle.blocking_core.proofs.MeasuredLaws.{measured_none}
-use Rattle.blocking_core.proofs.core.block_rows.Goals as goal
+use Rattle.blocking_core.proofs.kernel.block_rows.Goals as goal
 
 pub measure-widest-requires-clause-measured : goal.measure-widest-requires-clause-measured
 measure-widest-requires-clause-measured c =

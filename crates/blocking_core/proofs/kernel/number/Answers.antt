@@ -3,7 +3,7 @@ use native.Mathlib.Omega.{arith}
 use Rattle.lists.proofs.Fills.{filled_none, filled_more}
 use Rattle.study.specs.Problem.{labels}
 use mathlib.Core.Path.{refl}
-use Rattle.blocking_core.proofs.core.number.Goals as goal
+use Rattle.blocking_core.proofs.kernel.number.Goals as goal
 
 pub loop-t-init : goal.loop-t-init
 loop-t-init c = filled_none
