@@ -1,0 +1,18 @@
+-- The loop's invariant: the first i places hold their numbers, the rest stays, and no place is added; the places left fall. Assumes nothing.
+use borrow.Author.Rules.{rules}
+use native.Mathlib.Omega.{arith}
+use Prim.Native.Nat.{ℕ, ◌-◌, ◌≤◌}
+use mathlib.Core.Path.{◌≡◌, refl, ◌∙◌}
+use lib.ListN.{length, get_or, length-set}
+use Rattle.lists.specs.Lists.{overwrite}
+use Rattle.lists.proofs.Tables.{overwrite_none, overwrite_step, overwrite_done}
+use Rattle.c_records.specs.Record.{record_size, numbers_of}
+use Rattle.c_records.proofs.RecordLaws.{written}
+use Rattle.c_records.proofs.numbers.put_dataset.Given as goal
+
+abbrev pub invariant-loop-i : goal.invariant-loop-i
+invariant-loop-i l =
+    (l.i ≤ record_size) × (l.numbers ≡ overwrite l.i (λ (j : ℕ). get_or (numbers_of l.dataset) j 0) l.initial.numbers) × (length l.numbers ≡ length l.initial.numbers)
+
+abbrev pub decreases-loop-i : goal.decreases-loop-i
+decreases-loop-i l = record_size - l.i
