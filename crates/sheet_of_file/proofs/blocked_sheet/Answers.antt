@@ -9,7 +9,5 @@ use Rattle.sheet_of_file.proofs.blocked_sheet.Goals as goal
 pub returns : goal.returns
 returns c =
     let a = c.args in
-    let blocked = (c.block_by_value-blocked.ensures.answer, (c.block_by_value-blocked.ensures.list, c.block_by_value-blocked.ensures.records)) in
-    let text = (c.sheet_text.ensures.fits, c.sheet_text.ensures.text) in
     let s = state_of a.dataset a.distances.now a.settings.now in
-    (text.0, text.1 ∙ ap laid_out (blocked_text_lem s c.block_by_value-blocked.result.answer refl blocked.0 blocked.1.1))
+    (c.sheet_text.ensures.fits, c.sheet_text.ensures.text ∙ ap laid_out (blocked_text_lem s c.block_by_value-blocked.result.answer refl c.block_by_value-blocked.ensures.answer c.block_by_value-blocked.ensures.records))

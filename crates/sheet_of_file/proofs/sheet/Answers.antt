@@ -7,15 +7,11 @@ use Rattle.sheet_of_file.proofs.sheet.Goals as goal
 
 pub returns-in-Refused-clause-text : goal.returns-in-Refused-clause-text
 returns-in-Refused-clause-text c =
-    let read = (c.read-outcome.ensures.answer, c.read-outcome.ensures.leaves) in
-    let text = c.refused_sheet.ensures in
     let file = c.args.file.now in
-    text.1 ∙ ap laid_out (sheet_refused file _ (long_enough c.blank-before.result) read.0 c.in-Refused.is)
+    c.refused_sheet.ensures.1 ∙ ap laid_out (sheet_refused file _ (long_enough c.blank-before.result) c.read-outcome.ensures.answer c.in-Refused.is)
 
 pub returns-clause-text : goal.returns-clause-text
 returns-clause-text c =
-    let read = (c.read-outcome.ensures.answer, c.read-outcome.ensures.leaves) in
-    let text = c.blocked_sheet.ensures in
     let file = c.args.file.now in
     let done = c.in_default.is in
-    text.1 ∙ ap laid_out (sheet_blocked file _ (long_enough c.blank-before.result) read.0 done read.1)
+    c.blocked_sheet.ensures.1 ∙ ap laid_out (sheet_blocked file _ (long_enough c.blank-before.result) c.read-outcome.ensures.answer done c.read-outcome.ensures.leaves)

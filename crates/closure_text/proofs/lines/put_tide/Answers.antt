@@ -9,10 +9,8 @@ use Rattle.closure_text.proofs.lines.put_tide.Goals as goal
 pub returns : goal.returns
 returns c =
     let a = c.args in
-    let pre = c.requires in
-    let long = row_long a.n a.settings.now a.table.now a.t _ _ pre.0 pre.1.0 refl refl in
-    let told = c.put_line.ensures in
-    let set = c.wide.ensures.0 in (
-      omega (arith, told.0, long, pre.0.fits.few),
-      tide_put a.n a.settings.now a.table.now a.t _ _ pre.0 pre.1.0 refl refl set told.1,
+    let long = row_long a.n a.settings.now a.table.now a.t _ _ c.requires.printable_table c.requires.t_lt_n.0 refl refl in
+    (
+      omega (arith, c.put_line.ensures.0, long, c.requires.printable_table.fits.few),
+      tide_put a.n a.settings.now a.table.now a.t _ _ c.requires.printable_table c.requires.t_lt_n.0 refl refl c.wide.ensures.0 c.put_line.ensures.1,
     )

@@ -5,14 +5,11 @@ use Rattle.closure_text.proofs.table.close_table.Goals as goal
 
 pub overflow_cast-result : goal.overflow_cast-result
 overflow_cast-result c =
-    let pre = c.requires in
-    record { fits = pairs_few _ pre c.close-closed.ensures.answer c.in-Done.is }
+    record { fits = pairs_few _ c.requires c.close-closed.ensures.answer c.in-Done.is }
 
 pub returns-in-Done : goal.returns-in-Done
 returns-in-Done c =
-    let pre = c.requires in
-    let told = (c.close-closed.ensures.answer, c.close-closed.ensures.leaves) in
-    (told_pairs _ pre told.0 c.in-Done.is, closed_left c.close-closed.result pre told.0 told.1)
+    (told_pairs _ c.requires c.close-closed.ensures.answer c.in-Done.is, closed_left c.close-closed.result c.requires c.close-closed.ensures.answer c.close-closed.ensures.leaves)
 
 pub returns-in-Refused : goal.returns-in-Refused
 returns-in-Refused c =
