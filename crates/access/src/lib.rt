@@ -3,7 +3,7 @@
 
 ghost use Rattle.std.specs.Prelude.{◌≡◌, []};
 ghost use Rattle.study.specs.Refusals.{is_user, verdict_of};
-ghost use Rattle.validity.specs.Memory.{entry_state};
+ghost use Rattle.validity.specs.Memory.{state_of};
 ghost use Rattle.access.specs.Calls.{nobody, the_user};
 ghost use Rattle.access.specs.Passed.{held_answer};
 
@@ -12,7 +12,7 @@ use validity::is_short;
 
 // With what a call begins that names no user: short memory (1), then what is no dataset (21).
 pub fn check(dataset: Dataset, distances: &[u32], settings: &[u8]) -> Answer
-    ensures { verdict_of result ≡ held_answer (entry_state dataset distances settings) nobody (λ _. []) }
+    ensures { verdict_of result ≡ held_answer (state_of dataset distances.now settings.now) nobody (λ _. []) }
 {
     if is_short(distances, settings) {
         return Answer::Refused(Refusal::ShortMemory);
@@ -35,7 +35,7 @@ fn is_user(user: u8) -> bool
 
 // With what a call begins that names a user: short memory (1), a user who is none (14), then what is no dataset (21).
 pub fn check_user(dataset: Dataset, distances: &[u32], settings: &[u8], user: u8) -> Answer
-    ensures { verdict_of result ≡ held_answer (entry_state dataset distances settings) (the_user user) (λ _. []) }
+    ensures { verdict_of result ≡ held_answer (state_of dataset distances.now settings.now) (the_user user) (λ _. []) }
 {
     if is_short(distances, settings) {
         return Answer::Refused(Refusal::ShortMemory);

@@ -1,3 +1,2 @@
--- Laws, cited by the proofs of this crate and of those above it; ReaderCalls: steps of walks.
+-- Laws, cited by the proofs of this crate and of those above it.
 pub mod FieldLaws
-pub mod ReaderCalls

@@ -8,21 +8,21 @@ ghost use Rattle.file_format.specs.Bits.{bits_at};
 ghost use Rattle.bit_reader.specs.Fields.{BitsRead, Askable, FieldRead, Stepped, TakenFrom, AskableTwo, TwoRead};
 
 // Where the next bit stands: in which byte, and as which of its bits, the most significant being bit 0.
-#[derive(Drop)]
+#[derive(Clone, Copy)]
 pub struct Place {
     pub byte: usize,
     pub bit: usize,
 }
 
 // A field's value and the place past it, or the end where the bytes stop before.
-#[derive(Drop)]
+#[derive(Clone, Copy)]
 pub enum FieldValue {
     Value(u32, Place),
     End,
 }
 
 // A field's answer, and the place past the field, whether the bytes go so far or not.
-#[derive(Drop)]
+#[derive(Clone, Copy)]
 pub struct FieldStep {
     pub value: FieldValue,
     pub next: Place,
@@ -150,7 +150,7 @@ impl<'a> BitReader<'a> {
     }
 }
 
-// The field at a place, with plain parameters, for callers that the borrow checker covers.
+// The field at a place, with plain parameters.
 pub fn read_field(bytes: &[u8], place: Place, width: usize) -> FieldValue
     requires { Askable place width }
     ensures { (n : ℕ) → BitsRead place n → FieldRead bytes.now n width result }
@@ -159,7 +159,7 @@ pub fn read_field(bytes: &[u8], place: Place, width: usize) -> FieldValue
 }
 
 // Two fields' answers.
-#[derive(Drop)]
+#[derive(Clone, Copy)]
 pub struct TwoFields {
     pub first: FieldValue,
     pub second: FieldValue,

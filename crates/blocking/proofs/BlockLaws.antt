@@ -1,5 +1,5 @@
 -- The ways out of Block's core: of what the code has found out, what the call answers and leaves. Assumes nothing.
-use Rattle.core.specs.Prelude.{◌≡◌, ℕ, suc, ◌+◌, ◌<◌, ◌≤◌, Bool, true, false, ◌&&◌, T, leb, List, [], ◌∷◌, ◌++◌, length, get_or, drop}
+use Rattle.std.specs.Prelude.{◌≡◌, ℕ, suc, ◌+◌, ◌<◌, ◌≤◌, Bool, true, false, ◌&&◌, T, leb, List, [], ◌∷◌, ◌++◌, length, get_or, drop}
 use native.Mathlib.Omega.{arith}
 use native.Mathlib.Numerals.{add-one}
 use mathlib.Core.Path.{refl, sym, ap, ap₂, ◌∙◌, subst}
@@ -161,7 +161,7 @@ module _ (s : State) (list room : ℕ) where
               diameter = diameter Q (labels (blocking Q)) (suc i);
             })
             (sym same)
-            (rw (number, B.type_size i l, B.diameter_of i l))
+            (rw (number, B.size_of i l, B.diameter_of i l))
           where
             number : get_or numbers i 0 ≡ suc (get_or (centres P (radius P)) i 0)
             number =

@@ -1,5 +1,5 @@
 -- The ways out of Centres: of what the code has found out, what the call answers and leaves. Assumes nothing.
-use Rattle.core.specs.Prelude.{◌≡◌, ℕ, suc, ◌+◌, ◌<◌, ◌≤◌, Bool, false, leb, ◌⊎◌, List, [], ◌∷◌, ◌++◌, map, length, get_or, take, drop}
+use Rattle.std.specs.Prelude.{◌≡◌, ℕ, suc, ◌+◌, ◌<◌, ◌≤◌, Bool, false, leb, ◌⊎◌, List, [], ◌∷◌, ◌++◌, map, length, get_or, take, drop}
 use native.Mathlib.Omega.{arith}
 use native.Mathlib.Numerals.{add-one}
 use mathlib.Core.Path.{refl, sym, ap, ap₂, ◌∙◌, subst}

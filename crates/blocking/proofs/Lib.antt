@@ -1,7 +1,3 @@
-pub mod Arguments
-pub mod ArrayLent
-pub mod Walks
-pub mod LentRecords
 pub mod ProblemOfArrays
 pub mod CentresLaws
 pub mod BlockLaws

@@ -1,5 +1,5 @@
 -- The problem that a dataset's study poses is the one that its record and memory pose. Assumes nothing.
-use Rattle.core.specs.Prelude.{◌≡◌, ℕ, suc, ◌<◌, ◌≤◌, Bool, true, ◌&&◌, T, eqb, leb, ◌⊎◌, get_or}
+use Rattle.std.specs.Prelude.{◌≡◌, ℕ, suc, ◌<◌, ◌≤◌, Bool, true, ◌&&◌, T, eqb, leb, ◌⊎◌, get_or}
 use native.Mathlib.Omega.{arith}
 use mathlib.Core.Path.{refl, sym, ap, ap₂, fun_ext, ◌∙◌, subst}
 use mathlib.Core.Logic.{inl, inr}
@@ -8,7 +8,7 @@ use Rattle.lists.proofs.Tests.{split}
 use Rattle.lists.proofs.Counts.{count_same}
 use Rattle.study.specs.declared.Minima.{Minima}
 use Rattle.study.specs.Problem.{Problem}
-use Rattle.study.specs.Study.{size, tide, distance, meets, sufficient, problem}
+use Rattle.study.specs.Study.{tide, distance, meets, sufficient, problem}
 use Rattle.study.specs.Theorems.{Lawful}
 use Rattle.study.proofs.StudyLaws.{study_lawful}
 use Rattle.promise.specs.Promise.{meeting, Able}

@@ -1,5 +1,5 @@
 -- The ways out of `check_tides`: short memory, 21, no tides (24), and a dataset with a tide in it. Assumes nothing.
-use Rattle.core.specs.Prelude.{◌≡◌, ℕ, ◌<◌, ◌≤◌, false, not, T, eqb, [], ◌∷◌}
+use Rattle.std.specs.Prelude.{◌≡◌, ℕ, ◌<◌, ◌≤◌, false, not, T, eqb, [], ◌∷◌}
 use native.Mathlib.Omega.{arith}
 use mathlib.Core.Path.{refl, sym, ◌∙◌, subst}
 use mathlib.Core.Logic.{⊎_elim}
@@ -46,7 +46,7 @@ module _ {s : State} where
       record {
         refuses = λ _ _ own.
             sym (rw (eq-eqb (size (study_of s)) 0 (omega (arith, study_size s))))
-            ∙ held_own s (λ H. no_tides H.contents.study ∷ own H) P.not_IsShort P.tested;
+            ∙ held_own s (λ H. no_tides H.contents.study ∷ own H) P.not_short P.tested;
         passed = not_both refl;
         some_tide = not_both refl;
       }

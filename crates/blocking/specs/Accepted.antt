@@ -1,5 +1,5 @@
 -- What an accepted call tells; the function that computes or writes requires it. Assumes nothing.
-use Rattle.core.specs.Prelude.{◌≡◌, ℕ, ◌<◌, ◌≤◌, true, T, List, ◌∷◌, length, nat_eq, slice_index}
+use Rattle.std.specs.Prelude.{◌≡◌, ℕ, ◌<◌, ◌≤◌, true, T, List, ◌∷◌, length, nat_eq, slice_index}
 use Rattle.study.specs.Limits.{max_tides, max_settings}
 use Rattle.study.specs.declared.Refusal.{Refusal}
 use Rattle.study.specs.declared.Answer.{Answer}

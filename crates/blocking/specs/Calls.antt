@@ -1,7 +1,5 @@
 -- Centres, Block and Judge, each as one value; what it answers and leaves is said of every call in access. Assumes nothing.
-use Rattle.core.specs.Prelude.{ℕ, List, [], ◌∷◌, length}
-use Rattle.std.specs.Borrow.{Bor}
-use denote.Triple.Both.{Both}
+use Rattle.std.specs.Prelude.{ℕ, List, [], ◌∷◌, length}
 use Rattle.lists.specs.Lists.{overwrite, over}
 use Rattle.study.specs.declared.BlockRecord.{BlockRecord}
 use Rattle.study.specs.declared.Blocked.{Blocked}
@@ -11,7 +9,7 @@ use Rattle.study.specs.Study.{Study, problem}
 use Rattle.study.specs.Refusals.{settled, Reply, in_numbers}
 use Rattle.study.specs.Calls.{CentreLists, centres_reasons, centre_numbers, centres_written, block_reasons, Figures, figures, block_record, blocked_of}
 use Rattle.study.specs.Calls.{judge_reasons, Judgement, approval, disapproval, judgement, judged_of}
-use Rattle.validity.specs.Memory.{State, study_of, LentList}
+use Rattle.validity.specs.Memory.{State, study_of}
 use Rattle.access.specs.Calls.{nobody, no_output, Inquiry, Call, asks, answer}
 
 -- ---- Centres at g, lent three lists
@@ -19,14 +17,6 @@ use Rattle.access.specs.Calls.{nobody, no_output, Inquiry, Call, asks, answer}
 -- these three
 abbrev pub centre_lists : List ℕ → List ℕ → List ℕ → CentreLists
 centre_lists l m d = record { list = l; nearest = m; away = d }
-
--- the lent lists as they are where the function begins; E is what is known of the first where it returns, nothing where it is handed back
-abbrev pub entry_lists : {E : Type 0} → Both (Bor (List ℕ)) E → LentList → LentList → CentreLists
-entry_lists l m d = centre_lists l.entry.now m.entry.now d.entry.now
-
--- the lent lists as they are where the function returns
-abbrev pub exit_lists : LentList → LentList → LentList → CentreLists
-exit_lists l m d = centre_lists l.exit.now m.exit.now d.exit.now
 
 -- the three lists of Centres
 abbrev pub all_three : CentreLists → List (List ℕ)
@@ -78,14 +68,6 @@ makes_blocks list records = asks (block_inquiry (λ S. figure_numbers (figures S
 -- the numbers of the code's answer, by document 01's number and values (study/Calls)
 abbrev pub blocked_reply : Blocked → Reply (List ℕ)
 blocked_reply r = in_numbers figure_numbers (blocked_of r)
-
--- a lent slice of records as an `ensures` has it: where the function begins, and where it returns
-abbrev pub LentRecords : Type 0
-LentRecords = Both (Bor (List BlockRecord)) (Bor (List BlockRecord))
-
--- a call that makes blocks, lent this list and these records as they are where the function begins
-abbrev pub entry_call : (List ℕ → List BlockRecord → Call) → LentList → LentRecords → Call
-entry_call call list records = call list.entry.now records.entry.now
 
 -- ---- Judge, given a list
 

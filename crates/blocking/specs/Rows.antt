@@ -1,5 +1,5 @@
 -- The rows of numbers that the core of Block hands back, and the records that they stand for. Assumes nothing.
-use Rattle.core.specs.Prelude.{◌≡◌, ℕ, ◌≤◌, List, length, replicate, slice_index}
+use Rattle.std.specs.Prelude.{◌≡◌, ℕ, ◌≤◌, List, length, replicate, slice_index}
 use Rattle.lists.specs.Lists.{overwrite}
 use Rattle.study.specs.Limits.{max_tides}
 use Rattle.study.specs.declared.BlockRecord.{BlockRecord}

@@ -1,7 +1,7 @@
 // Block: the core, by plain rows of numbers.
-ghost use Rattle.core.specs.Prelude.{◌≡◌};
+ghost use Rattle.std.specs.Prelude.{◌≡◌};
 ghost use Rattle.study.specs.Refusals.{verdict_of};
-ghost use Rattle.validity.specs.Memory.{entry_state};
+ghost use Rattle.validity.specs.Memory.{state_of};
 ghost use Rattle.access.specs.Calls.{reply, list_after};
 ghost use Rattle.blocking.specs.Calls.{makes_blocks, blocked_reply};
 ghost use Rattle.blocking.specs.Accepted.{block_answer};
@@ -14,7 +14,7 @@ use study::{Answer, Blocked, Dataset, MAX_DISTANCE, MAX_TIDES, Refusal};
 
 // The records of the blocks as rows of numbers: centres' tide numbers, numbers of tides, diameters. `count` is the number of blocks, 0 on a
 // refusal. The places past it are free: they may hold any numbers, and no record is made of them.
-#[derive(Drop)]
+#[derive(Clone, Copy)]
 pub struct BlockRows {
     pub count: usize,
     pub centres: [u8; MAX_TIDES],
@@ -23,7 +23,7 @@ pub struct BlockRows {
 }
 
 // Block's answer, and the rows of its blocks; there are none on a refusal.
-#[derive(Drop)]
+#[derive(Clone, Copy)]
 pub struct Computed {
     pub answer: Blocked,
     pub rows: BlockRows,
@@ -37,7 +37,7 @@ fn block_answer(
     list: usize,
     records: usize,
 ) -> Answer
-    ensures { verdict_of result ≡ block_answer (entry_state dataset distances settings) list records }
+    ensures { verdict_of result ≡ block_answer (state_of dataset distances.now settings.now) list records }
 {
     let first = check_tides(dataset, distances, settings);
     let Answer::Done = first else {
@@ -68,10 +68,10 @@ pub fn block_core(
     room: usize,
 ) -> Computed
     ensures answer { Lending room (λ records. blocked_reply result.answer
-        ≡ reply (entry_state dataset distances settings) (makes_blocks list.old records)) }
-    ensures rows { RowsOf (entry_state dataset distances settings) (makes_blocks list.old) room result.rows }
+        ≡ reply (state_of dataset distances.now settings.now) (makes_blocks list.old records)) }
+    ensures rows { RowsOf (state_of dataset distances.now settings.now) (makes_blocks list.old) room result.rows }
     ensures list { Lending room (λ records. list.new
-        ≡ list_after (entry_state dataset distances settings) (makes_blocks list.old records)) }
+        ≡ list_after (state_of dataset distances.now settings.now) (makes_blocks list.old records)) }
 {
     let answer = block_answer(dataset, distances, settings, list.len(), room);
     if let Answer::Refused(why) = answer {

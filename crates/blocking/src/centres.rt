@@ -1,10 +1,10 @@
 // Centres at a radius, and each tide's nearest of them.
-ghost use Rattle.core.specs.Prelude.{◌≡◌, ℕ, [], ◌∷◌, length, drop};
+ghost use Rattle.std.specs.Prelude.{◌≡◌, ℕ, [], ◌∷◌, length, drop};
 ghost use Rattle.study.specs.Refusals.{verdict_of};
 ghost use Rattle.study.specs.Numbers.{refusal_number};
-ghost use Rattle.validity.specs.Memory.{entry_state};
+ghost use Rattle.validity.specs.Memory.{state_of};
 ghost use Rattle.access.specs.Calls.{answer, lists_after};
-ghost use Rattle.blocking.specs.Calls.{entry_lists, exit_lists, all_three, finds_centres, centres_front};
+ghost use Rattle.blocking.specs.Calls.{centre_lists, all_three, finds_centres, centres_front};
 
 use crate::front::fill_lists;
 use crate::tides::check_tides;
@@ -12,7 +12,7 @@ use study::refusals::refusal_number;
 use study::{Answer, Dataset, Refusal};
 
 // The answer, and how many centres stand in the front of the list.
-#[derive(Drop)]
+#[derive(Clone, Copy)]
 pub struct Counted {
     pub answer: Answer,
     pub count: usize,
@@ -28,7 +28,7 @@ pub fn centres_answer(
     away: &[u32],
 ) -> Answer
     ensures { (g : ℕ) → verdict_of result
-        ≡ answer (entry_state dataset distances settings) (finds_centres g (entry_lists list nearest away)) }
+        ≡ answer (state_of dataset distances.now settings.now) (finds_centres g (centre_lists list.now nearest.now away.now)) }
 {
     let first = check_tides(dataset, distances, settings);
     let Answer::Done = first else {
@@ -59,10 +59,10 @@ pub fn centres_into(
     away: &mut [u32],
 ) -> Counted
     ensures answer { verdict_of result.answer
-        ≡ answer (entry_state dataset distances settings) (finds_centres g (entry_lists list nearest away)) }
-    ensures count { result.count ≡ length (centres_front (entry_state dataset distances settings) g (entry_lists list nearest away)) }
-    ensures lists { all_three (exit_lists list nearest away)
-        ≡ lists_after (entry_state dataset distances settings) (finds_centres g (entry_lists list nearest away)) }
+        ≡ answer (state_of dataset distances.now settings.now) (finds_centres g (centre_lists list.old nearest.old away.old)) }
+    ensures count { result.count ≡ length (centres_front (state_of dataset distances.now settings.now) g (centre_lists list.old nearest.old away.old)) }
+    ensures lists { all_three (centre_lists list.new nearest.new away.new)
+        ≡ lists_after (state_of dataset distances.now settings.now) (finds_centres g (centre_lists list.old nearest.old away.old)) }
 {
     let answer = centres_answer(dataset, distances, settings, list, nearest, away);
     let Answer::Done = answer else {
@@ -85,11 +85,11 @@ pub fn centres<'a>(
     refusal: &mut u8,
 ) -> &'a mut [u8]
     ensures front { result.ref_ptr ≡ list.entry.ref_ptr }
-    ensures part { result.now ≡ centres_front (entry_state dataset distances settings) g (entry_lists list nearest away) }
+    ensures part { result.now ≡ centres_front (state_of dataset distances.now settings.now) g (centre_lists list.old nearest.old away.old) }
     ensures others { nearest.new ∷ away.new ∷ []
-        ≡ drop 1 (lists_after (entry_state dataset distances settings) (finds_centres g (entry_lists list nearest away))) }
+        ≡ drop 1 (lists_after (state_of dataset distances.now settings.now) (finds_centres g (centre_lists list.old nearest.old away.old))) }
     ensures refusal { refusal.new
-        ≡ refusal_number (answer (entry_state dataset distances settings) (finds_centres g (entry_lists list nearest away))) }
+        ≡ refusal_number (answer (state_of dataset distances.now settings.now) (finds_centres g (centre_lists list.old nearest.old away.old))) }
 {
     let filled = centres_into(dataset, distances, settings, g, list, nearest, away);
     let answer = filled.answer;

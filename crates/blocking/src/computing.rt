@@ -1,6 +1,6 @@
 // What an accepted Block writes and answers.
-ghost use Rattle.core.specs.Prelude.{◌≡◌, length};
-ghost use Rattle.validity.specs.Memory.{state_of, entry_state};
+ghost use Rattle.std.specs.Prelude.{◌≡◌, length};
+ghost use Rattle.validity.specs.Memory.{state_of};
 ghost use Rattle.access.specs.Calls.{reply, list_after};
 ghost use Rattle.blocking.specs.Calls.{makes_blocks, blocked_reply};
 ghost use Rattle.blocking.specs.Accepted.{BlockAccepted};
@@ -21,10 +21,10 @@ pub fn compute(
 ) -> Computed
     requires { BlockAccepted (state_of dataset distances.now settings.now) (length list.old) room }
     ensures lending { Lending room (λ records. blocked_reply result.answer
-        ≡ reply (entry_state dataset distances settings) (makes_blocks list.old records)) }
-    ensures rows_of { RowsOf (entry_state dataset distances settings) (makes_blocks list.old) room result.rows }
+        ≡ reply (state_of dataset distances.now settings.now) (makes_blocks list.old records)) }
+    ensures rows_of { RowsOf (state_of dataset distances.now settings.now) (makes_blocks list.old) room result.rows }
     ensures lending_2 { Lending room (λ records. list.new
-        ≡ list_after (entry_state dataset distances settings) (makes_blocks list.old records)) }
+        ≡ list_after (state_of dataset distances.now settings.now) (makes_blocks list.old records)) }
 {
     let n = dataset.n;
     let rows = block_rows(distances, settings, n, dataset.minima, list);

@@ -1,10 +1,10 @@
 // What an accepted Centres writes.
-ghost use Rattle.core.specs.Prelude.{◌≡◌, ℕ, ◌+◌, ◌<◌, ◌≤◌, length, slice_index};
+ghost use Rattle.std.specs.Prelude.{◌≡◌, ℕ, ◌+◌, ◌<◌, ◌≤◌, length, slice_index};
 ghost use Rattle.lists.specs.Lists.{overwrite};
 ghost use Rattle.study.specs.Limits.{max_tides};
-ghost use Rattle.validity.specs.Memory.{state_of, entry_state};
+ghost use Rattle.validity.specs.Memory.{state_of};
 ghost use Rattle.access.specs.Calls.{lists_after};
-ghost use Rattle.blocking.specs.Calls.{centre_lists, entry_lists, exit_lists, all_three, finds_centres, centres_front};
+ghost use Rattle.blocking.specs.Calls.{centre_lists, all_three, finds_centres, centres_front};
 ghost use Rattle.blocking.specs.Accepted.{CentresAccepted};
 
 use nearest_centre::put_nearest;
@@ -35,9 +35,9 @@ pub fn fill_lists(
     away: &mut [u32],
 ) -> usize
     requires { CentresAccepted (state_of dataset distances.now settings.now) (centre_lists list.old nearest.old away.old) }
-    ensures value { result ≡ length (centres_front (entry_state dataset distances settings) g (entry_lists list nearest away)) }
-    ensures away_value { all_three (exit_lists list nearest away)
-        ≡ lists_after (entry_state dataset distances settings) (finds_centres g (entry_lists list nearest away)) }
+    ensures value { result ≡ length (centres_front (state_of dataset distances.now settings.now) g (centre_lists list.old nearest.old away.old)) }
+    ensures away_value { all_three (centre_lists list.new nearest.new away.new)
+        ≡ lists_after (state_of dataset distances.now settings.now) (finds_centres g (centre_lists list.old nearest.old away.old)) }
 {
     let n = dataset.n;
     let mut centres: [usize; MAX_TIDES] = [0; MAX_TIDES];

@@ -1,7 +1,7 @@
 // Judge: whether a list of block numbers made by anyone is feasible.
-ghost use Rattle.core.specs.Prelude.{◌≡◌};
+ghost use Rattle.std.specs.Prelude.{◌≡◌};
 ghost use Rattle.study.specs.Refusals.{verdict_of};
-ghost use Rattle.validity.specs.Memory.{entry_state};
+ghost use Rattle.validity.specs.Memory.{state_of};
 ghost use Rattle.access.specs.Calls.{answer, reply};
 ghost use Rattle.blocking.specs.Calls.{judges_list, judged_reply};
 
@@ -12,7 +12,7 @@ use study::{Answer, Dataset, Judged, Refusal};
 
 // The answer alone: whether the list is judged at all.
 fn judge_answer(dataset: Dataset, distances: &[u32], settings: &[u8], list: &[u8]) -> Answer
-    ensures { verdict_of result ≡ answer (entry_state dataset distances settings) (judges_list list.now) }
+    ensures { verdict_of result ≡ answer (state_of dataset distances.now settings.now) (judges_list list.now) }
 {
     let first = check_tides(dataset, distances, settings);
     let Answer::Done = first else {
@@ -27,7 +27,7 @@ fn judge_answer(dataset: Dataset, distances: &[u32], settings: &[u8], list: &[u8
 
 // Yes with the greatest diameter, or no.
 pub fn judge(dataset: Dataset, distances: &[u32], settings: &[u8], list: &[u8]) -> Judged
-    ensures { judged_reply result ≡ reply (entry_state dataset distances settings) (judges_list list.now) }
+    ensures { judged_reply result ≡ reply (state_of dataset distances.now settings.now) (judges_list list.now) }
 {
     let answer = judge_answer(dataset, distances, settings, list);
     if let Answer::Refused(why) = answer {

@@ -1,5 +1,5 @@
 // What Judge looks at in a list: its numbers, and the tides under each of them.
-ghost use Rattle.core.specs.Prelude.{◌≡◌, ℕ, ◌≤◌, length, replicate, ◌==◌};
+ghost use Rattle.std.specs.Prelude.{◌≡◌, ℕ, ◌≤◌, length, replicate, ◌==◌};
 ghost use Rattle.lists.specs.Lists.{at, bit, between, every};
 ghost use Rattle.study.specs.Problem.{block, labels};
 ghost use Rattle.study.specs.Study.{meets};

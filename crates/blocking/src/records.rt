@@ -1,8 +1,8 @@
 // Block's records in a lent slice. The core computes plain rows; the functions here are thin.
-ghost use Rattle.core.specs.Prelude.{◌≡◌};
-ghost use Rattle.validity.specs.Memory.{entry_state};
+ghost use Rattle.std.specs.Prelude.{◌≡◌};
+ghost use Rattle.validity.specs.Memory.{state_of};
 ghost use Rattle.access.specs.Calls.{reply, list_after, records_after};
-ghost use Rattle.blocking.specs.Calls.{entry_call, makes_blocks, blocked_reply};
+ghost use Rattle.blocking.specs.Calls.{makes_blocks, blocked_reply};
 ghost use Rattle.blocking.specs.Rows.{no_records};
 
 use crate::block::block_core;
@@ -17,9 +17,9 @@ pub fn block(
     list: &mut [u8],
     records: &mut [BlockRecord],
 ) -> Blocked
-    ensures answer { blocked_reply result ≡ reply (entry_state dataset distances settings) (entry_call makes_blocks list records) }
-    ensures list { list.new ≡ list_after (entry_state dataset distances settings) (entry_call makes_blocks list records) }
-    ensures records { records.new ≡ records_after (entry_state dataset distances settings) (entry_call makes_blocks list records) }
+    ensures answer { blocked_reply result ≡ reply (state_of dataset distances.now settings.now) (makes_blocks list.old records.old) }
+    ensures list { list.new ≡ list_after (state_of dataset distances.now settings.now) (makes_blocks list.old records.old) }
+    ensures records { records.new ≡ records_after (state_of dataset distances.now settings.now) (makes_blocks list.old records.old) }
 {
     let room = records.len();
     let computed = block_core(dataset, distances, settings, list, room);
@@ -28,7 +28,7 @@ pub fn block(
 }
 
 // Block's answer and records by value, for callers that lend no records.
-#[derive(Drop)]
+#[derive(Clone, Copy)]
 pub struct Blocking {
     pub answer: Blocked,
     pub records: [BlockRecord; MAX_TIDES],
@@ -41,9 +41,9 @@ pub fn block_by_value(
     settings: &[u8],
     list: &mut [u8],
 ) -> Blocking
-    ensures answer { blocked_reply result.answer ≡ reply (entry_state dataset distances settings) (makes_blocks list.old no_records) }
-    ensures list { list.new ≡ list_after (entry_state dataset distances settings) (makes_blocks list.old no_records) }
-    ensures records { result.records ≡ records_after (entry_state dataset distances settings) (makes_blocks list.old no_records) }
+    ensures answer { blocked_reply result.answer ≡ reply (state_of dataset distances.now settings.now) (makes_blocks list.old no_records) }
+    ensures list { list.new ≡ list_after (state_of dataset distances.now settings.now) (makes_blocks list.old no_records) }
+    ensures records { result.records ≡ records_after (state_of dataset distances.now settings.now) (makes_blocks list.old no_records) }
 {
     let none = BlockRecord {
         centre: 0,

@@ -1,5 +1,5 @@
 // What an accepted Block stores: its rows as records, in a lent slice.
-ghost use Rattle.core.specs.Prelude.{◌≡◌, ◌<◌, ◌≤◌, length};
+ghost use Rattle.std.specs.Prelude.{◌≡◌, ◌<◌, ◌≤◌, length};
 ghost use Rattle.lists.specs.Lists.{overwrite};
 ghost use Rattle.study.specs.Limits.{max_tides};
 ghost use Rattle.blocking.specs.Rows.{row_record};

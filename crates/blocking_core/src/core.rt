@@ -13,7 +13,7 @@ use radius_search::{LeastRadius, least_radius};
 use study::{MAX_TIDES, Minima, TABLE_SIZE};
 
 // The rows of all blocks: centres as tides from 0, numbers of tides, diameters.
-#[derive(Drop)]
+#[derive(Clone, Copy)]
 pub struct Rows {
     pub count: usize,
     pub radius: u32,

@@ -3,7 +3,7 @@ use Rattle.core.specs.Prelude.{ℕ, min, Bool, cond, ◌||◌, List, [], ◌∷�
 use Rattle.lists.specs.Lists.{tabulate, over}
 use Rattle.study.specs.declared.BlockRecord.{BlockRecord}
 use Rattle.study.specs.Refusals.{number, Verdict, refused, settled}
-use Rattle.validity.specs.Memory.{State, LentList}
+use Rattle.validity.specs.Memory.{State}
 use Rattle.access.specs.Calls.{held, Output, first_list, Call, begins, changes, asks, told, answer, after}
 use Rattle.access.specs.Calls.{lent as lent_to}
 use Rattle.merge.specs.Calls.{merges_datasets}
@@ -68,14 +68,6 @@ pub record Places : Type 0 where
 -- the five lists together, so that one equation speaks of all of them
 abbrev pub places : List ℕ → List ℕ → List ℕ → List ℕ → List ℕ → Places
 places l c s d r = record { list = l; centres = c; sizes = s; diameters = d; result = r }
-
--- as they are where the function begins
-abbrev pub entry_places : LentList → LentList → LentList → LentList → LentList → Places
-entry_places l c s d r = places l.entry.now c.entry.now s.entry.now d.entry.now r.entry.now
-
--- as they are where the function returns
-abbrev pub exit_places : LentList → LentList → LentList → LentList → LentList → Places
-exit_places l c s d r = places l.exit.now c.exit.now s.exit.now d.exit.now r.exit.now
 
 -- how many records of blocks the columns can hold
 abbrev pub record_room : Places → ℕ

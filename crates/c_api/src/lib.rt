@@ -23,15 +23,15 @@ ghost use Rattle.std.specs.Prelude.{◌≡◌, false};
 ghost use Rattle.access.specs.Calls.{first_list};
 ghost use Rattle.dataset.specs.Calls.{opens_dataset, sets_minima, enters_tide, withdraws_tide};
 ghost use Rattle.study_file.specs.Calls.{reads_file, writes_file};
-ghost use Rattle.blocking.specs.Calls.{entry_lists, exit_lists, all_three, finds_centres, makes_blocks, judges_list};
-ghost use Rattle.c_records.specs.Record.{entry_lent, exit_lent, minima_at, code};
+ghost use Rattle.blocking.specs.Calls.{centre_lists, all_three, finds_centres, makes_blocks, judges_list};
+ghost use Rattle.c_records.specs.Record.{lent, minima_at, code};
 ghost use Rattle.c_api.specs.Api.{lacks, c_verdict, c_left, c_output, c_result};
-ghost use Rattle.c_api.specs.Api.{entry_places, exit_places, blocks_verdict, blocks_left};
+ghost use Rattle.c_api.specs.Api.{places, blocks_verdict, blocks_left};
 
 // Open: an empty dataset with k settings.
 pub fn tides_open(numbers: &mut [u16], distances: &mut [u32], settings: &mut [u8], k: u32) -> u32
-    ensures code { result ≡ code (c_verdict (entry_lent numbers distances settings) false (opens_dataset k)) }
-    ensures leaves { exit_lent numbers distances settings ≡ c_left (entry_lent numbers distances settings) false (opens_dataset k) }
+    ensures code { result ≡ code (c_verdict (lent numbers.old distances.old settings.old) false (opens_dataset k)) }
+    ensures leaves { lent numbers.new distances.new settings.new ≡ c_left (lent numbers.old distances.old settings.old) false (opens_dataset k) }
 {
     if numbers.len() < RECORD_SIZE {
         return 1;
@@ -43,9 +43,9 @@ pub fn tides_open(numbers: &mut [u16], distances: &mut [u32], settings: &mut [u8
 // Minima: they are 9 bytes: b0, b1 .. b8.
 pub fn tides_minima(numbers: &mut [u16], distances: &[u32], settings: &[u8], minima: &[u8]) -> u32
     ensures code { result
-        ≡ code (c_verdict (entry_lent numbers distances settings) (lacks 9 minima.now) (sets_minima (minima_at 0 minima.now))) }
-    ensures leaves { exit_lent numbers distances settings
-        ≡ c_left (entry_lent numbers distances settings) (lacks 9 minima.now) (sets_minima (minima_at 0 minima.now)) }
+        ≡ code (c_verdict (lent numbers.old distances.now settings.now) (lacks 9 minima.now) (sets_minima (minima_at 0 minima.now))) }
+    ensures leaves { lent numbers.new distances.now settings.now
+        ≡ c_left (lent numbers.old distances.now settings.now) (lacks 9 minima.now) (sets_minima (minima_at 0 minima.now)) }
 {
     if numbers.len() < RECORD_SIZE {
         return 1;
@@ -66,9 +66,9 @@ pub fn tides_enter(
     row: &[u32],
 ) -> u32
     ensures code { result
-        ≡ code (c_verdict (entry_lent numbers distances settings) false (enters_tide setting row.now)) }
-    ensures leaves { exit_lent numbers distances settings
-        ≡ c_left (entry_lent numbers distances settings) false (enters_tide setting row.now) }
+        ≡ code (c_verdict (lent numbers.old distances.old settings.old) false (enters_tide setting row.now)) }
+    ensures leaves { lent numbers.new distances.new settings.new
+        ≡ c_left (lent numbers.old distances.old settings.old) false (enters_tide setting row.now) }
 {
     if numbers.len() < RECORD_SIZE {
         return 1;
@@ -91,9 +91,9 @@ pub fn tides_withdraw(
     user: u32,
     tide: u32,
 ) -> u32
-    ensures code { result ≡ code (c_verdict (entry_lent numbers distances settings) false (withdraws_tide user tide)) }
-    ensures leaves { exit_lent numbers distances settings
-        ≡ c_left (entry_lent numbers distances settings) false (withdraws_tide user tide) }
+    ensures code { result ≡ code (c_verdict (lent numbers.old distances.old settings.old) false (withdraws_tide user tide)) }
+    ensures leaves { lent numbers.new distances.new settings.new
+        ≡ c_left (lent numbers.old distances.old settings.old) false (withdraws_tide user tide) }
 {
     if numbers.len() < RECORD_SIZE {
         return 1;
@@ -116,9 +116,9 @@ pub fn tides_read(
     file: &[u8],
 ) -> u32
     ensures code { result
-        ≡ code (c_verdict (entry_lent numbers distances settings) false (reads_file file.now)) }
-    ensures leaves { exit_lent numbers distances settings
-        ≡ c_left (entry_lent numbers distances settings) false (reads_file file.now) }
+        ≡ code (c_verdict (lent numbers.old distances.old settings.old) false (reads_file file.now)) }
+    ensures leaves { lent numbers.new distances.new settings.new
+        ≡ c_left (lent numbers.old distances.old settings.old) false (reads_file file.now) }
 {
     if numbers.len() < RECORD_SIZE {
         return 1;
@@ -140,11 +140,11 @@ pub fn tides_centres(
     count: &mut [u16],
 ) -> u32
     ensures code { result
-        ≡ code (c_verdict (entry_lent numbers distances settings) (lacks 1 count.old) (finds_centres g (entry_lists list nearest away))) }
-    ensures lists { all_three (exit_lists list nearest away)
-        ≡ (c_output (entry_lent numbers distances settings) (lacks 1 count.old) (finds_centres g (entry_lists list nearest away))).lists }
+        ≡ code (c_verdict (lent numbers.now distances.now settings.now) (lacks 1 count.old) (finds_centres g (centre_lists list.old nearest.old away.old))) }
+    ensures lists { all_three (centre_lists list.new nearest.new away.new)
+        ≡ (c_output (lent numbers.now distances.now settings.now) (lacks 1 count.old) (finds_centres g (centre_lists list.old nearest.old away.old))).lists }
     ensures count { count.new
-        ≡ c_result 1 (entry_lent numbers distances settings) (finds_centres g (entry_lists list nearest away)) count.old }
+        ≡ c_result 1 (lent numbers.now distances.now settings.now) (finds_centres g (centre_lists list.old nearest.old away.old)) count.old }
 {
     if numbers.len() < RECORD_SIZE {
         return 1;
@@ -181,9 +181,9 @@ pub fn tides_block(
     res: &mut [u32],
 ) -> u32
     ensures code { result
-        ≡ code (blocks_verdict 3 (entry_lent numbers distances settings) makes_blocks (entry_places list centres sizes diameters res)) }
-    ensures leaves { exit_places list centres sizes diameters res
-        ≡ blocks_left 3 (entry_lent numbers distances settings) makes_blocks (entry_places list centres sizes diameters res) }
+        ≡ code (blocks_verdict 3 (lent numbers.now distances.now settings.now) makes_blocks (places list.old centres.old sizes.old diameters.old res.old)) }
+    ensures leaves { places list.new centres.new sizes.new diameters.new res.new
+        ≡ blocks_left 3 (lent numbers.now distances.now settings.now) makes_blocks (places list.old centres.old sizes.old diameters.old res.old) }
 {
     if numbers.len() < RECORD_SIZE {
         return 1;
@@ -216,9 +216,9 @@ pub fn tides_judge(
     res: &mut [u32],
 ) -> u32
     ensures code { result
-        ≡ code (c_verdict (entry_lent numbers distances settings) (lacks 2 res.old) (judges_list list.now)) }
+        ≡ code (c_verdict (lent numbers.now distances.now settings.now) (lacks 2 res.old) (judges_list list.now)) }
     ensures res { res.new
-        ≡ c_result 2 (entry_lent numbers distances settings) (judges_list list.now) res.old }
+        ≡ c_result 2 (lent numbers.now distances.now settings.now) (judges_list list.now) res.old }
 {
     if numbers.len() < RECORD_SIZE {
         return 1;
@@ -251,11 +251,11 @@ pub fn tides_write(
     res: &mut [u32],
 ) -> u32
     ensures code { result
-        ≡ code (c_verdict (entry_lent numbers distances settings) (lacks 1 res.old) (writes_file file.old)) }
+        ≡ code (c_verdict (lent numbers.now distances.now settings.now) (lacks 1 res.old) (writes_file file.old)) }
     ensures file { file.new
-        ≡ first_list (c_output (entry_lent numbers distances settings) (lacks 1 res.old) (writes_file file.old)).lists }
+        ≡ first_list (c_output (lent numbers.now distances.now settings.now) (lacks 1 res.old) (writes_file file.old)).lists }
     ensures length { res.new
-        ≡ c_result 1 (entry_lent numbers distances settings) (writes_file file.old) res.old }
+        ≡ c_result 1 (lent numbers.now distances.now settings.now) (writes_file file.old) res.old }
 {
     if numbers.len() < RECORD_SIZE {
         return 1;

@@ -1,6 +1,6 @@
 // A merge for C. Two datasets are only read, and the third is written.
 ghost use Rattle.std.specs.Prelude.{◌≡◌};
-ghost use Rattle.c_records.specs.Record.{entry_lent, exit_lent, code};
+ghost use Rattle.c_records.specs.Record.{lent, code};
 ghost use Rattle.c_api.specs.Api.{c_verdict, c_left, lacks_either, merge_of};
 
 use c_records::numbers::{RECORD_SIZE, dataset_of, store_outcome};
@@ -20,11 +20,11 @@ pub fn tides_merge(
     seconds: &[u8],
 ) -> u32
     ensures code { result
-        ≡ code (c_verdict (entry_lent numbers distances settings) (lacks_either (entry_lent n1 d1 s1) (entry_lent n2 d2 s2))
-        (merge_of (entry_lent n1 d1 s1) (entry_lent n2 d2 s2) firsts.now seconds.now)) }
-    ensures leaves { exit_lent numbers distances settings
-        ≡ c_left (entry_lent numbers distances settings) (lacks_either (entry_lent n1 d1 s1) (entry_lent n2 d2 s2))
-        (merge_of (entry_lent n1 d1 s1) (entry_lent n2 d2 s2) firsts.now seconds.now) }
+        ≡ code (c_verdict (lent numbers.old distances.old settings.old) (lacks_either (lent n1.now d1.now s1.now) (lent n2.now d2.now s2.now))
+        (merge_of (lent n1.now d1.now s1.now) (lent n2.now d2.now s2.now) firsts.now seconds.now)) }
+    ensures leaves { lent numbers.new distances.new settings.new
+        ≡ c_left (lent numbers.old distances.old settings.old) (lacks_either (lent n1.now d1.now s1.now) (lent n2.now d2.now s2.now))
+        (merge_of (lent n1.now d1.now s1.now) (lent n2.now d2.now s2.now) firsts.now seconds.now) }
 {
     if numbers.len() < RECORD_SIZE {
         return 1;

@@ -1,8 +1,8 @@
 // Block with what its blocks cost, for C (document 02, 2.3: tariff for a trial).
 ghost use Rattle.std.specs.Prelude.{◌≡◌, ◌∷◌};
 ghost use Rattle.priced_blocks.specs.Calls.{prices_blocks};
-ghost use Rattle.c_records.specs.Record.{entry_lent, code};
-ghost use Rattle.c_api.specs.Api.{entry_places, exit_places, blocks_verdict, blocks_left};
+ghost use Rattle.c_records.specs.Record.{lent, code};
+ghost use Rattle.c_api.specs.Api.{places, blocks_verdict, blocks_left};
 
 use c_records::code::refusal_code;
 use c_records::numbers::{RECORD_SIZE, dataset_of};
@@ -43,9 +43,9 @@ pub fn tides_tariff(
     res: &mut [u32],
 ) -> u32
     ensures code { result
-        ≡ code (blocks_verdict 12 (entry_lent numbers distances settings) prices_blocks (entry_places list centres sizes diameters res)) }
-    ensures leaves { exit_places list centres sizes diameters res
-        ≡ blocks_left 12 (entry_lent numbers distances settings) prices_blocks (entry_places list centres sizes diameters res) }
+        ≡ code (blocks_verdict 12 (lent numbers.now distances.now settings.now) prices_blocks (places list.old centres.old sizes.old diameters.old res.old)) }
+    ensures leaves { places list.new centres.new sizes.new diameters.new res.new
+        ≡ blocks_left 12 (lent numbers.now distances.now settings.now) prices_blocks (places list.old centres.old sizes.old diameters.old res.old) }
 {
     if numbers.len() < RECORD_SIZE {
         return 1;

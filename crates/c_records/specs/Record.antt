@@ -6,7 +6,7 @@ use Rattle.study.specs.Limits.{max_settings, max_users}
 use Rattle.study.specs.declared.Minima.{Minima}
 use Rattle.study.specs.declared.Dataset.{Dataset}
 use Rattle.study.specs.Refusals.{number, seven, Verdict, accepted, refused}
-use Rattle.validity.specs.Memory.{State, state_of, LentList}
+use Rattle.validity.specs.Memory.{State, state_of}
 
 -- ---- the record and the memory that the caller lends
 
@@ -19,14 +19,6 @@ pub record Lent : Type 0 where
 -- the three lists together, so that one equation speaks of all of them
 abbrev pub lent : List ℕ → List ℕ → List ℕ → Lent
 lent n d s = record { numbers = n; distances = d; settings = s }
-
--- as they are where the function begins
-abbrev pub entry_lent : LentList → LentList → LentList → Lent
-entry_lent n d s = lent n.entry.now d.entry.now s.entry.now
-
--- as they are where the function returns
-abbrev pub exit_lent : LentList → LentList → LentList → Lent
-exit_lent n d s = lent n.exit.now d.exit.now s.exit.now
 
 -- minima in 9 numbers from place p on: b0, b1 .. b8
 unfoldable pub minima_at : ℕ → List ℕ → Minima

@@ -13,7 +13,7 @@ mod table;
 
 ghost use Rattle.std.specs.Prelude.{◌≡◌, ◌++◌, ◌≤◌, length};
 ghost use Rattle.study.specs.Limits.{max_settings};
-ghost use Rattle.validity.specs.Memory.{state_of, study_of, entry_state};
+ghost use Rattle.validity.specs.Memory.{state_of, study_of};
 ghost use Rattle.sheet_text.specs.Putting.{PutText};
 ghost use Rattle.study_text.specs.declared.Rule.TheVariants as RuleCase;
 ghost use Rattle.study_text.specs.Packing.{report_of};
@@ -41,7 +41,7 @@ fn put_study(out: &mut [u8], pairs: u32, dataset: Dataset, settings: &[u8], tabl
 fn put_closure(out: &mut [u8], dataset: Dataset, distances: &[u32], settings: &[u8]) -> usize
     requires measuring { Measuring (state_of dataset distances.now settings.now) }
     requires text_room_in_bounds { text_room ≤ length out.old }
-    ensures { PutText out.old 0 (closure_text (study_of (entry_state dataset distances settings))) result out.new }
+    ensures { PutText out.old 0 (closure_text (study_of (state_of dataset distances.now settings.now))) result out.new }
 {
     let n = dataset.n;
     let mut table = [0u32; TABLE_SIZE];

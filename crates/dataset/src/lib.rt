@@ -3,7 +3,7 @@
 
 ghost use Rattle.std.specs.Prelude.{◌≡◌, T};
 ghost use Rattle.study.specs.Refusals.{is_user, verdict_of};
-ghost use Rattle.validity.specs.Memory.{state_of, entry_state, exit_state};
+ghost use Rattle.validity.specs.Memory.{state_of};
 ghost use Rattle.access.specs.Calls.{answer, after};
 ghost use Rattle.access.specs.Passed.{Passed};
 ghost use Rattle.dataset.specs.Calls.{opens_dataset, sets_minima, enters_tide, withdraws_tide};
@@ -19,8 +19,8 @@ use validity::is_short;
 
 // The dataset becomes empty, whatever it was.
 pub fn open(dataset: Dataset, distances: &mut [u32], settings: &mut [u8], k: u8) -> Outcome
-    ensures answer { verdict_of result.answer ≡ answer (entry_state dataset distances settings) (opens_dataset k) }
-    ensures leaves { exit_state result.dataset distances settings ≡ after (entry_state dataset distances settings) (opens_dataset k) }
+    ensures answer { verdict_of result.answer ≡ answer (state_of dataset distances.old settings.old) (opens_dataset k) }
+    ensures leaves { state_of result.dataset distances.new settings.new ≡ after (state_of dataset distances.old settings.old) (opens_dataset k) }
 {
     if is_short(distances, settings) {
         return Outcome {
@@ -78,8 +78,8 @@ fn understood(minima: Minima) -> Minima
 
 // Replaces the minima by those understood. The memory is only read.
 pub fn set_minima(dataset: Dataset, distances: &[u32], settings: &[u8], minima: Minima) -> Outcome
-    ensures answer { verdict_of result.answer ≡ answer (entry_state dataset distances settings) (sets_minima minima) }
-    ensures leaves { exit_state result.dataset distances settings ≡ after (entry_state dataset distances settings) (sets_minima minima) }
+    ensures answer { verdict_of result.answer ≡ answer (state_of dataset distances.now settings.now) (sets_minima minima) }
+    ensures leaves { state_of result.dataset distances.now settings.now ≡ after (state_of dataset distances.now settings.now) (sets_minima minima) }
 {
     let answer = access::check(dataset, distances, settings);
     let Answer::Done = answer else {
@@ -109,7 +109,7 @@ fn enter_answer(
     row: &[u32],
 ) -> Answer
     requires { Passed (state_of dataset distances.now settings.now) }
-    ensures { verdict_of result ≡ answer (entry_state dataset distances settings) (enters_tide setting row.now) }
+    ensures { verdict_of result ≡ answer (state_of dataset distances.now settings.now) (enters_tide setting row.now) }
 {
     let k = dataset.k;
     let n = dataset.n;
@@ -144,7 +144,7 @@ fn add_tide(
     row: &[u32],
 ) -> Dataset
     requires { EnterAccepted (state_of dataset distances.old settings.old) setting row.now }
-    ensures { exit_state result distances settings ≡ after (entry_state dataset distances settings) (enters_tide setting row.now) }
+    ensures { state_of result distances.new settings.new ≡ after (state_of dataset distances.old settings.old) (enters_tide setting row.now) }
 {
     let n = dataset.n;
     storage::put_row(distances, row);
@@ -162,9 +162,9 @@ pub fn enter(
     setting: u8,
     row: &[u32],
 ) -> Outcome
-    ensures answer { verdict_of result.answer ≡ answer (entry_state dataset distances settings) (enters_tide setting row.now) }
-    ensures leaves { exit_state result.dataset distances settings
-        ≡ after (entry_state dataset distances settings) (enters_tide setting row.now) }
+    ensures answer { verdict_of result.answer ≡ answer (state_of dataset distances.old settings.old) (enters_tide setting row.now) }
+    ensures leaves { state_of result.dataset distances.new settings.new
+        ≡ after (state_of dataset distances.old settings.old) (enters_tide setting row.now) }
 {
     let first = access::check(dataset, distances, settings);
     let Answer::Done = first else {
@@ -193,7 +193,7 @@ fn withdraw_answer(
     tide: u8,
 ) -> Answer
     requires { Passed (state_of dataset distances.now settings.now) × T (is_user user) }
-    ensures { verdict_of result ≡ answer (entry_state dataset distances settings) (withdraws_tide user tide) }
+    ensures { verdict_of result ≡ answer (state_of dataset distances.now settings.now) (withdraws_tide user tide) }
 {
     let n = dataset.n;
     let counts = dataset.withdrawn;
@@ -219,7 +219,7 @@ fn remove_tide(
     tide: u8,
 ) -> Dataset
     requires { WithdrawAccepted (state_of dataset distances.old settings.old) user tide }
-    ensures { exit_state result distances settings ≡ after (entry_state dataset distances settings) (withdraws_tide user tide) }
+    ensures { state_of result distances.new settings.new ≡ after (state_of dataset distances.old settings.old) (withdraws_tide user tide) }
 {
     let m = tide as usize - 1;
     storage::remove_row(distances, m);
@@ -239,8 +239,8 @@ pub fn withdraw(
     user: u8,
     tide: u8,
 ) -> Outcome
-    ensures answer { verdict_of result.answer ≡ answer (entry_state dataset distances settings) (withdraws_tide user tide) }
-    ensures leaves { exit_state result.dataset distances settings ≡ after (entry_state dataset distances settings) (withdraws_tide user tide) }
+    ensures answer { verdict_of result.answer ≡ answer (state_of dataset distances.old settings.old) (withdraws_tide user tide) }
+    ensures leaves { state_of result.dataset distances.new settings.new ≡ after (state_of dataset distances.old settings.old) (withdraws_tide user tide) }
 {
     let first = access::check_user(dataset, distances, settings, user);
     let Answer::Done = first else {

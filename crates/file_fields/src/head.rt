@@ -16,14 +16,14 @@ use study::{Answer, Dataset, MAX_SETTINGS, MAX_TIDES, MAX_USERS, Minima, Refusal
 use validity::valid_minima;
 
 // How many counts of withdrawals the file carries, the number of tides, k and the place past them, or why Read refuses them.
-#[derive(Drop)]
+#[derive(Clone, Copy)]
 pub enum Start {
     Fields(usize, usize, usize, Place),
     Refused(Refusal),
 }
 
 // The answer before any tide; where it is Done, the record that the file gives and the place of its first tide.
-#[derive(Drop)]
+#[derive(Clone, Copy)]
 pub struct HeadRead {
     pub answer: Answer,
     pub dataset: Dataset,

@@ -6,7 +6,7 @@ use bit_reader::Place;
 use study::{Answer, Refusal};
 
 // To a place, or why it ended.
-#[derive(Drop)]
+#[derive(Clone, Copy)]
 pub enum Progress {
     To(Place),
     Refused(Refusal),

@@ -5,7 +5,7 @@ ghost use Rattle.lists.specs.Lists.{tabulate};
 ghost use Rattle.study.specs.Limits.{max_tides, cell, max_settings, max_users};
 ghost use Rattle.file_format.specs.Bits.{field, bits_of};
 ghost use Rattle.file_format.specs.File.{tide_fields, counts_end, bit_length, byte_length};
-ghost use Rattle.validity.specs.Memory.{state_of, entry_state, tide_of, contents_of};
+ghost use Rattle.validity.specs.Memory.{state_of, tide_of, contents_of};
 ghost use Rattle.file_fields.specs.Writing.{InByte, Adds};
 ghost use Rattle.file_fields.specs.Rows.{RowInside};
 ghost use Rattle.file_fields.specs.Putting.{PutFields, Writable, TideInside, head_fields, file_fields};
@@ -137,7 +137,7 @@ fn put_tide(
     t: usize,
 )
     requires { TideInside file.old distances.now settings.now start t }
-    ensures { PutFields file.old start (tide_fields (tide_of (entry_state dataset distances settings) t)) file.new }
+    ensures { PutFields file.old start (tide_fields (tide_of (state_of dataset distances.now settings.now) t)) file.new }
 {
     put_field(file, start, 3, wide(settings[t]) - 1);
     put_row(file, start + 3, distances, t);
@@ -147,7 +147,7 @@ fn put_tide(
 fn put_tides(file: &mut [u8], dataset: Dataset, distances: &[u32], settings: &[u8])
     requires { Writable (state_of dataset distances.now settings.now) file.old }
     ensures { PutFields file.old (bit_length max_users dataset.k 0)
-        (flat_map tide_fields (tabulate dataset.n (tide_of (entry_state dataset distances settings)))) file.new }
+        (flat_map tide_fields (tabulate dataset.n (tide_of (state_of dataset distances.now settings.now)))) file.new }
 {
     let k = dataset.k as usize;
     let n = dataset.n;
@@ -162,7 +162,7 @@ fn put_tides(file: &mut [u8], dataset: Dataset, distances: &[u32], settings: &[u
 // All fields of the file.
 pub fn put_fields(file: &mut [u8], dataset: Dataset, distances: &[u32], settings: &[u8])
     requires { Writable (state_of dataset distances.now settings.now) file.old }
-    ensures { PutFields file.old 0 (file_fields (contents_of (entry_state dataset distances settings))) file.new }
+    ensures { PutFields file.old 0 (file_fields (contents_of (state_of dataset distances.now settings.now))) file.new }
 {
     let k = dataset.k as usize;
     let minima = dataset.minima;

@@ -40,6 +40,7 @@ either-T x a b = (
 
     or_left : (p q : Bool) → T p → T (p || q)
     or_left true q t = tt
+    or_left false q t = elim t [ ]
 
     or_right : (p q : Bool) → T q → T (p || q)
     or_right true q t = tt
@@ -51,6 +52,7 @@ unless-T x a n b = (λ t e. told (eqb x a) (eq→eqb x a e) t, λ f. tested (eqb
   where
     told : (p : Bool) → T p → T (not (p && ltb n b)) → b ≤ n
     told true p t = nltb→le n b t
+    told false p t = elim p [ ]
 
     tested : (p : Bool) → (T p → b ≤ n) → T (not (p && ltb n b))
     tested true f = le→nltb n b (f tt)

@@ -10,14 +10,14 @@ ghost use Rattle.matching.specs.Graph.{Marked, NoFreeTide, Free, Searched, Augme
 use study::MAX_TIDES;
 
 // The length of the queue after a scan, and the free tide that was met, or MAX_TIDES.
-#[derive(Drop)]
+#[derive(Clone, Copy)]
 pub struct Scanned {
     pub tail: usize,
     pub free: usize,
 }
 
 // A free tide and the slot that it was seen from; both MAX_TIDES where none was met.
-#[derive(Drop)]
+#[derive(Clone, Copy)]
 pub struct Grown {
     pub slot: usize,
     pub tide: usize,

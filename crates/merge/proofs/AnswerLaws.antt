@@ -1,5 +1,5 @@
 -- The ways out of a merge: of what the code has found out, what it answers and leaves. Assumes nothing.
-use Prim.Native.Nat.{ℕ, ◌+◌, ◌-◌, ◌≤◌, ◌<◌}
+use Prim.Native.Nat.{ℕ, ◌+◌, ◌≤◌, ◌<◌}
 use native.Mathlib.Omega.{arith}
 use mathlib.Core.Path.{◌≡◌, refl, sym, ap, ◌∙◌, subst}
 use mathlib.Core.Logic.{⊎_elim}
@@ -28,7 +28,7 @@ use Rattle.validity.proofs.ValidityLaws.{study_size}
 use Rattle.access.specs.Calls.{answer, made, after}
 use Rattle.access.specs.Passed.{Passed}
 use Rattle.access.proofs.AccessLaws.{passed_by, passed_valid, unmoved, stays, leaves, source_short, source_own}
-use Rattle.merge.specs.Merge.{shared, rest, merged_study, added_counts, merged, agreeing, agree, in_range, countable, merge_reasons}
+use Rattle.merge.specs.Merge.{shared, merged_study, added_counts, merged, agreeing, agree, in_range, countable, merge_reasons}
 use Rattle.merge.specs.Calls.{source_reasons, merges_datasets}
 use Rattle.merge.specs.Theorems.{ForContents}
 use Rattle.merge.specs.Sources.{Agreed, RestIn, MergeAccepted}

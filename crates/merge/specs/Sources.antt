@@ -4,20 +4,16 @@ use Rattle.lists.specs.Lists.{count_below, at}
 use Rattle.study.specs.Limits.{max_tides, max_users, max_withdrawals}
 use Rattle.study.specs.declared.Dataset.{Dataset}
 use Rattle.study.specs.Study.{Study}
-use Rattle.validity.specs.Memory.{State, LentList, entry_state, study_of, contents_of, stored}
+use Rattle.validity.specs.Memory.{State, state_of, study_of, contents_of, stored}
 use Rattle.validity.specs.Validity.{Long}
 use Rattle.access.specs.Calls.{after}
 use Rattle.access.specs.Passed.{Passed}
 use Rattle.merge.specs.Merge.{Shared, shared, unshared, rest, merged, agree}
 use Rattle.merge.specs.Calls.{merges_datasets}
 
--- the study that a source holds where a function begins
-abbrev pub study_in : Dataset → LentList → LentList → Study
-study_in r d s = study_of (entry_state r d s)
-
--- the shared tides that two lists name there
-abbrev pub shared_in : LentList → LentList → Shared
-shared_in firsts seconds = shared firsts.entry.now seconds.entry.now
+-- the study that a source holds
+abbrev pub study_in : Dataset → List ℕ → List ℕ → Study
+study_in r d s = study_of (state_of r d s)
 
 -- two datasets, and the first m pairs of tide numbers name tides that are there
 pub record Named (a b : State) (firsts seconds : List ℕ) (m : ℕ) : Type 0 where

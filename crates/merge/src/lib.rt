@@ -17,7 +17,7 @@ mod table;
 
 ghost use Rattle.std.specs.Prelude.{◌≡◌, [], ◌&&◌, ◌||◌};
 ghost use Rattle.study.specs.Refusals.{verdict_of, first_of, held_reasons};
-ghost use Rattle.validity.specs.Memory.{state_of, entry_state, exit_state, short, is_dataset};
+ghost use Rattle.validity.specs.Memory.{state_of, short, is_dataset};
 ghost use Rattle.access.specs.Calls.{answer, after};
 ghost use Rattle.merge.specs.Calls.{source_reasons, merges_datasets};
 ghost use Rattle.merge.specs.Sources.{Agreed, MergeAccepted};
@@ -31,8 +31,8 @@ fn check_sources(
     d2: &[u32],
     s2: &[u8],
 ) -> Answer
-    ensures { verdict_of result ≡ first_of (held_reasons (short (entry_state first d1 s1) || short (entry_state second d2 s2)) []
-        (is_dataset (entry_state first d1 s1) && is_dataset (entry_state second d2 s2)) []) }
+    ensures { verdict_of result ≡ first_of (held_reasons (short (state_of first d1.now s1.now) || short (state_of second d2.now s2.now)) []
+        (is_dataset (state_of first d1.now s1.now) && is_dataset (state_of second d2.now s2.now)) []) }
 {
     if is_short(d1, s1) {
         return Answer::Refused(Refusal::ShortMemory);
@@ -62,7 +62,7 @@ fn check_merged(
 ) -> Answer
     requires { Agreed (state_of first d1.now s1.now) (state_of second d2.now s2.now) firsts.now seconds.now }
     ensures { verdict_of result
-        ≡ first_of (source_reasons (entry_state first d1 s1) (entry_state second d2 s2) firsts.now seconds.now) }
+        ≡ first_of (source_reasons (state_of first d1.now s1.now) (state_of second d2.now s2.now) firsts.now seconds.now) }
 {
     let mut rest = [0usize; MAX_TIDES];
     let m = find_rest(firsts, seconds, second.n, &mut rest);
@@ -92,7 +92,7 @@ fn merge_answer(
     seconds: &[u8],
 ) -> Answer
     ensures { verdict_of result
-        ≡ first_of (source_reasons (entry_state first d1 s1) (entry_state second d2 s2) firsts.now seconds.now) }
+        ≡ first_of (source_reasons (state_of first d1.now s1.now) (state_of second d2.now s2.now) firsts.now seconds.now) }
 {
     let checked = check_sources(first, d1, s1, second, d2, s2);
     let Answer::Done = checked else {
@@ -123,9 +123,9 @@ fn put_merged(
 ) -> Dataset
     requires { MergeAccepted (state_of first d1.now s1.now) (state_of second d2.now s2.now) (state_of into d3.old s3.old)
         firsts.now seconds.now }
-    ensures { exit_state result d3 s3
-        ≡ after (entry_state into d3 s3)
-        (merges_datasets (entry_state first d1 s1) (entry_state second d2 s2) firsts.now seconds.now) }
+    ensures { state_of result d3.new s3.new
+        ≡ after (state_of into d3.old s3.old)
+        (merges_datasets (state_of first d1.now s1.now) (state_of second d2.now s2.now) firsts.now seconds.now) }
 {
     let mut rest = [0usize; MAX_TIDES];
     let m = find_rest(firsts, seconds, second.n, &mut rest);
@@ -159,11 +159,11 @@ pub fn merge(
     seconds: &[u8],
 ) -> Outcome
     ensures answer { verdict_of result.answer
-        ≡ answer (entry_state into d3 s3)
-        (merges_datasets (entry_state first d1 s1) (entry_state second d2 s2) firsts.now seconds.now) }
-    ensures leaves { exit_state result.dataset d3 s3
-        ≡ after (entry_state into d3 s3)
-        (merges_datasets (entry_state first d1 s1) (entry_state second d2 s2) firsts.now seconds.now) }
+        ≡ answer (state_of into d3.old s3.old)
+        (merges_datasets (state_of first d1.now s1.now) (state_of second d2.now s2.now) firsts.now seconds.now) }
+    ensures leaves { state_of result.dataset d3.new s3.new
+        ≡ after (state_of into d3.old s3.old)
+        (merges_datasets (state_of first d1.now s1.now) (state_of second d2.now s2.now) firsts.now seconds.now) }
 {
     if is_short(d3, s3) {
         return Outcome {

@@ -3,15 +3,15 @@ ghost use Rattle.std.specs.Prelude.{◌≡◌, ◌+◌, ◌<◌, eqb, length};
 ghost use Rattle.lists.specs.Lists.{between, every, at};
 ghost use Rattle.validity.specs.Memory.{state_of};
 ghost use Rattle.access.specs.Passed.{Passed};
-ghost use Rattle.merge.specs.Merge.{consistent, agreeing, agree};
-ghost use Rattle.merge.specs.Sources.{study_in, shared_in, Named};
+ghost use Rattle.merge.specs.Merge.{shared, consistent, agreeing, agree};
+ghost use Rattle.merge.specs.Sources.{study_in, Named};
 
 use crate::source::{distance, setting, tide_of};
 use study::{Dataset, wide};
 
 // Whether no pair is named.
 pub fn names_none(firsts: &[u8], seconds: &[u8]) -> bool
-    ensures { result ≡ eqb (shared_in firsts seconds).pairs 0 }
+    ensures { result ≡ eqb (shared firsts.now seconds.now).pairs 0 }
 {
     if firsts.len() != 0 {
         return false;
@@ -46,7 +46,7 @@ fn is_consistent(
 ) -> bool
     requires named { Named (state_of first d1.now s1.now) (state_of second d2.now s2.now) firsts.now seconds.now (q + 1) }
     requires p_lt_q { p < q }
-    ensures { result ≡ consistent (study_in first d1 s1) (study_in second d2 s2) firsts.now seconds.now q p }
+    ensures { result ≡ consistent (study_in first d1.now s1.now) (study_in second d2.now s2.now) firsts.now seconds.now q p }
 {
     if firsts[p] == firsts[q] {
         return false;
@@ -72,7 +72,7 @@ fn all_consistent(
     q: usize,
 ) -> bool
     requires { Named (state_of first d1.now s1.now) (state_of second d2.now s2.now) firsts.now seconds.now (q + 1) }
-    ensures { result ≡ every q (consistent (study_in first d1 s1) (study_in second d2 s2) firsts.now seconds.now q) }
+    ensures { result ≡ every q (consistent (study_in first d1.now s1.now) (study_in second d2.now s2.now) firsts.now seconds.now q) }
 {
     let mut p: usize = 0;
     while p < q {
@@ -98,7 +98,7 @@ fn pair_agrees(
 ) -> bool
     requires named { Named (state_of first d1.now s1.now) (state_of second d2.now s2.now) firsts.now seconds.now q }
     requires q_in_bounds { (q < length firsts.now) × (q < length seconds.now) }
-    ensures { result ≡ agreeing (study_in first d1 s1) (study_in second d2 s2) firsts.now seconds.now q }
+    ensures { result ≡ agreeing (study_in first d1.now s1.now) (study_in second d2.now s2.now) firsts.now seconds.now q }
 {
     if !is_tide(firsts, q, first.n) {
         return false;
@@ -126,7 +126,7 @@ pub fn agree(
     seconds: &[u8],
 ) -> bool
     requires { Passed (state_of first d1.now s1.now) × Passed (state_of second d2.now s2.now) }
-    ensures { result ≡ agree (study_in first d1 s1) (study_in second d2 s2) firsts.now seconds.now }
+    ensures { result ≡ agree (study_in first d1.now s1.now) (study_in second d2.now s2.now) firsts.now seconds.now }
 {
     let m = firsts.len();
     if first.k != second.k {

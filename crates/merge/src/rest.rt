@@ -1,8 +1,8 @@
 // The second dataset's tides that are in no pair.
 ghost use Rattle.std.specs.Prelude.{◌≡◌, ◌≤◌, length};
 ghost use Rattle.study.specs.Limits.{max_tides};
-ghost use Rattle.merge.specs.Merge.{unshared};
-ghost use Rattle.merge.specs.Sources.{shared_in, NumberPairs, RestIn};
+ghost use Rattle.merge.specs.Merge.{shared, unshared};
+ghost use Rattle.merge.specs.Sources.{NumberPairs, RestIn};
 
 use crate::source::tide_of;
 use study::MAX_TIDES;
@@ -10,7 +10,7 @@ use study::MAX_TIDES;
 // Whether tide j is in no pair.
 fn is_unshared(firsts: &[u8], seconds: &[u8], j: usize) -> bool
     requires { NumberPairs firsts.now seconds.now }
-    ensures { result ≡ unshared (shared_in firsts seconds) j }
+    ensures { result ≡ unshared (shared firsts.now seconds.now) j }
 {
     let m = firsts.len();
     let mut q: usize = 0;
@@ -27,7 +27,7 @@ fn is_unshared(firsts: &[u8], seconds: &[u8], j: usize) -> bool
 pub fn find_rest(firsts: &[u8], seconds: &[u8], n: usize, rest: &mut [usize; MAX_TIDES]) -> usize
     requires number_pairs { NumberPairs firsts.now seconds.now }
     requires n_le_max_tides { (n ≤ max_tides) × (length rest.old ≡ max_tides) }
-    ensures { RestIn (shared_in firsts seconds) n result rest.new }
+    ensures { RestIn (shared firsts.now seconds.now) n result rest.new }
 {
     let mut count: usize = 0;
     let mut j: usize = 0;

@@ -21,7 +21,7 @@ pub fn tide_of(list: &[u8], q: usize) -> usize
 pub fn distance(dataset: Dataset, distances: &[u32], settings: &[u8], t: usize, u: usize) -> u32
     requires passed { Passed (state_of dataset distances.now settings.now) }
     requires t_lt_n { (t < dataset.n) × (u < dataset.n) }
-    ensures { (result ≡ distance (study_in dataset distances settings) t u) × (result ≤ max_distance) }
+    ensures { (result ≡ distance (study_in dataset distances.now settings.now) t u) × (result ≤ max_distance) }
 {
     distances[t * MAX_TIDES + u]
 }
@@ -30,7 +30,7 @@ pub fn distance(dataset: Dataset, distances: &[u32], settings: &[u8], t: usize, 
 pub fn setting(dataset: Dataset, distances: &[u32], settings: &[u8], t: usize) -> u8
     requires passed { Passed (state_of dataset distances.now settings.now) }
     requires t_lt_n { t < dataset.n }
-    ensures { result ≡ (tide (study_in dataset distances settings) t).setting }
+    ensures { result ≡ (tide (study_in dataset distances.now settings.now) t).setting }
 {
     settings[t]
 }

@@ -12,14 +12,14 @@ mod pairs;
 
 ghost use Rattle.std.specs.Prelude.{◌≡◌, ◌≤◌, length};
 ghost use Rattle.study.specs.Limits.{max_tides, table_size};
-ghost use Rattle.validity.specs.Memory.{state_of, contents_of, entry_state, exit_state};
+ghost use Rattle.validity.specs.Memory.{state_of, contents_of};
 ghost use Rattle.access.specs.Passed.{Passed};
 ghost use Rattle.merge_text.specs.Pairs.{ended, pairs_of};
 ghost use Rattle.merge_text.specs.Joining.{report_of, made, merged_by, join_answer, join_leaves};
 ghost use Rattle.merge_text.specs.Steps.{FileRead, Merged, Tells};
 
 // What is wrong with a line of the pairs' text.
-#[derive(Drop)]
+#[derive(Clone, Copy)]
 pub enum Fault {
     NotANumber,
     // Above 4,294,967,295.
@@ -33,7 +33,7 @@ pub enum Fault {
 }
 
 // The byte length of the merged file, or what is wrong.
-#[derive(Drop)]
+#[derive(Clone, Copy)]
 pub enum Joined {
     Done(usize),
     // Read's refusal of the first file.
@@ -49,7 +49,7 @@ pub enum Joined {
 // The dataset's file.
 fn write_dataset(dataset: Dataset, distances: &[u32], settings: &[u8], file: &mut [u8]) -> Joined
     requires { Passed (state_of dataset distances.now settings.now) }
-    ensures { Tells (made (contents_of (entry_state dataset distances settings))) result file.old file.new }
+    ensures { Tells (made (contents_of (state_of dataset distances.now settings.now))) result file.old file.new }
 {
     let reply = write(dataset, distances, settings, file);
     match reply {
@@ -73,8 +73,8 @@ fn merge_datasets(
 ) -> Outcome
     requires passed { Passed (state_of first d1.now s1.now) × Passed (state_of second d2.now s2.now) }
     requires table_size_in_bounds { (table_size ≤ length d3.old) × (max_tides ≤ length s3.old) }
-    ensures { Merged (contents_of (entry_state first d1 s1)) (contents_of (entry_state second d2 s2)) firsts.now seconds.now
-        result.answer (exit_state result.dataset d3 s3) }
+    ensures { Merged (contents_of (state_of first d1.now s1.now)) (contents_of (state_of second d2.now s2.now)) firsts.now seconds.now
+        result.answer (state_of result.dataset d3.new s3.new) }
 {
     merge(
         first,
@@ -104,7 +104,7 @@ fn write_merged(
     file: &mut [u8],
 ) -> Joined
     requires { Passed (state_of first d1.now s1.now) × Passed (state_of second d2.now s2.now) }
-    ensures { Tells (merged_by (contents_of (entry_state first d1 s1)) (contents_of (entry_state second d2 s2))
+    ensures { Tells (merged_by (contents_of (state_of first d1.now s1.now)) (contents_of (state_of second d2.now s2.now))
         (ended (record { firsts = firsts.entry.now; seconds = seconds.now }))) result file.old file.new }
 {
     let mut d3 = [0u32; TABLE_SIZE];
@@ -131,7 +131,7 @@ fn join_datasets(
     file: &mut [u8],
 ) -> Joined
     requires { Passed (state_of first d1.now s1.now) × Passed (state_of second d2.now s2.now) }
-    ensures { Tells (merged_by (contents_of (entry_state first d1 s1)) (contents_of (entry_state second d2 s2)) (pairs_of pairs.now))
+    ensures { Tells (merged_by (contents_of (state_of first d1.now s1.now)) (contents_of (state_of second d2.now s2.now)) (pairs_of pairs.now))
         result file.old file.new }
 {
     let mut firsts = [0u8; 65536];
@@ -156,7 +156,7 @@ fn join_datasets(
 // The dataset of a file, read over a blank record.
 fn read_dataset(file: &[u8], distances: &mut [u32], settings: &mut [u8]) -> Outcome
     requires { (table_size ≤ length distances.old) × (max_tides ≤ length settings.old) }
-    ensures { FileRead file.now result.answer (exit_state result.dataset distances settings) }
+    ensures { FileRead file.now result.answer (state_of result.dataset distances.new settings.new) }
 {
     read(blank(), distances, settings, file)
 }

@@ -9,7 +9,7 @@ use narrowing::narrow;
 use text_words::{Cursor, Word, next, whole_lines};
 
 // What stands next in the text.
-#[derive(Drop)]
+#[derive(Clone, Copy)]
 pub enum Step {
     // A pair and the place after it.
     Pair(u8, u8, Cursor),
@@ -20,7 +20,7 @@ pub enum Step {
 }
 
 // How many pairs the text has, or a line and what is wrong there.
-#[derive(Drop)]
+#[derive(Clone, Copy)]
 pub enum Listed {
     Pairs(usize),
     Wrong(usize, Fault),

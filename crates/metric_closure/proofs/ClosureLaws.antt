@@ -9,7 +9,7 @@ use mathlib.Core.List.Memᴰ
 use mathlib.Core.List.Memᴰ.{head as here}
 use mathlib.Core.List.Memᴰ.{tail as there}
 use lib.Dec.{ltb, ltb→lt, nltb→le, not_T}
-use Rattle.lists.specs.Lists.{◌among◌, sum_below, bit, count_below}
+use Rattle.lists.specs.Lists.{◌among◌, bit, count_below}
 use Rattle.lists.proofs.Tests.{T_false, split}
 use Rattle.lists.proofs.Counts.{sum_suc, sum_le, sum_same, count_same, count_most}
 use Rattle.lists.proofs.Counting.{sum_none, sum_const, sum_front, count_none}

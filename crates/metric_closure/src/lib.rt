@@ -15,7 +15,7 @@ ghost use Rattle.std.specs.Prelude.{◌≡◌};
 ghost use Rattle.metric_closure.specs.Call.{close_answer, close_leaves, closed_of};
 
 // What the call answers.
-#[derive(Drop)]
+#[derive(Clone, Copy)]
 pub enum Closed {
     // The number of pairs that were lowered.
     Done(usize),

@@ -10,7 +10,7 @@ ghost use Rattle.nearest_centre.specs.Inputs.{Centred};
 use study::MAX_TIDES;
 
 // A block's number, and how far its centre lies from a tide.
-#[derive(Drop)]
+#[derive(Clone, Copy)]
 pub struct Nearest {
     pub block: u8,
     pub distance: u32,

@@ -1,8 +1,8 @@
 // The tariff with its records in a lent slice: Block's thin function, over the core that prices.
 ghost use Rattle.core.specs.Prelude.{◌≡◌};
-ghost use Rattle.validity.specs.Memory.{entry_state};
+ghost use Rattle.validity.specs.Memory.{state_of};
 ghost use Rattle.access.specs.Calls.{list_after, records_after};
-ghost use Rattle.blocking.specs.Calls.{entry_call};
+ghost use Rattle.blocking.specs.Calls.{};
 ghost use Rattle.priced_blocks.specs.Calls.{prices_blocks, Billed};
 
 use crate::core::{Priced, price_core};
@@ -17,9 +17,9 @@ pub fn price_blocks(
     list: &mut [u8],
     records: &mut [BlockRecord],
 ) -> Priced
-    ensures answer { Billed (entry_state dataset distances settings) (entry_call prices_blocks list records) result }
-    ensures list { list.new ≡ list_after (entry_state dataset distances settings) (entry_call prices_blocks list records) }
-    ensures records { records.new ≡ records_after (entry_state dataset distances settings) (entry_call prices_blocks list records) }
+    ensures answer { Billed (state_of dataset distances.now settings.now) (prices_blocks list.old records.old) result }
+    ensures list { list.new ≡ list_after (state_of dataset distances.now settings.now) (prices_blocks list.old records.old) }
+    ensures records { records.new ≡ records_after (state_of dataset distances.now settings.now) (prices_blocks list.old records.old) }
 {
     let room = records.len();
     let computed = price_core(dataset, distances, settings, list, room);

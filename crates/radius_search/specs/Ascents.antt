@@ -1,6 +1,6 @@
 -- The radii from one upwards as far as the centres stay, and the least with an assignment. Assumes nothing.
 use Rattle.std.specs.Prelude.{ℕ, ◌≤◌, ◌<◌, ◌≡◌, Bool, true, false, List, length}
-use Rattle.study.specs.Problem.{Problem, centres, labels}
+use Rattle.study.specs.Problem.{Problem, labels}
 use Rattle.study.specs.Theorems.{Assignment}
 use Rattle.promise.specs.Promise.{Test, Assigned}
 use Rattle.radius_theory.specs.Arrays.{array_problem}

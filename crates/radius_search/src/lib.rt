@@ -129,7 +129,7 @@ fn ascend(
 }
 
 // A radius, and how many centres it has.
-#[derive(Drop)]
+#[derive(Clone, Copy)]
 pub struct LeastRadius {
     pub radius: u32,
     pub count: usize,

@@ -3,7 +3,7 @@
 
 ghost use Rattle.std.specs.Prelude.{◌≡◌, ◌≤◌};
 ghost use Rattle.study.specs.Refusals.{numbered};
-ghost use Rattle.validity.specs.Memory.{entry_state};
+ghost use Rattle.validity.specs.Memory.{state_of};
 ghost use Rattle.sheet_text.specs.Text.{refused_text, laid_out};
 ghost use Rattle.sheet_of_file.specs.Sheet.{sheet_of, blocked_text};
 
@@ -42,7 +42,7 @@ fn refused_sheet(why: Refusal) -> Text
 
 // The sheet of what Block answers.
 fn blocked_sheet(dataset: Dataset, distances: &[u32], settings: &[u8]) -> Text
-    ensures { (result.length ≤ 2855) × (result ≡ laid_out (blocked_text (entry_state dataset distances settings))) }
+    ensures { (result.length ≤ 2855) × (result ≡ laid_out (blocked_text (state_of dataset distances.now settings.now))) }
 {
     let mut list = [0u8; MAX_TIDES];
     let blocked = block_by_value(dataset, distances, settings, &mut list);

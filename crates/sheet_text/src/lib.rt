@@ -14,7 +14,7 @@ ghost use Rattle.sheet_text.specs.Text.{sheet_text, laid_out};
 ghost use Rattle.sheet_text.specs.Putting.{PutText};
 
 // The text is the first `length` bytes, zeros stand after it: at most 26 of heading, 120 lines of 23 and a last line of 69.
-#[derive(Drop)]
+#[derive(Clone, Copy)]
 pub struct Text {
     pub bytes: [u8; 2855],
     pub length: usize,

@@ -39,14 +39,14 @@ pub fn wide(x: u8) -> usize
 }
 
 // The minima: b0 for a whole block, and b for each of the 8 settings.
-#[derive(Drop)]
+#[derive(Clone, Copy)]
 pub struct Minima {
     pub b0: u8,
     pub b: [u8; MAX_SETTINGS],
 }
 
 // The record of a dataset (document 01: book); the distances and settings stand in memory that the caller lends.
-#[derive(Drop)]
+#[derive(Clone, Copy)]
 pub struct Dataset {
     pub k: u8,
     pub n: usize,
@@ -56,7 +56,7 @@ pub struct Dataset {
 }
 
 // Why a call is refused. `specs/Refusals.antt` gives each case its number in documents 01 and 02, and its values.
-#[derive(Drop)]
+#[derive(Clone, Copy)]
 pub enum Refusal {
     ShortMemory,
     SettingCount,
@@ -90,21 +90,21 @@ pub enum Refusal {
 }
 
 // Whether a call is done, or why not.
-#[derive(Drop)]
+#[derive(Clone, Copy)]
 pub enum Answer {
     Done,
     Refused(Refusal),
 }
 
 // The answer of a call that may change the dataset, and the record after it.
-#[derive(Drop)]
+#[derive(Clone, Copy)]
 pub struct Outcome {
     pub answer: Answer,
     pub dataset: Dataset,
 }
 
 // What Block says of one block: its centre's tide number, its number of tides, its diameter.
-#[derive(Drop)]
+#[derive(Clone, Copy)]
 pub struct BlockRecord {
     pub centre: u8,
     pub tides: u8,
@@ -112,7 +112,7 @@ pub struct BlockRecord {
 }
 
 // Block's answer.
-#[derive(Drop)]
+#[derive(Clone, Copy)]
 pub enum Blocked {
     // The number of blocks, the radius, the greatest diameter.
     Done(usize, u32, u32),
@@ -120,7 +120,7 @@ pub enum Blocked {
 }
 
 // Judge's answer.
-#[derive(Drop)]
+#[derive(Clone, Copy)]
 pub enum Judged {
     // The greatest diameter.
     Approved(u32),

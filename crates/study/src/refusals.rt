@@ -6,7 +6,7 @@ ghost use Rattle.study.specs.Numbers.{said_by, number_of, refusal_number};
 use crate::{Answer, Refusal};
 
 // A number alone, or 7 with its pair.
-#[derive(Drop)]
+#[derive(Clone, Copy)]
 pub enum Number {
     Alone(u32),
     Seven(usize, usize),

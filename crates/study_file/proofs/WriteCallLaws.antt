@@ -11,7 +11,7 @@ use Rattle.lists.proofs.Tests.{T_true, T_false}
 use Rattle.study.specs.declared.Refusal.{Refusal}
 use Rattle.study.specs.declared.Answer.{Answer}
 use Rattle.study.specs.declared.Answer.TheVariants.{Refused}
-use Rattle.study.specs.Study.{Contents, size}
+use Rattle.study.specs.Study.{Contents}
 use Rattle.study.specs.Refusals.{number, Numbered, accepted, refused, value, refusal, verdict_of, numbered, first_of}
 use Rattle.file_format.specs.File.{file_of, byte_length}
 use Rattle.file_format.proofs.WrittenLaws.{file_length}

@@ -2,7 +2,7 @@
 #![tactic(auto)]
 
 ghost use Rattle.std.specs.Prelude.{◌≡◌};
-ghost use Rattle.validity.specs.Memory.{state_of, entry_state, exit_state};
+ghost use Rattle.validity.specs.Memory.{state_of};
 ghost use Rattle.access.specs.Calls.{answer, after, reply, list_after};
 ghost use Rattle.access.specs.Passed.{Passed};
 ghost use Rattle.study.specs.Refusals.{verdict_of};
@@ -16,7 +16,7 @@ use study::{Answer, Dataset, MAX_TIDES, Outcome, Refusal, TABLE_SIZE};
 use validity::is_short;
 
 // The byte length of the file that was written, or why none was.
-#[derive(Drop)]
+#[derive(Clone, Copy)]
 pub enum Written {
     Done(usize),
     Refused(Refusal),
@@ -24,8 +24,8 @@ pub enum Written {
 
 // The dataset that a file holds. It is read into memory of its own, and copied into the lent memory once nothing can refuse it any more.
 pub fn read(dataset: Dataset, distances: &mut [u32], settings: &mut [u8], file: &[u8]) -> Outcome
-    ensures answer { verdict_of result.answer ≡ answer (entry_state dataset distances settings) (reads_file file.now) }
-    ensures leaves { exit_state result.dataset distances settings ≡ after (entry_state dataset distances settings) (reads_file file.now) }
+    ensures answer { verdict_of result.answer ≡ answer (state_of dataset distances.old settings.old) (reads_file file.now) }
+    ensures leaves { state_of result.dataset distances.new settings.new ≡ after (state_of dataset distances.old settings.old) (reads_file file.now) }
 {
     if is_short(distances, settings) {
         return Outcome {
@@ -66,8 +66,8 @@ pub fn read(dataset: Dataset, distances: &mut [u32], settings: &mut [u8], file: 
 // The file of a dataset, where there is room for it.
 fn write_file(dataset: Dataset, distances: &[u32], settings: &[u8], file: &mut [u8]) -> Written
     requires { Passed (state_of dataset distances.now settings.now) }
-    ensures reply { written_of result ≡ reply (entry_state dataset distances settings) (writes_file file.old) }
-    ensures leaves { file.new ≡ list_after (entry_state dataset distances settings) (writes_file file.old) }
+    ensures reply { written_of result ≡ reply (state_of dataset distances.now settings.now) (writes_file file.old) }
+    ensures leaves { file.new ≡ list_after (state_of dataset distances.now settings.now) (writes_file file.old) }
 {
     let size = byte_length(dataset.k as usize, dataset.n);
     if file.len() < size {
@@ -79,8 +79,8 @@ fn write_file(dataset: Dataset, distances: &[u32], settings: &[u8], file: &mut [
 
 // The file over the front of the lent bytes; those past it stay.
 pub fn write(dataset: Dataset, distances: &[u32], settings: &[u8], file: &mut [u8]) -> Written
-    ensures reply { written_of result ≡ reply (entry_state dataset distances settings) (writes_file file.old) }
-    ensures leaves { file.new ≡ list_after (entry_state dataset distances settings) (writes_file file.old) }
+    ensures reply { written_of result ≡ reply (state_of dataset distances.now settings.now) (writes_file file.old) }
+    ensures leaves { file.new ≡ list_after (state_of dataset distances.now settings.now) (writes_file file.old) }
 {
     let answer = access::check(dataset, distances, settings);
     match answer {

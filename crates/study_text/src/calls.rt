@@ -1,7 +1,7 @@
 // The calls that a text makes: Open and Minima from its head, then an Enter for each tide; a measured tide comes in without one.
 ghost use Rattle.std.specs.Prelude.{◌≡◌, ◌≤◌, length};
 ghost use Rattle.study.specs.Limits.{max_tides, table_size};
-ghost use Rattle.validity.specs.Memory.{state_of, contents_of, entry_state, exit_state};
+ghost use Rattle.validity.specs.Memory.{state_of, contents_of};
 ghost use Rattle.access.specs.Passed.{Passed};
 ghost use Rattle.study_text.specs.Packing.{minima_from, opening_of, minima_of, head_of, tide_of, entered, turn_of, turns_of, text_of, going};
 ghost use Rattle.text_words.specs.Words.{CursorWithin};
@@ -17,14 +17,14 @@ use study::{Answer, Dataset, MAX_SETTINGS, MAX_TIDES, MAX_USERS, Minima, Outcome
 use text_words::{Cursor, Word, next};
 
 // Why no more is read: the text's end, with its line, or what stops it.
-#[derive(Drop)]
+#[derive(Clone, Copy)]
 pub enum Over {
     End(usize),
     Stopped(Packed),
 }
 
 // Whether more is read.
-#[derive(Drop)]
+#[derive(Clone, Copy)]
 pub enum Step {
     Going,
     Over(Over),
@@ -32,7 +32,7 @@ pub enum Step {
 
 // The record after a call, and the place in the text. The place is free where no more is read, the record where something stops the
 // reading; what holds of them all the same is said by `Reaches` and `Begins`.
-#[derive(Drop)]
+#[derive(Clone, Copy)]
 pub struct Reached {
     pub step: Step,
     pub dataset: Dataset,
@@ -40,7 +40,7 @@ pub struct Reached {
 }
 
 // The record at the text's end; it is free where something stops the reading.
-#[derive(Drop)]
+#[derive(Clone, Copy)]
 pub struct Finished {
     pub over: Over,
     pub dataset: Dataset,
@@ -127,7 +127,7 @@ fn read_minima(
 ) -> Reached
     requires { CursorWithin text.now from × Passed (state_of dataset distances.now settings.now) }
     ensures { Reaches Rule.Entered text.now result distances.now settings.now
-        (entered (minima_of text.now (contents_of (entry_state dataset distances settings)) from)) }
+        (entered (minima_of text.now (contents_of (state_of dataset distances.now settings.now)) from)) }
 {
     let mut xs = [0u32; 9];
     let n = dataset.k as usize + 1;
@@ -151,8 +151,8 @@ fn take_tide(
     row: &[u32],
 ) -> Outcome
     requires { Held rule (state_of dataset distances.old settings.old) }
-    ensures { Took rule (entry_state dataset distances settings) setting row.now
-        result.answer (exit_state result.dataset distances settings) }
+    ensures { Took rule (state_of dataset distances.old settings.old) setting row.now
+        result.answer (state_of result.dataset distances.new settings.new) }
 {
     match rule {
         Rule::Entered => enter(dataset, distances, settings, narrow(setting), row),
@@ -173,7 +173,7 @@ fn read_tide(
 ) -> Reached
     requires { CursorWithin text.now from × Held rule (state_of dataset distances.old settings.old) × (max_tides ≤ length row.old) }
     ensures { Reaches rule text.now result distances.new settings.new
-        (entered (tide_of rule text.now (contents_of (entry_state dataset distances settings)) setting from)) }
+        (entered (tide_of rule text.now (contents_of (state_of dataset distances.old settings.old)) setting from)) }
 {
     let n = dataset.n;
     let read = read_row(text, from, &mut row[..n]);
@@ -198,7 +198,7 @@ fn next_tide(
 ) -> Reached
     requires { CursorWithin text.now from × Held rule (state_of dataset distances.old settings.old) × (max_tides ≤ length row.old) }
     ensures { Reaches rule text.now result distances.new settings.new
-        (turn_of rule text.now (contents_of (entry_state dataset distances settings)) from) }
+        (turn_of rule text.now (contents_of (state_of dataset distances.old settings.old)) from) }
 {
     let word = next(text, from);
     match word {

@@ -15,14 +15,14 @@ ghost use Rattle.study_text.specs.Packing.{report_of, pack_answer, pack_leaves, 
 ghost use Rattle.study_text.specs.Reached.{Live, finished_of};
 
 // How a text's tides come in: by Enter; or as measured, where the triangle inequality may fail and a tide may be a duplicate.
-#[derive(Drop)]
+#[derive(Clone, Copy)]
 pub enum Rule {
     Entered,
     Measured,
 }
 
 // The byte length of the file, or a line of the text, from 1, and what is wrong there.
-#[derive(Drop)]
+#[derive(Clone, Copy)]
 pub enum Packed {
     Done(usize),
     // The line of the last number that the call was given.

@@ -1,7 +1,7 @@
 // A tide as it was measured: its distances may break the triangle inequality, and it may be a duplicate.
 ghost use Rattle.std.specs.Prelude.{◌≡◌, length};
 ghost use Rattle.study.specs.Refusals.{verdict_of, first_of};
-ghost use Rattle.validity.specs.Memory.{state_of, study_of, entry_state, exit_state};
+ghost use Rattle.validity.specs.Memory.{state_of, study_of};
 ghost use Rattle.study.specs.Calls.{measured_reasons};
 ghost use Rattle.study_text.specs.Reached.{Measuring, Took};
 
@@ -17,7 +17,7 @@ fn measured_answer(
     setting: u32,
     row: &[u32],
 ) -> Answer
-    ensures { verdict_of result ≡ first_of (measured_reasons (study_of (entry_state dataset distances settings)) setting row.now) }
+    ensures { verdict_of result ≡ first_of (measured_reasons (study_of (state_of dataset distances.now settings.now)) setting row.now) }
 {
     let k = dataset.k as u32;
     let n = dataset.n;
@@ -60,8 +60,8 @@ pub fn measure(
     row: &[u32],
 ) -> Outcome
     requires { Measuring (state_of dataset distances.old settings.old) }
-    ensures { Took Rule.Measured (entry_state dataset distances settings) setting row.now
-        result.answer (exit_state result.dataset distances settings) }
+    ensures { Took Rule.Measured (state_of dataset distances.old settings.old) setting row.now
+        result.answer (state_of result.dataset distances.new settings.new) }
 {
     let answer = measured_answer(dataset, distances, settings, setting, row);
     let Answer::Done = answer else {

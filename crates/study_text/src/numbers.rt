@@ -8,7 +8,7 @@ use crate::Packed;
 use text_words::{Cursor, Word, next};
 
 // The number that stands next, or what stops the reading.
-#[derive(Drop)]
+#[derive(Clone, Copy)]
 pub enum Given {
     // The number and the place after it.
     Number(u32, Cursor),
@@ -16,7 +16,7 @@ pub enum Given {
 }
 
 // A row of numbers that was read, or what stops the reading.
-#[derive(Drop)]
+#[derive(Clone, Copy)]
 pub enum Row {
     // The place after the last number.
     Read(Cursor),

@@ -27,7 +27,7 @@ pub fn line(n: usize, positions: [u8; 7], b0: u8) -> Small {
 }
 
 // What Block is to give: a diameter past the last block is 0.
-#[derive(Drop)]
+#[derive(Clone, Copy)]
 struct Expected {
     count: usize,
     radius: u32,

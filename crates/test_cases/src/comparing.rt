@@ -15,7 +15,7 @@ use test_tools::tally;
 use test_tools::tally::Tally;
 
 // Block's answer, records, and a list of nine places that held 170.
-#[derive(Drop)]
+#[derive(Clone, Copy)]
 pub struct Given {
     pub answer: Blocked,
     pub records: [BlockRecord; MAX_TIDES],
@@ -119,7 +119,7 @@ fn other_by_number(small: Small, plain: Plain) -> bool {
 // Studies in which Block gives what the plain blocker gives, those of them that are refused 24 and 25, that have several blocks,
 // in which a candidate above the radius has no assignment, in which Minima raises b0, in which the order by number would give another list,
 // and which hold a duplicate, so that they come in by file.
-#[derive(Drop)]
+#[derive(Clone, Copy)]
 pub struct Compared {
     agreed: Tally,
     no_tides: Tally,
@@ -132,7 +132,7 @@ pub struct Compared {
 }
 
 // The same of one study.
-#[derive(Drop)]
+#[derive(Clone, Copy)]
 struct Kinds {
     agreed: bool,
     no_tides: bool,

@@ -17,7 +17,7 @@ const KNOWN: BlockRecord = BlockRecord {
 };
 
 // Block's answer, and the records that it was lent.
-#[derive(Drop)]
+#[derive(Clone, Copy)]
 struct LentBlocks {
     answer: Blocked,
     records: [BlockRecord; 6],
@@ -31,7 +31,7 @@ fn lend_block(dataset: Dataset, distances: &[u32], settings: &[u8], list: &mut [
 }
 
 // The same of the tariff.
-#[derive(Drop)]
+#[derive(Clone, Copy)]
 struct LentPrices {
     priced: Priced,
     records: [BlockRecord; 6],
@@ -54,7 +54,7 @@ fn same(a: BlockRecord, b: BlockRecord) -> bool {
 }
 
 // What a call is to leave: a refusal's number or 0, the list, the records, the total and the shares.
-#[derive(Drop)]
+#[derive(Clone, Copy)]
 struct Expected {
     number: u32,
     list: [u8; 9],

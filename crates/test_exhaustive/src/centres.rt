@@ -2,7 +2,7 @@
 use crate::small::Small;
 
 // The tides that are centres, in order; block m belongs to the m-th.
-#[derive(Drop)]
+#[derive(Clone, Copy)]
 pub struct Centres {
     pub count: u8,
     pub tides: [usize; 7],

@@ -8,14 +8,14 @@ use crate::small::{Small, at};
 const NONE: u32 = 4294967295;
 
 // The order in which each tide takes the blocks: by its preference (document 02, 2.6), or by their numbers, as it was before.
-#[derive(Drop)]
+#[derive(Clone, Copy)]
 pub enum Order {
     Preference,
     Number,
 }
 
 // A list of places or of blocks, where there is one.
-#[derive(Drop)]
+#[derive(Clone, Copy)]
 pub struct FoundList {
     pub found: bool,
     pub list: [u8; 7],
@@ -160,7 +160,7 @@ fn next_candidate(small: Small, g: u32) -> u32 {
 }
 
 // Refusal 24 or 25, else 0 with the radius and the list.
-#[derive(Drop)]
+#[derive(Clone, Copy)]
 pub struct Plain {
     pub refusal: u32,
     pub radius: u32,

@@ -4,7 +4,7 @@ use study::{Dataset, Minima};
 use test_tools::samples::{entered, gap, opened, with_minima};
 use test_tools::slices::front_row;
 
-#[derive(Drop)]
+#[derive(Clone, Copy)]
 pub struct Small {
     pub n: usize,
     pub k: u8,

@@ -4,7 +4,7 @@ ghost use Rattle.std.specs.Prelude.{◌<◌, ◌≤◌};
 use study::{MAX_TIDES, Minima, TABLE_SIZE};
 
 // What is asked of a table: up to six tides and three blocks.
-#[derive(Drop)]
+#[derive(Clone, Copy)]
 pub struct Question {
     pub n: usize,
     pub blocks: usize,

@@ -4,7 +4,7 @@ use std::io::Write;
 use study::refusals::number_of;
 use study::{Answer, Outcome, Refusal};
 
-#[derive(Drop)]
+#[derive(Clone, Copy)]
 pub struct Tally {
     pub tried: u32,
     pub right: u32,

@@ -7,14 +7,14 @@ ghost use Rattle.text_words.specs.Words.{newline, newlines, ends_word, begins, c
 ghost use Rattle.text_words.specs.Words.{start_of, word_of, numeral_of, next_of, CursorWithin, capped};
 
 // A place in the text, and its line, from 1.
-#[derive(Drop)]
+#[derive(Clone, Copy)]
 pub struct Cursor {
     pub at: usize,
     pub line: usize,
 }
 
 // What stands next, with its line or the place after it.
-#[derive(Drop)]
+#[derive(Clone, Copy)]
 pub enum Word {
     // The number and the place after it.
     Number(u32, Cursor),
@@ -27,7 +27,7 @@ pub enum Word {
 }
 
 // A word as a number.
-#[derive(Drop)]
+#[derive(Clone, Copy)]
 pub enum Numeral {
     Number(u32),
     Bad,

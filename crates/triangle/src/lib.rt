@@ -11,7 +11,7 @@ use std::num::{wrapping_add_u32, wrapping_sub_u32};
 use study::MAX_TIDES;
 
 // A pair of tides that violates the triangle inequality with a new tide, numbered from 1, the lower number first; or that there is none.
-#[derive(Drop)]
+#[derive(Clone, Copy)]
 pub enum Violation {
     Pair(usize, usize),
     Nothing,

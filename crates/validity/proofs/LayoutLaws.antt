@@ -124,6 +124,7 @@ module _ (H : Contents) (ok : ValidContents H) (s : State) where
 
 or_left : (a b : Bool) → T a → T (a || b)
 or_left true b t = t
+or_left false b t = elim t [ ]
 
 or_right : (a b : Bool) → T b → T (a || b)
 or_right true b t = tt

@@ -1,8 +1,6 @@
 -- A record and lent memory of any length: when they are a dataset (document 01: a book as described), the contents that a dataset
 -- holds, and the record and memory that hold given contents. Tides are numbered from 0. Assumes nothing.
 use Rattle.std.specs.Prelude.{ℕ, ◌/◌, ◌%◌, Bool, true, cond, ◌&&◌, ◌||◌, List, [], ◌∷◌, leb, ltb, eqb, length, get_or}
-use Rattle.std.specs.Borrow.{Bor}
-use denote.Triple.Both.{Both}
 use Rattle.lists.specs.Lists.{between, each, every, tabulate, overwrite, is_empty}
 use Rattle.study.specs.Limits.{cell, max_tides, table_size, max_distance, max_users, max_withdrawals, max_settings}
 use Rattle.study.specs.declared.Minima.{Minima}
@@ -19,18 +17,6 @@ pub record State : Type 0 where
 -- these three
 abbrev pub state_of : Dataset → List ℕ → List ℕ → State
 state_of r d s = record { dataset = r; distances = d; settings = s }
-
--- a lent list of numbers as an `ensures` has it: where the function begins, and where it returns
-abbrev pub LentList : Type 0
-LentList = Both (Bor (List ℕ)) (Bor (List ℕ))
-
--- a record with the lent memory as it is where the function begins
-abbrev pub entry_state : Dataset → LentList → LentList → State
-entry_state r d s = state_of r d.entry.now s.entry.now
-
--- a record with the lent memory as it is where the function returns
-abbrev pub exit_state : Dataset → LentList → LentList → State
-exit_state r d s = state_of r d.exit.now s.exit.now
 
 -- reason 1 of memory that has room for no dataset: fewer than 14,400 distances, in rows of 120, or than 120 setting bytes
 abbrev pub is_too_short : List ℕ → List ℕ → Bool

@@ -6,7 +6,7 @@ ghost use Rattle.std.specs.Prelude.{◌≡◌, true, false, cond, ◌≤◌, ◌
 ghost use Rattle.lists.specs.Lists.{every, sum_below};
 ghost use Rattle.study.specs.Limits.{max_tides, table_size, max_distance, max_settings};
 ghost use Rattle.study.specs.Study.{valid_minima};
-ghost use Rattle.validity.specs.Memory.{is_too_short, valid_setting, valid_place, valid_row, is_study, is_dataset, entry_state};
+ghost use Rattle.validity.specs.Memory.{is_too_short, valid_setting, valid_place, valid_row, is_study, is_dataset, state_of};
 
 use study::{
     Dataset, MAX_BLOCK_MINIMUM, MAX_DISTANCE, MAX_K, MAX_SETTINGS, MAX_TIDES, Minima, TABLE_SIZE,
@@ -222,7 +222,7 @@ pub fn row_in_range(row: &[u32]) -> bool
 pub fn is_study(dataset: Dataset, distances: &[u32], settings: &[u8]) -> bool
     requires table_size_in_bounds { table_size ≤ length distances.now }
     requires max_tides_in_bounds { max_tides ≤ length settings.now }
-    ensures { result ≡ is_study (entry_state dataset distances settings) }
+    ensures { result ≡ is_study (state_of dataset distances.now settings.now) }
 {
     let k = dataset.k;
     if k < 1 {
@@ -252,7 +252,7 @@ pub fn is_study(dataset: Dataset, distances: &[u32], settings: &[u8]) -> bool
 pub fn is_dataset(dataset: Dataset, distances: &[u32], settings: &[u8]) -> bool
     requires table_size_in_bounds { table_size ≤ length distances.now }
     requires max_tides_in_bounds { max_tides ≤ length settings.now }
-    ensures { result ≡ is_dataset (entry_state dataset distances settings) }
+    ensures { result ≡ is_dataset (state_of dataset distances.now settings.now) }
 {
     is_study(dataset, distances, settings)
 }

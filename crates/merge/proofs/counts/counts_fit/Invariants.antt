@@ -1,0 +1,14 @@
+-- `counts_fit` meets its contract: the sums passed so far fit; the users left fall. Assumes nothing.
+use Prim.Native.Nat.{◌≤◌, ◌-◌}
+use mathlib.Core.Path.{◌≡◌}
+use mathlib.Core.Bool.{true}
+use Rattle.lists.specs.Lists.{every}
+use Rattle.study.specs.Limits.{max_users}
+use Rattle.merge.proofs.AnswerLaws.{fits}
+use Rattle.merge.proofs.counts.counts_fit.Given as goal
+
+abbrev pub invariant-loop-i : goal.invariant-loop-i
+invariant-loop-i l = (l.i ≤ max_users) × (every l.i (fits l.v l.w) ≡ true)
+
+abbrev pub decreases-loop-i : goal.decreases-loop-i
+decreases-loop-i l = max_users - l.i

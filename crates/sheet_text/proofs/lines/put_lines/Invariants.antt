@@ -1,0 +1,18 @@
+-- `put_lines` meets its contract. The loop's invariant: the lines of the first i blocks are put, of at most 23 bytes each; 120 - i falls.
+-- Assumes nothing.
+use Prim.Native.Nat.{ℕ, ◌+◌, ◌-◌, ◌*◌, ◌≤◌}
+use native.Mathlib.Omega.{arith}
+use mathlib.Core.Path.{◌≡◌, refl, ap}
+use borrow.Author.Rules.{rules}
+use lib.ListN.{length, take}
+use Rattle.sheet_text.specs.Text.{line, lines}
+use Rattle.sheet_text.proofs.LineLaws.{lines_none, lines_more, lines_all}
+use Rattle.sheet_text.specs.Putting.{PutText}
+use Rattle.sheet_text.proofs.PuttingLaws.{puts_as}
+use Rattle.sheet_text.proofs.lines.put_lines.Given as goal
+
+abbrev pub invariant-loop-i : goal.invariant-loop-i
+invariant-loop-i l = ((l.i ≤ 120) × (l.i ≤ l.blocks) × (l.end ≤ l.at + 23 * l.i)) × PutText l.initial.out l.at (lines 1 (take l.i l.records)) l.end l.out
+
+abbrev pub decreases-loop-i : goal.decreases-loop-i
+decreases-loop-i l = 120 - l.i

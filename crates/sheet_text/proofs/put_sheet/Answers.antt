@@ -1,0 +1,13 @@
+-- `put_sheet` meets its contract: the refusal, or heading, lines and closing line. Assumes nothing.
+use native.Mathlib.Omega.{arith}
+use Rattle.sheet_text.specs.Text.{heading}
+use Rattle.sheet_text.proofs.LineLaws.{sheet_refused, sheet_done}
+use borrow.Author.Rules.{rules}
+use Rattle.sheet_text.proofs.put_sheet.Goals as goal
+
+pub returns-in-Done : goal.returns-in-Done
+unfolding heading
+returns-in-Done c =
+    let a = c.args in
+    let put = c.put_bytes-after_heading.ensures in
+    (omega arith, sheet_done a.records a.withdrawn c.in-Done.is put c.put_lines-after_lines.ensures.1 c.put_closing.ensures.1)

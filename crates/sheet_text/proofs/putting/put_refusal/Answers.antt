@@ -1,0 +1,15 @@
+-- `put_refusal` meets its contract: the number of the refusal after its word, of at most 19 bytes. Assumes nothing.
+use native.Mathlib.Omega.{arith}
+use Rattle.study.specs.Refusals.{numbered}
+use Rattle.sheet_text.proofs.LineLaws.{refused_short, refused_put}
+use borrow.Author.Rules.{rules}
+use Rattle.sheet_text.proofs.putting.put_refusal.Goals as goal
+
+pub put_named-requires : goal.put_named-requires
+put_named-requires c = omega (arith, refused_short c.number_of.result (omega (arith, c.number_of.type_inv)))
+
+pub returns : goal.returns
+returns c =
+    let n = c.number_of in
+    let p = refused_put (numbered c.args.why) n.ensures c.put_named.ensures in
+    (omega (arith, p.ends, refused_short n.result (omega (arith, n.type_inv))), p)

@@ -1,0 +1,14 @@
+-- `clear_distances` meets its contract: the loop's invariant: the places before p are 0 and the rest is as before; the places left fall.
+-- Assumes nothing.
+use Prim.Native.Nat.{◌-◌}
+use native.Mathlib.Omega.{arith}
+use mathlib.Core.Path.{refl}
+use Rattle.study.specs.Limits.{table_size}
+use Rattle.lists.proofs.Fills.{Filled, filled_none, filled_more, filled_done}
+use Rattle.storage.proofs.clear_distances.Given as goal
+
+abbrev pub invariant-loop-p : goal.invariant-loop-p
+invariant-loop-p l = Filled table_size (λ _. 0) l.initial.distances l.distances l.p
+
+abbrev pub decreases-loop-p : goal.decreases-loop-p
+decreases-loop-p l = table_size - l.p

@@ -1,0 +1,14 @@
+-- `clear_settings` meets its contract: the loop's invariant: the places before i are 0 and the rest is as before; the places left fall.
+-- Assumes nothing.
+use Prim.Native.Nat.{◌-◌}
+use native.Mathlib.Omega.{arith}
+use mathlib.Core.Path.{refl}
+use Rattle.study.specs.Limits.{max_tides}
+use Rattle.lists.proofs.Fills.{Filled, filled_none, filled_more, filled_done}
+use Rattle.storage.proofs.clear_settings.Goals as goal
+
+pub loop-i-init : goal.loop-i-init
+loop-i-init c = filled_none
+
+pub loop-i-preserved : goal.loop-i-preserved
+loop-i-preserved c = filled_more c.loop-i.invariant (omega arith) (omega arith) refl

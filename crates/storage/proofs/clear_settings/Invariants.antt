@@ -1,0 +1,14 @@
+-- `clear_settings` meets its contract: the loop's invariant: the places before i are 0 and the rest is as before; the places left fall.
+-- Assumes nothing.
+use Prim.Native.Nat.{◌-◌}
+use native.Mathlib.Omega.{arith}
+use mathlib.Core.Path.{refl}
+use Rattle.study.specs.Limits.{max_tides}
+use Rattle.lists.proofs.Fills.{Filled, filled_none, filled_more, filled_done}
+use Rattle.storage.proofs.clear_settings.Given as goal
+
+abbrev pub invariant-loop-i : goal.invariant-loop-i
+invariant-loop-i l = Filled max_tides (λ _. 0) l.initial.settings l.settings l.i
+
+abbrev pub decreases-loop-i : goal.decreases-loop-i
+decreases-loop-i l = max_tides - l.i

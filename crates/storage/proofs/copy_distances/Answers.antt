@@ -1,0 +1,15 @@
+-- `copy_distances` meets its contract: the loop's invariant: the places before p are copied and the rest is as before; the places left fall.
+-- Assumes nothing.
+use Prim.Native.Nat.{◌-◌}
+use native.Mathlib.Omega.{arith}
+use mathlib.Core.Path.{refl}
+use Rattle.lists.specs.Lists.{at}
+use Rattle.study.specs.Limits.{table_size}
+use Rattle.lists.proofs.Fills.{Filled, filled_none, filled_more, filled_done}
+use Rattle.storage.proofs.copy_distances.Goals as goal
+
+pub loop-p-init : goal.loop-p-init
+loop-p-init c = filled_none
+
+pub loop-p-preserved : goal.loop-p-preserved
+loop-p-preserved c = filled_more c.loop-p.invariant (omega arith) (omega arith) refl

@@ -1,0 +1,17 @@
+-- `remove_setting` meets its contract: the loop's invariant: the places before i hold what moves there and the rest is as before, so that what
+-- moves to i is still to be read; the places left fall. Assumes nothing.
+use Prim.Native.Nat.{◌-◌}
+use native.Mathlib.Omega.{arith}
+use mathlib.Core.Path.{◌∙◌}
+use Rattle.study.specs.Limits.{max_tides}
+use Rattle.storage.specs.Places.{moved_setting}
+use Rattle.storage.proofs.PlaceLaws.{moved_setting_lem}
+use Rattle.lists.proofs.Fills.{Filled, filled_none, filled_more, filled_done}
+use Rattle.storage.proofs.remove_setting.Goals as goal
+
+pub loop-i-init : goal.loop-i-init
+loop-i-init c = filled_none
+
+pub loop-i-preserved : goal.loop-i-preserved
+loop-i-preserved c = let turn = c.loop-i in
+    filled_more turn.invariant (omega arith) (omega arith) (c.moved_setting.ensures ∙ moved_setting_lem _ _ _ (omega arith) turn.invariant.is)

@@ -1,0 +1,19 @@
+-- `copy_row` meets its contract: the loop's invariant: the places before i are copied and the rest is as before; the places left fall.
+-- Assumes nothing.
+use Prim.Native.Nat.{◌-◌}
+use native.Mathlib.Omega.{arith}
+use mathlib.Core.Path.{refl}
+use lib.ListN.{length}
+use Rattle.lists.specs.Lists.{at}
+use Rattle.lists.proofs.Fills.{Filled, filled_none, filled_more}
+use Rattle.study_text.proofs.MeasuredLaws.{row_copied}
+use Rattle.study_text.proofs.measured.copy_row.Goals as goal
+
+pub loop-i-init : goal.loop-i-init
+loop-i-init c = filled_none
+
+pub loop-i-preserved : goal.loop-i-preserved
+loop-i-preserved c = filled_more c.loop-i.invariant (omega arith) (omega arith) refl
+
+pub returns : goal.returns
+returns c = row_copied c.loop-i.invariant c.requires (omega arith)
