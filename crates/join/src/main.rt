@@ -3,7 +3,11 @@
 // wrong, one line about it goes to standard error, and nothing to standard output.
 #![tactic(auto)]
 
+ghost use Rattle.std.specs.Prelude.{OnOk};
 ghost use Rattle.std.specs.Io.{ReadsAtMost};
+ghost use Rattle.std.specs.Io.KnownBytes.{Appends};
+ghost use Rattle.text_report.specs.Report.{said};
+ghost use Rattle.join.specs.Report.{words_of, output_of, error_of};
 
 use merge_text::{Fault, Joined, join};
 use reading::read_full;
@@ -29,7 +33,9 @@ fn read_file(mut file: File, bytes: &mut [u8]) -> io::Result<usize>
 }
 
 // A line of the pairs' text, and what is wrong there.
-fn say_fault<E: Write>(err: &mut E, line: usize, fault: Fault) -> io::Result<()> {
+fn say_fault<E: Write>(err: &mut E, line: usize, fault: Fault) -> io::Result<()>
+    ensures { OnOk result (Appends (E.contents err.old) (E.contents err.new) (said line (words_of fault))) }
+{
     match fault {
         Fault::NotANumber => say(err, line, b"not a number\n"),
         Fault::TooLarge => say(err, line, b"number too large\n"),
@@ -45,7 +51,10 @@ fn write_report<O: Write, E: Write>(
     err: &mut E,
     joined: Joined,
     bytes: &[u8],
-) -> io::Result<()> {
+) -> io::Result<()>
+    ensures output { OnOk result (Appends (O.contents out.old) (O.contents out.new) (output_of joined bytes.now)) }
+    ensures error { OnOk result (Appends (E.contents err.old) (E.contents err.new) (error_of joined)) }
+{
     match joined {
         Joined::Done(length) => write_front(out, bytes, length),
         Joined::FirstRefused(why) => say_refused(err, b"first: ", why),

@@ -1,7 +1,8 @@
 // Reads a study file from standard input and prints its sheet.
 #![tactic(auto)]
 
-ghost use Rattle.std.specs.Prelude.{◌≤◌};
+ghost use Rattle.std.specs.Prelude.{◌≤◌, take, OnOk};
+ghost use Rattle.std.specs.Io.KnownBytes.{Appends};
 
 use reading::read_full;
 use std::io;
@@ -10,6 +11,7 @@ use std::io::Write;
 // The first `length` bytes.
 fn print<O: Write>(out: &mut O, bytes: [u8; 2855], length: usize) -> io::Result<()>
     requires { length ≤ 2855 }
+    ensures { OnOk result (Appends (O.contents out.old) (O.contents out.new) (take length bytes)) }
 {
     out.write_all(&bytes[..length])
 }

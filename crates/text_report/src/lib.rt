@@ -1,6 +1,10 @@
 // What a program that reads a text writes: what it made of the text, or what is wrong with the text.
 #![tactic(auto)]
 
+ghost use Rattle.std.specs.Prelude.{◌≡◌, take, OnOk};
+ghost use Rattle.std.specs.Io.KnownBytes.{Appends};
+ghost use Rattle.text_report.specs.Report.{said, said_refused, output_of, error_of};
+
 use std::io;
 use std::io::Write;
 use study::Refusal;
@@ -8,20 +12,26 @@ use study::refusals::number_of;
 use study_text::Packed;
 
 // A line of the text, and what is wrong there.
-pub fn say<E: Write>(err: &mut E, line: usize, words: &[u8]) -> io::Result<()> {
+pub fn say<E: Write>(err: &mut E, line: usize, words: &[u8]) -> io::Result<()>
+    ensures { OnOk result (Appends (E.contents err.old) (E.contents err.new) (said line words.now)) }
+{
     write!(err, "line {line}: ")?;
     err.write_all(words)
 }
 
 // What is refused, and the refusal's number.
-pub fn say_refused<E: Write>(err: &mut E, what: &[u8], why: Refusal) -> io::Result<()> {
+pub fn say_refused<E: Write>(err: &mut E, what: &[u8], why: Refusal) -> io::Result<()>
+    ensures { OnOk result (Appends (E.contents err.old) (E.contents err.new) (said_refused what.now why)) }
+{
     let number = number_of(why);
     err.write_all(what)?;
     writeln!(err, "refused {number}")
 }
 
 // The first n bytes; all where there are fewer.
-fn front(bytes: &[u8], n: usize) -> &[u8] {
+fn front(bytes: &[u8], n: usize) -> &[u8]
+    ensures { result.now ≡ take n bytes.now }
+{
     if n <= bytes.len() {
         return &bytes[..n];
     }
@@ -29,7 +39,9 @@ fn front(bytes: &[u8], n: usize) -> &[u8] {
 }
 
 // The first n bytes; all where there are fewer.
-pub fn write_front<O: Write>(out: &mut O, bytes: &[u8], n: usize) -> io::Result<()> {
+pub fn write_front<O: Write>(out: &mut O, bytes: &[u8], n: usize) -> io::Result<()>
+    ensures { OnOk result (Appends (O.contents out.old) (O.contents out.new) (take n bytes.now)) }
+{
     out.write_all(front(bytes, n))
 }
 
@@ -40,7 +52,10 @@ pub fn write_report<O: Write, E: Write>(
     err: &mut E,
     packed: Packed,
     bytes: &[u8],
-) -> io::Result<()> {
+) -> io::Result<()>
+    ensures output { OnOk result (Appends (O.contents out.old) (O.contents out.new) (output_of packed bytes.now)) }
+    ensures error { OnOk result (Appends (E.contents err.old) (E.contents err.new) (error_of packed)) }
+{
     match packed {
         Packed::Done(length) => write_front(out, bytes, length),
         Packed::Refused(line, why) => {

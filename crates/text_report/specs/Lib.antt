@@ -1,0 +1,2 @@
+-- To be read: what is written.
+pub mod Report
