@@ -132,7 +132,7 @@ order =
 
 -- where two reasons hold at once, the earlier one counts
 abbrev pub CallsInOrder : Type 0
-CallsInOrder = map (λ (c : ReasonCase). verdict c.too_short c.held c.call) order ≡ map (λ (c : ReasonCase). c.gives) order
+CallsInOrder = map (λ (c : ReasonCase). verdict c.is_too_short c.held c.call) order ≡ map (λ (c : ReasonCase). c.gives) order
 
 -- of a tide that is refused, one that enters, one that goes and two that do not, the second and the third change the two tides; the
 -- withdrawal is counted for user 3
