@@ -100,7 +100,7 @@ read_brings file s a b x did = brings s _ (short_no s a b) (files.valid file) x 
 module _ {a b : State} (A : Passed a) (B : Passed b) (f g : List ℕ) where
   sources_own : first_of (source_reasons a b f g) ≡ first_of (merge_reasons (contents_of a) (contents_of b) f g)
   unfolding source_reasons held_reasons fresh_reasons first_of
-  sources_own = rw (A.not_IsShort, B.not_IsShort, A.tested, B.tested)
+  sources_own = rw (A.not_short, B.not_short, A.tested, B.tested)
 
   -- what they leave is valid
   sources_valid : first_of (source_reasons a b f g) ≡ accepted → ValidContents (merged (contents_of a) (contents_of b) f g)

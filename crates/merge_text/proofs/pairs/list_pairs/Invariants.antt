@@ -1,0 +1,17 @@
+-- `list_pairs` meets its contract. The loop's invariant: after as many steps as pairs are listed, the text stands at this place; the bytes that are
+-- left become fewer. Assumes nothing.
+use Prim.Native.Nat.{◌-◌, ◌≤◌}
+use native.Mathlib.Omega.{arith}
+use mathlib.Core.Path.{◌≡◌, refl}
+use lib.ListN.{length, length-set}
+use Rattle.merge_text.proofs.ListingLaws.{Listing, text_long, listing_none, listing_ends, listing_stops, listing_after, listing_few, listing_more}
+use borrow.Author.Rules.{rules}
+use Rattle.merge_text.proofs.pairs.list_pairs.Given as goal
+
+abbrev pub invariant-loop-line : goal.invariant-loop-line
+invariant-loop-line l =
+    Listing l.text l.count l.firsts l.seconds l.last l.cursor × (65536 ≤ length l.firsts) × (65536 ≤ length l.seconds)
+    × (length l.firsts ≡ length l.initial.firsts) × (length l.seconds ≡ length l.initial.seconds)
+
+abbrev pub decreases-loop-line : goal.decreases-loop-line
+decreases-loop-line l = 131073 - l.cursor.at
