@@ -1,0 +1,29 @@
+-- A record that is too short is refused 1; otherwise the call's own contract, on the record as the code holds it. No loop. Assumes nothing.
+use borrow.Author.Rules.{rules}
+use mathlib.Core.Path.{refl}
+use Rattle.dataset.specs.Calls.{opens_dataset}
+use Rattle.narrowing.proofs.Proofs.{unchanged, as_given}
+use Rattle.c_api.proofs.CallLaws.{record_short, open_sound, storable, left_too_short, call_left}
+use Rattle.c_api.proofs.tides_open.Goals as goal
+
+pub returns-then-numbers-lt-RECORD_SIZE-clause-code : goal.returns-then-numbers-lt-RECORD_SIZE-clause-code
+returns-then-numbers-lt-RECORD_SIZE-clause-code c =
+    (left_too_short _ _ _ (record_short _ _ c.if-numbers-lt-RECORD_SIZE.true)).0
+
+pub returns-then-numbers-lt-RECORD_SIZE-clause-leaves : goal.returns-then-numbers-lt-RECORD_SIZE-clause-leaves
+returns-then-numbers-lt-RECORD_SIZE-clause-leaves c =
+    (left_too_short _ _ _ (record_short _ _ c.if-numbers-lt-RECORD_SIZE.true)).1
+
+pub store_outcome-requires : goal.store_outcome-requires
+store_outcome-requires c =
+    storable _ (open_sound _ _) c.if-numbers-lt-RECORD_SIZE.false (c.open-outcome.ensures.answer, c.open-outcome.ensures.leaves)
+
+pub returns-clause-code : goal.returns-clause-code
+returns-clause-code c =
+    (call_left (record { room = c.if-numbers-lt-RECORD_SIZE.false; held = c.dataset_of.ensures; settles = (c.store_outcome.ensures.code, c.store_outcome.ensures.numbers) }) refl
+    (open_sound _ _) (as_given _ opens_dataset _ c.narrow.ensures ((unchanged _).on_open _) (c.open-outcome.ensures.answer, c.open-outcome.ensures.leaves))).0
+
+pub returns-clause-leaves : goal.returns-clause-leaves
+returns-clause-leaves c =
+    (call_left (record { room = c.if-numbers-lt-RECORD_SIZE.false; held = c.dataset_of.ensures; settles = (c.store_outcome.ensures.code, c.store_outcome.ensures.numbers) }) refl
+    (open_sound _ _) (as_given _ opens_dataset _ c.narrow.ensures ((unchanged _).on_open _) (c.open-outcome.ensures.answer, c.open-outcome.ensures.leaves))).1
