@@ -1,9 +1,9 @@
 -- The table of a measured study, closed, is the closed study's; and what is said of a text and written. Assumes nothing.
 use Prim.Native.Nat.{ℕ, ◌*◌, ◌/◌, ◌%◌, ◌≤◌, ◌<◌}
 use native.Mathlib.Omega.{arith}
-use mathlib.Core.Path.{◌≡◌, refl, sym, ap, ap₂, ◌∙◌, subst}
+use mathlib.Core.Path.{◌≡◌, refl, sym, ap, ap₂, ◌∙◌}
 use mathlib.Core.Logic.{⊎_elim}
-use mathlib.Core.List.{List, [], ◌++◌, flat_map, append_assoc}
+use mathlib.Core.List.{List, [], ◌++◌, flat_map}
 use borrow.Author.Tests.{lt-ltb, le-ltb}
 use lib.ListN.{length, take, drop, get_or, replicate, length-replicate}
 use Rattle.lists.specs.Lists.{tabulate, overwrite, over}
@@ -17,19 +17,17 @@ use Rattle.validity.specs.Memory.{State, state_of, study_of, contents_of, tide_o
 use Rattle.validity.proofs.ValidityLaws.{study_size, study_tide, study_setting}
 use Rattle.metric_closure.specs.Closure.{closure, lowered_pairs}
 use Rattle.metric_closure.specs.Call.{entry, closed_table}
-use Rattle.metric_closure.specs.Theorems.{Dissimilarity, Closable}
+use Rattle.metric_closure.specs.Theorems.{Closable}
 use Rattle.metric_closure.specs.Tables.{Fits}
 use Rattle.metric_closure.proofs.ClosureLaws.{closure_same, closure_below, dissimilarity_same, lowered_same}
 use Rattle.metric_closure.proofs.TableLaws.{few_places, rows_at, places_near}
 use Rattle.metric_closure.proofs.CallLaws.{closed_at, closed_fits}
 use Rattle.sheet_text.specs.Putting.{PutText}
 use Rattle.sheet_text.proofs.PuttingLaws.{puts_then, puts_as}
-use Rattle.study_text.specs.declared.Packed.{Packed}
-use Rattle.study_text.specs.declared.Packed.TheVariants as PackedCase
 use Rattle.study_text.specs.declared.Rule.TheVariants as RuleCase
 use Rattle.study_text.specs.declared.calls.Over.TheVariants as OverCase
 use Rattle.study_text.specs.declared.calls.Finished.{Finished}
-use Rattle.study_text.specs.Packing.{Report, done, refused_at, too_long, report_of, ended, text_of}
+use Rattle.study_text.specs.Packing.{Report, done, refused_at, too_long, ended, text_of}
 use Rattle.study_text.specs.Reached.{Measuring, over_is, finished_of, Finishes}
 use Rattle.text_words.specs.Words.{newlines}
 use Rattle.closure_text.specs.Text.{lowered, closed_tide, closed_study, number_line, tide_line, study_text, lowered_line, closure_text}

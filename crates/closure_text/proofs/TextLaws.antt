@@ -1,6 +1,6 @@
 -- Whatever a text of measured tides comes to holds a measured study. Assumes nothing.
 use Prim.Native.Nat.{ℕ, zero, suc}
-use mathlib.Core.Path.{◌≡◌, refl, sym, subst}
+use mathlib.Core.Path.{◌≡◌, refl, subst}
 use mathlib.Core.List.{List}
 use Rattle.study.specs.Study.{Contents, size, MeasuredStudy}
 use Rattle.study.specs.Refusals.{Verdict, accepted, refused, first_of}

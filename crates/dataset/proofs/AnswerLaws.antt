@@ -27,7 +27,7 @@ use Rattle.study.proofs.MinimaLaws.{understood_raised, too_much}
 use Rattle.validity.specs.Memory.{State, state_of, short, study_of, contents_of, set_k, set_size, set_minima, set_counts, record_of, distances_of}
 use Rattle.validity.specs.Memory.{settings_of, stored}
 use Rattle.validity.proofs.ValidityLaws.{study_size, study_setting, study_distance}
-use Rattle.validity.proofs.LayoutLaws.{long, own_layout}
+use Rattle.validity.proofs.LayoutLaws.{own_layout}
 use Rattle.triangle.specs.Pairs.{violation_of}
 use Rattle.triangle.proofs.PairLaws.{found_nothing, found_pair, violations_same}
 use Rattle.storage.proofs.PlaceLaws.{cleared_distances, cleared_settings, entered_distances, entered_settings, withdrawn_distances, withdrawn_settings}

@@ -2,6 +2,6 @@
 // stands afterwards. No function of a public module has a `requires`.
 #![tactic(auto)]
 
-pub mod kernel;
 mod cost;
+pub mod kernel;
 pub mod records;

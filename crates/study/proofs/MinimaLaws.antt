@@ -13,7 +13,6 @@ use Rattle.study.specs.Study.{Study, valid_minima}
 use Rattle.study.specs.Refusals.{accepted, first_of}
 use Rattle.study.specs.Calls.{sum_of_parts, understood, minima_reasons}
 use Rattle.study.specs.Minima.{MinimaFit, Acceptable}
-use Rattle.study.specs.Theorems.{ForMinima}
 use Rattle.study.proofs.StudyLaws.{valid_minima-T}
 use Rattle.study.proofs.CallLaws.{none_holds}
 

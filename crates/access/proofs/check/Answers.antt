@@ -1,7 +1,6 @@
 -- `check` meets its contract: short memory, then the test of reason 21. Assumes nothing.
 use mathlib.Core.Path.{refl, sym, ◌∙◌}
 use Rattle.access.specs.Calls.{nobody}
-use borrow.Author.Rules.{rules}
 use Rattle.study.specs.Refusals.{first_of}
 use Rattle.validity.proofs.LayoutLaws.{short_test}
 use Rattle.access.proofs.AccessLaws.{held_1, held_21, held_own}

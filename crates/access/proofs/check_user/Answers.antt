@@ -1,6 +1,5 @@
 -- `check_user` meets its contract: short memory, then the user, then what `check` ensures. Assumes nothing.
 use mathlib.Core.Path.{◌∙◌}
-use borrow.Author.Rules.{rules}
 use Rattle.validity.proofs.LayoutLaws.{short_test}
 use Rattle.access.proofs.AccessLaws.{user_1, user_14, user_passes}
 use Rattle.std.proofs.lemmas.Bool.{not_from_false, not_from_true}

@@ -1,5 +1,4 @@
 -- One law for each way out: a list that is too short, a refusal, an answer. No loop. Assumes nothing.
-use borrow.Author.Rules.{rules}
 use native.Mathlib.Omega.{arith}
 use mathlib.Core.Path.{sym, ap, ◌∙◌, subst}
 use Rattle.study.specs.Refusals.{verdict_of}

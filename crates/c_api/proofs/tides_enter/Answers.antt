@@ -1,5 +1,4 @@
 -- A record that is too short is refused 1; otherwise the call's own contract, on the record as the code holds it. No loop. Assumes nothing.
-use borrow.Author.Rules.{rules}
 use mathlib.Core.Path.{refl}
 use Rattle.c_api.proofs.CallLaws.{record_short, enter_sound, storable, left_too_short, call_left, enter_given}
 use Rattle.c_api.proofs.tides_enter.Goals as goal

@@ -1,5 +1,4 @@
 -- One law for each way out: a list that is too short, a refusal, an answer. No loop. Assumes nothing.
-use borrow.Author.Rules.{rules}
 use mathlib.Core.Path.{refl}
 use Rattle.c_api.proofs.CallLaws.{lacks_yes, record_short, list_short}
 use Rattle.c_api.proofs.OutputLaws.{numbers_short, numbers_refused, numbers_done, judge_lent, judge_why, judge_narrow, judge_numbers}

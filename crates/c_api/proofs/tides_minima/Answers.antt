@@ -1,5 +1,4 @@
 -- A list that is too short is refused 1; otherwise the call's own contract, on the record as the code holds it. No loop. Assumes nothing.
-use borrow.Author.Rules.{rules}
 use mathlib.Core.Path.{refl}
 use Rattle.dataset.specs.Calls.{sets_minima}
 use Rattle.narrowing.proofs.Proofs.{as_given}

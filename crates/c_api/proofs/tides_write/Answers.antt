@@ -1,5 +1,4 @@
 -- One law for each way out: a list that is too short, a refusal, an answer. No loop. Assumes nothing.
-use borrow.Author.Rules.{rules}
 use native.Mathlib.Omega.{arith}
 use Rattle.c_api.proofs.CallLaws.{lacks_yes, record_short, list_short}
 use Rattle.c_api.proofs.OutputLaws.{answered_short, answered_refused, answered_one, write_lent, write_why, why_narrow}

@@ -1,5 +1,4 @@
 -- `mend` meets its contract: too long, or what the text comes to. Assumes nothing.
-use borrow.Author.Rules.{rules}
 use Rattle.closure_text.proofs.ClosedLaws.{mend_long, mend_read}
 use Rattle.closure_text.proofs.mend.Goals as goal
 

@@ -1,6 +1,5 @@
 -- `put_closure` meets its contract: the table of a measured study is not refused, and its closure is the closed study's. Assumes nothing.
 use native.Mathlib.Omega.{arith}
-use borrow.Author.Rules.{rules}
 use Rattle.validity.specs.Memory.{state_of}
 use Rattle.metric_closure.proofs.TableLaws.{few_places}
 use Rattle.closure_text.proofs.ClosedLaws.{few_tides, few_settings, closable, printable, closure_put}

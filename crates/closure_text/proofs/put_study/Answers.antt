@@ -1,5 +1,4 @@
 -- `put_study` meets its contract: the comment, k and the minima, the tides. Assumes nothing.
-use borrow.Author.Rules.{rules}
 use Rattle.closure_text.proofs.ClosedLaws.{study_put}
 use Rattle.closure_text.proofs.put_study.Goals as goal
 

@@ -1,6 +1,5 @@
 -- `write_closure` meets its contract: what stopped the text, no room, or the closure's text. Assumes nothing.
-use borrow.Author.Rules.{rules}
-use Rattle.closure_text.proofs.ClosedLaws.{roomless, put_ends}
+use Rattle.closure_text.proofs.ClosedLaws.{put_ends}
 use Rattle.closure_text.proofs.write_closure.Goals as goal
 
 pub returns-else-out-lt-TEXT_ROOM-clause-told : goal.returns-else-out-lt-TEXT_ROOM-clause-told

@@ -1,6 +1,5 @@
 -- `add_tide` meets its contract: what it writes lays out the study with one tide more. Assumes nothing.
 use mathlib.Core.Path.{refl}
-use borrow.Author.Rules.{rules}
 use Rattle.dataset.proofs.AnswerLaws.{entered_state}
 use Rattle.dataset.proofs.add_tide.Goals as goal
 

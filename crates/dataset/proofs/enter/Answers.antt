@@ -1,5 +1,4 @@
 -- `enter` meets its contract: a refused call leaves everything, an accepted one what `add_tide` ensures. Assumes nothing.
-use borrow.Author.Rules.{rules}
 use Rattle.access.specs.Calls.{nobody}
 use Rattle.access.proofs.AccessLaws.{passed, stays, update_refused}
 use Rattle.dataset.specs.Calls.{enters_tide}

@@ -1,6 +1,4 @@
 -- `enter_answer` meets its contract: one law for each way out. Assumes nothing.
-use native.Mathlib.Omega.{arith}
-use borrow.Author.Rules.{rules}
 use Rattle.validity.specs.Memory.{state_of}
 use Rattle.dataset.proofs.AnswerLaws.{enter_22, enter_4, enter_5, enter_6, EnterTested, enter_7, enter_15}
 use Rattle.lists.proofs.Scans.{between_in, between_low, between_high, test_passes, test_fails}

@@ -1,5 +1,4 @@
 -- `open` meets its contract: one law for each way out. Assumes nothing.
-use borrow.Author.Rules.{rules}
 use Rattle.dataset.proofs.AnswerLaws.{open_1, open_2, opened_state}
 use Rattle.lists.proofs.Scans.{between_in, between_low, between_high}
 use Rattle.validity.proofs.LayoutLaws.{short_test}

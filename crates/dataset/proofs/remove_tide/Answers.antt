@@ -1,5 +1,4 @@
 -- `remove_tide` meets its contract: what it writes lays out the study with one tide fewer. Assumes nothing.
-use borrow.Author.Rules.{rules}
 use Rattle.study.specs.Calls.{counted}
 use Rattle.dataset.proofs.AnswerLaws.{withdrawn_state}
 use Rattle.dataset.proofs.remove_tide.Goals as goal

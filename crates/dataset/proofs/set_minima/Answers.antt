@@ -1,6 +1,5 @@
 -- `set_minima` meets its contract: one law for each way out. Assumes nothing.
 use mathlib.Core.Path.{ap, ◌∙◌}
-use borrow.Author.Rules.{rules}
 use Rattle.study.specs.Refusals.{verdict_of}
 use Rattle.access.specs.Calls.{nobody}
 use Rattle.access.proofs.AccessLaws.{passed, update_refused}

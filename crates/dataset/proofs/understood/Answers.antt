@@ -1,8 +1,7 @@
 -- `understood` meets its contract: one law for each way out. Assumes nothing.
 use native.Mathlib.Omega.{arith}
-use borrow.Author.Rules.{rules}
 use Rattle.study.proofs.MinimaLaws.{understood_zero, understood_enough}
-use Rattle.dataset.proofs.AnswerLaws.{tested_given, tested_understood, tested_raised}
+use Rattle.dataset.proofs.AnswerLaws.{tested_understood, tested_raised}
 use Rattle.dataset.proofs.understood.Goals as goal
 
 pub returns-then-b0-lt1 : goal.returns-then-b0-lt1

@@ -1,5 +1,4 @@
 -- `withdraw` meets its contract: a refused call leaves everything, an accepted one what `remove_tide` ensures. Assumes nothing.
-use borrow.Author.Rules.{rules}
 use Rattle.access.specs.Calls.{the_user}
 use Rattle.access.proofs.AccessLaws.{passed, known_user, stays, update_refused}
 use Rattle.dataset.specs.Calls.{withdraws_tide}

@@ -1,7 +1,4 @@
 -- `withdraw_answer` meets its contract: one law for each way out. Assumes nothing.
-use native.Mathlib.Omega.{arith}
-use borrow.Author.Rules.{rules}
-use Rattle.access.proofs.AccessLaws.{user_place}
 use Rattle.dataset.proofs.AnswerLaws.{withdraw_23, withdraw_26, withdraw_done}
 use Rattle.lists.proofs.Scans.{between_in, between_low, between_high}
 use Rattle.dataset.proofs.withdraw_answer.Goals as goal

@@ -1,13 +1,10 @@
 -- `check_duplicate` meets its contract: the new tide is a duplicate of none of the tides passed so far; (length row) - i falls. Assumes
 -- nothing.
-use Prim.Native.Nat.{◌≤◌, ◌-◌}
 use native.Mathlib.Omega.{arith}
-use mathlib.Core.Path.{◌≡◌, sym, ap, ◌∙◌}
-use mathlib.Core.Bool.{true, not}
-use lib.ListN.{length}
-use Rattle.lists.specs.Lists.{every}
+use mathlib.Core.Path.{sym, ap, ◌∙◌}
+use mathlib.Core.Bool.{not}
 use Rattle.lists.proofs.Scans.{every_none, every_more}
-use Rattle.duplicates.proofs.ScanLaws.{differs, duplicate_found, duplicate_none}
+use Rattle.duplicates.proofs.ScanLaws.{duplicate_found, duplicate_none}
 use Rattle.duplicates.proofs.check_duplicate.Goals as goal
 
 pub loop-i-init : goal.loop-i-init

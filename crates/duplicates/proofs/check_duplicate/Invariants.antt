@@ -1,13 +1,11 @@
 -- `check_duplicate` meets its contract: the new tide is a duplicate of none of the tides passed so far; (length row) - i falls. Assumes
 -- nothing.
 use Prim.Native.Nat.{◌≤◌, ◌-◌}
-use native.Mathlib.Omega.{arith}
-use mathlib.Core.Path.{◌≡◌, sym, ap, ◌∙◌}
-use mathlib.Core.Bool.{true, not}
+use mathlib.Core.Path.{◌≡◌}
+use mathlib.Core.Bool.{true}
 use lib.ListN.{length}
 use Rattle.lists.specs.Lists.{every}
-use Rattle.lists.proofs.Scans.{every_none, every_more}
-use Rattle.duplicates.proofs.ScanLaws.{differs, duplicate_found, duplicate_none}
+use Rattle.duplicates.proofs.ScanLaws.{differs}
 use Rattle.duplicates.proofs.check_duplicate.Given as goal
 
 abbrev pub invariant-loop-i : goal.invariant-loop-i

@@ -1,6 +1,5 @@
 -- `is_duplicate_of` meets its contract. Assumes nothing.
 use borrow.Author.Tests.{eq-eqb, ne_eqb}
-use borrow.Author.Rules.{rules}
 use Rattle.duplicates.specs.Scan.{duplicate_of}
 use Rattle.duplicates.proofs.is_duplicate_of.Goals as goal
 

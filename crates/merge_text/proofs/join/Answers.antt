@@ -1,6 +1,5 @@
 -- `join` meets its contract: Read refuses the first file or the second, or their datasets are merged. Assumes nothing.
 use Rattle.merge_text.proofs.JoiningLaws.{join_tells, first_refused_lem, second_refused_lem, both_read}
-use borrow.Author.Rules.{rules}
 use Rattle.merge_text.proofs.join.Goals as goal
 
 pub returns-in-Refused-clause-told : goal.returns-in-Refused-clause-told

@@ -1,6 +1,5 @@
 -- `merge_datasets` meets its contract: the merge, over memory that is long enough. Assumes nothing.
 use Rattle.merge_text.proofs.JoiningLaws.{merge_brings}
-use borrow.Author.Rules.{rules}
 use Rattle.merge_text.proofs.merge_datasets.Goals as goal
 
 pub returns : goal.returns

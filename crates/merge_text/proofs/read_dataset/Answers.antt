@@ -1,6 +1,5 @@
 -- `read_dataset` meets its contract: Read, over memory that is long enough. Assumes nothing.
 use Rattle.merge_text.proofs.JoiningLaws.{read_brings}
-use borrow.Author.Rules.{rules}
 use Rattle.merge_text.proofs.read_dataset.Goals as goal
 
 pub returns : goal.returns

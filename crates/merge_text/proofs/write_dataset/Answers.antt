@@ -1,7 +1,6 @@
 -- `write_dataset` meets its contract: what Write replies and leaves. Assumes nothing.
 use mathlib.Core.Path.{refl}
 use Rattle.merge_text.proofs.JoiningLaws.{write_tells}
-use borrow.Author.Rules.{rules}
 use Rattle.merge_text.proofs.write_dataset.Goals as goal
 
 pub returns-in-Done : goal.returns-in-Done

@@ -1,7 +1,6 @@
 -- `narrow` meets its contract: below 256, or 255. Assumes nothing.
 use Rattle.narrowing.specs.Narrowing.{narrowed}
 use borrow.Author.Tests.{lt-ltb, le-ltb}
-use borrow.Author.Rules.{rules}
 use Rattle.narrowing.proofs.narrow.Goals as goal
 
 pub returns-then-x-lt256 : goal.returns-then-x-lt256

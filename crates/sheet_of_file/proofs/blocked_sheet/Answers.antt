@@ -3,7 +3,6 @@ use mathlib.Core.Path.{refl, ap, ◌∙◌}
 use Rattle.validity.specs.Memory.{state_of}
 use Rattle.sheet_text.specs.Text.{laid_out}
 use Rattle.sheet_of_file.proofs.Laws.{blocked_text_lem}
-use borrow.Author.Rules.{rules}
 use Rattle.sheet_of_file.proofs.blocked_sheet.Goals as goal
 
 pub returns : goal.returns

@@ -2,7 +2,6 @@
 use mathlib.Core.Path.{ap, ◌∙◌}
 use Rattle.sheet_text.specs.Text.{laid_out}
 use Rattle.sheet_of_file.proofs.Laws.{long_enough, sheet_refused, sheet_blocked}
-use borrow.Author.Rules.{rules}
 use Rattle.sheet_of_file.proofs.sheet.Goals as goal
 
 pub returns-in-Refused-clause-text : goal.returns-in-Refused-clause-text

@@ -1,8 +1,7 @@
 -- `put_sheet` meets its contract: the refusal, or heading, lines and closing line. Assumes nothing.
 use native.Mathlib.Omega.{arith}
 use Rattle.sheet_text.specs.Text.{heading}
-use Rattle.sheet_text.proofs.LineLaws.{sheet_refused, sheet_done}
-use borrow.Author.Rules.{rules}
+use Rattle.sheet_text.proofs.LineLaws.{sheet_done}
 use Rattle.sheet_text.proofs.put_sheet.Goals as goal
 
 pub returns-in-Done : goal.returns-in-Done

@@ -1,10 +1,8 @@
 -- `clear_distances` meets its contract: the loop's invariant: the places before p are 0 and the rest is as before; the places left fall.
 -- Assumes nothing.
-use Prim.Native.Nat.{◌-◌}
 use native.Mathlib.Omega.{arith}
 use mathlib.Core.Path.{refl}
-use Rattle.study.specs.Limits.{table_size}
-use Rattle.lists.proofs.Fills.{Filled, filled_none, filled_more, filled_done}
+use Rattle.lists.proofs.Fills.{filled_none, filled_more}
 use Rattle.storage.proofs.clear_distances.Goals as goal
 
 pub loop-p-init : goal.loop-p-init

@@ -1,10 +1,8 @@
 -- `clear_settings` meets its contract: the loop's invariant: the places before i are 0 and the rest is as before; the places left fall.
 -- Assumes nothing.
-use Prim.Native.Nat.{◌-◌}
 use native.Mathlib.Omega.{arith}
 use mathlib.Core.Path.{refl}
-use Rattle.study.specs.Limits.{max_tides}
-use Rattle.lists.proofs.Fills.{Filled, filled_none, filled_more, filled_done}
+use Rattle.lists.proofs.Fills.{filled_none, filled_more}
 use Rattle.storage.proofs.clear_settings.Goals as goal
 
 pub loop-i-init : goal.loop-i-init

@@ -1,11 +1,9 @@
 -- `copy_distances` meets its contract: the loop's invariant: the places before p are copied and the rest is as before; the places left fall.
 -- Assumes nothing.
 use Prim.Native.Nat.{◌-◌}
-use native.Mathlib.Omega.{arith}
-use mathlib.Core.Path.{refl}
 use Rattle.lists.specs.Lists.{at}
 use Rattle.study.specs.Limits.{table_size}
-use Rattle.lists.proofs.Fills.{Filled, filled_none, filled_more, filled_done}
+use Rattle.lists.proofs.Fills.{Filled}
 use Rattle.storage.proofs.copy_distances.Given as goal
 
 abbrev pub invariant-loop-p : goal.invariant-loop-p

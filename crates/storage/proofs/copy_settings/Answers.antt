@@ -1,11 +1,8 @@
 -- `copy_settings` meets its contract: the loop's invariant: the places before i are copied and the rest is as before; the places left fall.
 -- Assumes nothing.
-use Prim.Native.Nat.{◌-◌}
 use native.Mathlib.Omega.{arith}
 use mathlib.Core.Path.{refl}
-use Rattle.lists.specs.Lists.{at}
-use Rattle.study.specs.Limits.{max_tides}
-use Rattle.lists.proofs.Fills.{Filled, filled_none, filled_more, filled_done}
+use Rattle.lists.proofs.Fills.{filled_none, filled_more}
 use Rattle.storage.proofs.copy_settings.Goals as goal
 
 pub loop-i-init : goal.loop-i-init

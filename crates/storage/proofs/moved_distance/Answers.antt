@@ -1,5 +1,4 @@
 -- `moved_distance` meets its contract: one law of Places for each way out. Assumes nothing.
-use borrow.Author.Rules.{rules}
 use Rattle.storage.proofs.PlaceLaws.{moved_no_row, moved_no_column, moved_place}
 use Rattle.storage.proofs.moved_distance.Goals as goal
 

@@ -1,5 +1,4 @@
 -- `moved_setting` meets its contract: one law of Places for each way out. Assumes nothing.
-use borrow.Author.Rules.{rules}
 use Rattle.storage.proofs.PlaceLaws.{moved_none, moved_one}
 use Rattle.storage.proofs.moved_setting.Goals as goal
 

@@ -1,11 +1,9 @@
 -- `put_row` meets its contract: the loop's invariant: the first i distances stand in the new row and column, and memory keeps its length;
 -- the distances left fall. Assumes nothing.
-use Prim.Native.Nat.{◌≤◌, ◌-◌}
 use native.Mathlib.Omega.{arith}
-use mathlib.Core.Path.{◌≡◌, refl}
-use lib.ListN.{length, length-set}
-use Rattle.storage.specs.Places.{with_row}
-use Rattle.storage.proofs.PlaceLaws.{row_none, row_more, row_done}
+use mathlib.Core.Path.{refl}
+use lib.ListN.{length-set}
+use Rattle.storage.proofs.PlaceLaws.{row_none, row_more}
 use Rattle.storage.proofs.put_row.Goals as goal
 
 pub loop-i-init : goal.loop-i-init

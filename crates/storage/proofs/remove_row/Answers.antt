@@ -1,12 +1,9 @@
 -- `remove_row` meets its contract: the loop's invariant: the places before p hold what moves there and the rest is as before, so that what
 -- moves to p is still to be read; the places left fall. Assumes nothing.
-use Prim.Native.Nat.{◌-◌}
 use native.Mathlib.Omega.{arith}
 use mathlib.Core.Path.{◌∙◌}
-use Rattle.study.specs.Limits.{table_size}
-use Rattle.storage.specs.Places.{moved_distance}
 use Rattle.storage.proofs.PlaceLaws.{moved_distance_lem}
-use Rattle.lists.proofs.Fills.{Filled, filled_none, filled_more, filled_done}
+use Rattle.lists.proofs.Fills.{filled_none, filled_more}
 use Rattle.storage.proofs.remove_row.Goals as goal
 
 pub loop-p-init : goal.loop-p-init

@@ -1,12 +1,9 @@
 -- `remove_setting` meets its contract: the loop's invariant: the places before i hold what moves there and the rest is as before, so that what
 -- moves to i is still to be read; the places left fall. Assumes nothing.
-use Prim.Native.Nat.{◌-◌}
 use native.Mathlib.Omega.{arith}
 use mathlib.Core.Path.{◌∙◌}
-use Rattle.study.specs.Limits.{max_tides}
-use Rattle.storage.specs.Places.{moved_setting}
 use Rattle.storage.proofs.PlaceLaws.{moved_setting_lem}
-use Rattle.lists.proofs.Fills.{Filled, filled_none, filled_more, filled_done}
+use Rattle.lists.proofs.Fills.{filled_none, filled_more}
 use Rattle.storage.proofs.remove_setting.Goals as goal
 
 pub loop-i-init : goal.loop-i-init

@@ -1,7 +1,6 @@
 -- `pack` meets its contract: too long, or what the text comes to. Assumes nothing.
 use lib.ListN.{length}
 use Rattle.study_text.proofs.Writing.{pack_long, pack_long_leaves, pack_told, pack_left}
-use borrow.Author.Rules.{rules}
 use Rattle.study_text.proofs.pack.Goals as goal
 
 pub returns-then-text-gt131072-clause-told : goal.returns-then-text-gt131072-clause-told

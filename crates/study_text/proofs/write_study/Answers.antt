@@ -1,7 +1,6 @@
 -- `write_study` meets its contract: what stopped the text, or what Write replies. Assumes nothing.
 use mathlib.Core.Path.{refl}
 use Rattle.study_text.proofs.Writing.{write_ends}
-use borrow.Author.Rules.{rules}
 use Rattle.study_text.proofs.write_study.Goals as goal
 
 pub returns-in-Done-clause-told : goal.returns-in-Done-clause-told

@@ -2,7 +2,6 @@
 use Rattle.text_words.specs.Words.{begins}
 use mathlib.Core.Bool.{not}
 use mathlib.Core.Path.{ap}
-use borrow.Author.Rules.{rules}
 use Rattle.text_words.proofs.begins.Goals as goal
 
 pub returns-then-comment : goal.returns-then-comment

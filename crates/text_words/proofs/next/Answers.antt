@@ -1,6 +1,5 @@
 -- `next` meets its contract: start, end and number of the word. Assumes nothing.
 use Rattle.text_words.proofs.WordLaws.{start_inside, next_end, next_number, next_bad, next_large}
-use borrow.Author.Rules.{rules}
 use Rattle.text_words.proofs.next.Goals as goal
 
 pub word_end-end-requires : goal.word_end-end-requires

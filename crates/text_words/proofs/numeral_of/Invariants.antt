@@ -1,14 +1,10 @@
 -- `numeral_of` meets its contract. The loop's invariant: the digits to come, after the value so far, give the word's number up to the cap;
 -- length - i falls. Assumes nothing.
-use borrow.Author.Rules.{rules}
-use native.Mathlib.Omega.{arith}
-use Rattle.lists.proofs.Scans.{test_passes, test_fails}
 use Rattle.lists.specs.Lists.{all_of}
-use lib.ListN.{length, drop, get_or}
-use mathlib.Core.Path.{◌≡◌, refl}
+use lib.ListN.{length, drop}
+use mathlib.Core.Path.{◌≡◌}
 use Prim.Native.Nat.{◌-◌, ◌≤◌}
-use Rattle.text_words.specs.Words.{digit, with_digit, value_from, capped}
-use Rattle.text_words.proofs.WordLaws.{capped_most, digit_low, digits_more, value_more, numeral_bad, numeral_number, numeral_large}
+use Rattle.text_words.specs.Words.{digit, value_from, capped}
 use Rattle.text_words.proofs.numeral_of.Given as goal
 
 abbrev pub invariant-loop-i : goal.invariant-loop-i

@@ -1,11 +1,8 @@
 -- `skip` meets its contract. The loop's invariant: from here the next word begins where it begins from the start; length - at falls.
 -- Assumes nothing.
-use borrow.Author.Rules.{rules}
 use native.Mathlib.Omega.{arith}
-use lib.ListN.{length, drop, get_or}
-use mathlib.Core.Path.{◌≡◌, refl, sym, ◌∙◌}
-use Prim.Native.Nat.{◌+◌, ◌-◌, ◌≤◌}
-use Rattle.text_words.specs.Words.{start_of}
+use lib.ListN.{get_or}
+use mathlib.Core.Path.{sym, ◌∙◌}
 use Rattle.text_words.proofs.WordLaws.{newline_small, start_goes, start_here, start_end}
 use Rattle.text_words.proofs.skip.Goals as goal
 

@@ -1,11 +1,8 @@
 -- `whole_lines` meets its contract. The loop's invariant: the lines counted and those to come are all; length - i falls. Assumes nothing.
-use borrow.Author.Rules.{rules}
-use native.Mathlib.Omega.{arith}
-use lib.ListN.{length, drop, get_or}
+use lib.ListN.{length, drop}
 use mathlib.Core.Path.{◌≡◌}
 use Prim.Native.Nat.{◌+◌, ◌-◌, ◌≤◌}
 use Rattle.text_words.specs.Words.{newlines}
-use Rattle.text_words.proofs.WordLaws.{newline_small, lines_more, lines_all}
 use Rattle.text_words.proofs.whole_lines.Given as goal
 
 abbrev pub invariant-loop-i : goal.invariant-loop-i

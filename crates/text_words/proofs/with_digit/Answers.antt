@@ -2,7 +2,6 @@
 use mathlib.Core.Path.{sym}
 use Rattle.text_words.specs.Words.{with_digit}
 use Rattle.text_words.proofs.WordLaws.{capped_small, capped_large}
-use borrow.Author.Rules.{rules}
 use Rattle.text_words.proofs.with_digit.Goals as goal
 
 pub returns-then-next-lt4294967296 : goal.returns-then-next-lt4294967296

@@ -1,12 +1,9 @@
 -- `word_end` meets its contract. The loop's invariant: what is passed and what is left of the word make it up; length - end falls.
 -- Assumes nothing.
-use borrow.Author.Rules.{rules}
-use native.Mathlib.Omega.{arith}
 use lib.ListN.{length, drop}
-use mathlib.Core.Path.{◌≡◌, refl, sym, ◌∙◌}
+use mathlib.Core.Path.{◌≡◌}
 use Prim.Native.Nat.{◌+◌, ◌-◌, ◌≤◌}
 use Rattle.text_words.specs.Words.{word_of}
-use Rattle.text_words.proofs.WordLaws.{word_more, word_ends, word_none}
 use Rattle.text_words.proofs.word_end.Given as goal
 
 abbrev pub invariant-loop-end : goal.invariant-loop-end

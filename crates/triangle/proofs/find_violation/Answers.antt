@@ -1,12 +1,9 @@
 -- `find_violation` meets its contract: the invariant of both loops: nothing is found yet, and all violations are those that are still
 -- to come, with lower tide i or later, and in the inner loop, of i, with j or later. The tides left fall. Assumes nothing.
-use Rattle.std.proofs.Common.{◌≡◌, ◌-◌, ◌<◌, ◌≤◌, length, get_or, sym, refl, ap, ◌∙◌, arith}
-use Rattle.study.specs.Limits.{cell}
-use Rattle.study.specs.Calls.{violations}
+use Rattle.std.proofs.Common.{sym, refl, ap, ◌∙◌, arith}
 use Rattle.triangle.specs.Pairs.{violation_of}
-use Rattle.triangle.proofs.PairLaws.{pairs_from, pairs_at, violation_starts, violation_enters, violation_passes}
+use Rattle.triangle.proofs.PairLaws.{violation_starts, violation_enters, violation_passes}
 use Rattle.triangle.proofs.PairLaws.{violation_finds, violation_leaves, violation_ends}
-use Rattle.triangle.specs.declared.Violation.TheVariants.{Nothing}
 use Rattle.triangle.proofs.find_violation.Goals as goal
 
 pub search-init : goal.search-init

@@ -1,5 +1,4 @@
 -- `first_violation` meets its contract: a row without flags has no violation, and else the search finds the first. Assumes nothing.
-use Rattle.std.proofs.Common.{rules}
 use Rattle.triangle.proofs.PrefilterLaws.{obeys_found}
 use Rattle.triangle.proofs.first_violation.Goals as goal
 

@@ -1,8 +1,7 @@
 -- `prefilter` meets its contract: the loop's invariant: the new tide obeys the triangle inequality with each pair whose lower tide is
 -- before i; the tides left fall. Where a flag is raised, a pair violates the inequality or a distance is long. Assumes nothing.
-use Rattle.std.proofs.Common.{◌≡◌, ℕ, ◌-◌, ◌≤◌, length, refl, arith, length-drop, length-take}
+use Rattle.std.proofs.Common.{◌-◌, ◌≤◌, length}
 use Rattle.triangle.specs.Prefilter.{Obeys}
-use Rattle.triangle.proofs.PrefilterLaws.{obeys_none, obeys_more, obeys_all, obeys_clear}
 use Rattle.triangle.proofs.prefilter.Given as goal
 
 abbrev pub invariant-loop-i : goal.invariant-loop-i

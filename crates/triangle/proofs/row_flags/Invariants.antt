@@ -1,8 +1,7 @@
 -- `row_flags` meets its contract: the loop's invariant: the total is the flags that the first j tides of the row raise; the tides left
 -- fall. Assumes nothing.
-use Rattle.std.proofs.Common.{◌-◌, ◌≤◌, length, arith}
+use Rattle.std.proofs.Common.{◌-◌, ◌≤◌, length}
 use Rattle.triangle.specs.Prefilter.{RowFlags}
-use Rattle.triangle.proofs.PrefilterLaws.{flags_none, flags_more, flags_done}
 use Rattle.triangle.proofs.row_flags.Given as goal
 
 abbrev pub invariant-loop-j : goal.invariant-loop-j

@@ -1,5 +1,5 @@
 -- `violates` meets its contract: the tests of `triangle` one by one. Assumes nothing.
-use Rattle.std.proofs.Common.{rules, le-leb}
+use Rattle.std.proofs.Common.{le-leb}
 use borrow.Author.Tests.{lt-leb}
 use Rattle.study.specs.Calls.{triangle}
 use Rattle.triangle.proofs.violates.Goals as goal

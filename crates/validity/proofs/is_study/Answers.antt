@@ -1,7 +1,6 @@
 -- `is_study` meets its contract: the tests of `is_study` one by one; the first that fails decides, or the last. Assumes nothing.
 use mathlib.Core.Path.{◌∙◌}
 use borrow.Author.Tests.{lt-leb}
-use borrow.Author.Rules.{rules}
 use Rattle.lists.proofs.Scans.{between_in, between_low, between_high, test_passes, test_fails}
 use Rattle.validity.proofs.ValidityLaws.{no_study, rows_decide}
 use Rattle.std.proofs.lemmas.Bool.{not_from_false, not_from_true}

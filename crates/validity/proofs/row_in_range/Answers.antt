@@ -1,12 +1,7 @@
 -- `row_in_range` meets its contract: the distances passed so far are in range; (length row) - i falls. Assumes nothing.
-use Prim.Native.Nat.{◌≤◌, ◌-◌}
 use native.Mathlib.Omega.{arith}
-use mathlib.Core.Bool.{true}
-use mathlib.Core.Path.{◌≡◌, sym}
-use lib.Dec.{leb}
-use lib.ListN.{length, get_or}
-use Rattle.lists.specs.Lists.{every}
-use Rattle.lists.proofs.Scans.{every_none, every_more, every_fails, every_done, test_passes, test_fails}
+use mathlib.Core.Path.{sym}
+use Rattle.lists.proofs.Scans.{every_none, every_more, every_fails, test_passes, test_fails}
 use Rattle.std.proofs.lemmas.Bool.{not_from_false, not_from_true}
 use Rattle.validity.proofs.row_in_range.Goals as goal
 

@@ -1,12 +1,10 @@
 -- `row_in_range` meets its contract: the distances passed so far are in range; (length row) - i falls. Assumes nothing.
 use Prim.Native.Nat.{◌≤◌, ◌-◌}
-use native.Mathlib.Omega.{arith}
 use mathlib.Core.Bool.{true}
-use mathlib.Core.Path.{◌≡◌, sym}
+use mathlib.Core.Path.{◌≡◌}
 use lib.Dec.{leb}
 use lib.ListN.{length, get_or}
 use Rattle.lists.specs.Lists.{every}
-use Rattle.lists.proofs.Scans.{every_none, every_more, every_fails, every_done, test_passes, test_fails}
 use Rattle.validity.proofs.row_in_range.Given as goal
 
 abbrev pub invariant-loop-i : goal.invariant-loop-i

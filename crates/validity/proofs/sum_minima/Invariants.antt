@@ -1,11 +1,8 @@
 -- `sum_minima` meets its contract: the sum of the minima passed so far; 8 - j falls. Assumes nothing.
 use Prim.Native.Nat.{◌≤◌, ◌-◌, ◌*◌}
-use native.Mathlib.Omega.{arith}
-use mathlib.Core.Path.{◌≡◌, sym}
+use mathlib.Core.Path.{◌≡◌}
 use lib.ListN.{get_or}
 use Rattle.lists.specs.Lists.{sum_below}
-use Rattle.lists.proofs.Counts.{sum_zero}
-use Rattle.lists.proofs.Scans.{sum_more, sum_done}
 use Rattle.validity.proofs.sum_minima.Given as goal
 
 abbrev pub invariant-loop-j : goal.invariant-loop-j

@@ -1,6 +1,5 @@
 -- `valid_place` meets its contract: the test `valid_place` step by step. Assumes nothing.
 use borrow.Author.Tests.{lt-ltb, le-ltb, le-leb, lt-leb, eq-eqb, ne_eqb}
-use borrow.Author.Rules.{rules}
 use Rattle.lists.proofs.Scans.{and_true}
 use Rattle.validity.specs.Memory.{valid_place}
 use Rattle.validity.proofs.valid_place.Goals as goal

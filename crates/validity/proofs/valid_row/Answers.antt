@@ -1,6 +1,5 @@
 -- `valid_row` meets its contract: the search finds nothing exactly where the row of memory obeys the rule. Assumes nothing.
 use native.Mathlib.Omega.{arith}
-use borrow.Author.Rules.{rules}
 use Rattle.validity.proofs.ValidityLaws.{row_holds, row_breaks}
 use Rattle.validity.proofs.valid_row.Goals as goal
 

@@ -1,6 +1,5 @@
 -- `valid_setting` meets its contract: the test `valid_setting` step by step. Assumes nothing.
 use borrow.Author.Tests.{lt-ltb, le-ltb, le-leb, lt-leb}
-use borrow.Author.Rules.{rules}
 use Rattle.validity.specs.Memory.{valid_setting}
 use Rattle.validity.proofs.valid_setting.Goals as goal
 

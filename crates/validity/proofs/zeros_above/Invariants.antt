@@ -1,12 +1,10 @@
 -- `zeros_above` meets its contract: the minima passed so far are 0 above k; 8 - j falls. Assumes nothing.
 use Prim.Native.Nat.{◌≤◌, ◌-◌}
-use native.Mathlib.Omega.{arith}
 use mathlib.Core.Bool.{cond, true}
-use mathlib.Core.Path.{◌≡◌, sym}
+use mathlib.Core.Path.{◌≡◌}
 use lib.Dec.{ltb, eqb}
 use lib.ListN.{get_or}
 use Rattle.lists.specs.Lists.{every}
-use Rattle.lists.proofs.Scans.{every_none, every_more, every_fails, every_done, test_passes, test_fails}
 use Rattle.validity.proofs.zeros_above.Given as goal
 
 abbrev pub invariant-loop-j : goal.invariant-loop-j

@@ -1,5 +1,4 @@
 -- One law for each way out: a result that is too short, a refusal, an answer. No loop. Assumes nothing.
-use borrow.Author.Rules.{rules}
 use native.Mathlib.Omega.{arith}
 use Rattle.c_api.proofs.MendLaws.{mend_narrow, pairs_fit, mend_too_short, mend_refused, mend_done}
 use Rattle.c_api.proofs.mend.tides_mend.Goals as goal

@@ -1,6 +1,5 @@
 -- A record that is too short, of any of the three, is refused 1; otherwise the merge's own contract, on the records as the code holds them. No loop.
 -- Assumes nothing.
-use borrow.Author.Rules.{rules}
 use Rattle.c_api.proofs.CallLaws.{record_short, list_short, merge_sound, storable, left_too_short, call_left}
 use Rattle.c_api.proofs.MergeLaws.{first_lacks, second_lacks, neither_lacks, merge_given}
 use Rattle.c_api.proofs.merging.tides_merge.Goals as goal

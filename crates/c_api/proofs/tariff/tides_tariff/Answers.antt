@@ -1,6 +1,5 @@
 -- The ways out are those of tides_block, and cite the same laws, with Block's reply taken out of the bill; the twelve numbers are the bill's.
 -- No loop. Assumes nothing.
-use borrow.Author.Rules.{rules}
 use native.Mathlib.Omega.{arith}
 use Rattle.priced_blocks.specs.Calls.{prices_blocks}
 use Rattle.c_api.proofs.CallLaws.{lacks_yes, record_short, list_short}

@@ -1,5 +1,4 @@
 -- The counts in order. Assumes nothing.
-use borrow.Author.Rules.{rules}
 use mathlib.Core.Path.{refl}
 use Rattle.lists.specs.Lists.{tabulate}
 use Rattle.c_records.proofs.numbers.counts_of.Goals as goal

@@ -1,6 +1,4 @@
 -- The numbers in their places; a number of 16 bits fits 32, and n. Assumes nothing.
-use borrow.Author.Rules.{rules}
-use native.Mathlib.Omega.{arith}
 use Rattle.c_records.proofs.RecordLaws.{narrow_read}
 use Rattle.c_records.proofs.numbers.dataset_of.Goals as goal
 

@@ -1,13 +1,9 @@
 -- The loop's invariant: the first i bytes stand in place of zeros; 9 - i falls. Assumes nothing.
-use borrow.Author.Rules.{rules}
-use native.Mathlib.Omega.{arith}
 use Prim.Native.Nat.{ℕ, ◌+◌, ◌-◌, ◌≤◌}
 use mathlib.Core.Path.{◌≡◌}
 use lib.ListN.{get_or, replicate}
 use Rattle.lists.specs.Lists.{overwrite}
-use Rattle.lists.proofs.Tables.{overwrite_none, overwrite_step, overwrite_done}
 use Rattle.narrowing.specs.Narrowing.{narrowed}
-use Rattle.c_records.proofs.RecordLaws.{bytes_read}
 use Rattle.c_records.proofs.numbers.minima_bytes.Given as goal
 
 abbrev pub invariant-loop-i : goal.invariant-loop-i

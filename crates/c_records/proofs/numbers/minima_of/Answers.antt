@@ -1,5 +1,4 @@
 -- The bytes in order. Assumes nothing.
-use borrow.Author.Rules.{rules}
 use mathlib.Core.Path.{refl}
 use Rattle.lists.specs.Lists.{tabulate}
 use Rattle.c_records.specs.Record.{minima_at}

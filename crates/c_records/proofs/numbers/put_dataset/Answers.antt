@@ -1,12 +1,9 @@
 -- The loop's invariant: the first i places hold their numbers, the rest stays, and no place is added; the places left fall. Assumes nothing.
 use borrow.Author.Rules.{rules}
 use native.Mathlib.Omega.{arith}
-use Prim.Native.Nat.{ℕ, ◌-◌, ◌≤◌}
 use mathlib.Core.Path.{◌≡◌, refl, ◌∙◌}
-use lib.ListN.{length, get_or, length-set}
-use Rattle.lists.specs.Lists.{overwrite}
+use lib.ListN.{length, length-set}
 use Rattle.lists.proofs.Tables.{overwrite_none, overwrite_step, overwrite_done}
-use Rattle.c_records.specs.Record.{record_size, numbers_of}
 use Rattle.c_records.proofs.RecordLaws.{written}
 use Rattle.c_records.proofs.numbers.put_dataset.Goals as goal
 

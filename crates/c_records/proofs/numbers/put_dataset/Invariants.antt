@@ -1,13 +1,9 @@
 -- The loop's invariant: the first i places hold their numbers, the rest stays, and no place is added; the places left fall. Assumes nothing.
-use borrow.Author.Rules.{rules}
-use native.Mathlib.Omega.{arith}
 use Prim.Native.Nat.{ℕ, ◌-◌, ◌≤◌}
-use mathlib.Core.Path.{◌≡◌, refl, ◌∙◌}
-use lib.ListN.{length, get_or, length-set}
+use mathlib.Core.Path.{◌≡◌}
+use lib.ListN.{length, get_or}
 use Rattle.lists.specs.Lists.{overwrite}
-use Rattle.lists.proofs.Tables.{overwrite_none, overwrite_step, overwrite_done}
 use Rattle.c_records.specs.Record.{record_size, numbers_of}
-use Rattle.c_records.proofs.RecordLaws.{written}
 use Rattle.c_records.proofs.numbers.put_dataset.Given as goal
 
 abbrev pub invariant-loop-i : goal.invariant-loop-i

@@ -1,10 +1,8 @@
 -- The loop's invariant: the first i numbers are copied, the rest stays, and no place is added; count - i falls. Assumes nothing.
-use native.Mathlib.Omega.{arith}
 use Prim.Native.Nat.{ℕ, ◌-◌, ◌≤◌}
-use mathlib.Core.Path.{◌≡◌, refl}
-use lib.ListN.{length, get_or, length-set}
+use mathlib.Core.Path.{◌≡◌}
+use lib.ListN.{length, get_or}
 use Rattle.lists.specs.Lists.{overwrite}
-use Rattle.lists.proofs.Tables.{overwrite_none, overwrite_step, overwrite_done}
 use Rattle.c_records.proofs.rows.put_numbers.Given as goal
 
 abbrev pub invariant-loop-i : goal.invariant-loop-i

@@ -1,10 +1,10 @@
 -- `put_head` meets its contract: two lines of numbers below 256. Assumes nothing.
 use native.Mathlib.Omega.{arith}
-use mathlib.Core.Path.{◌≡◌, sym}
+use mathlib.Core.Path.{◌≡◌}
 use lib.ListN.{length}
 use lib.Seq.{length-take-le}
 use borrow.Author.Rules.{rules}
-use Rattle.closure_text.proofs.LineLaws.{range_front, head_put}
+use Rattle.closure_text.proofs.LineLaws.{head_put}
 use Rattle.closure_text.proofs.lines.put_head.Goals as goal
 
 pub returns : goal.returns

@@ -1,6 +1,5 @@
 -- `put_line` meets its contract: a number, those after it, a line's end. Assumes nothing.
 use native.Mathlib.Omega.{arith}
-use borrow.Author.Rules.{rules}
 use Rattle.closure_text.proofs.LineLaws.{number_short, line_put}
 use Rattle.closure_text.proofs.lines.put_line.Goals as goal
 

@@ -1,6 +1,5 @@
 -- `put_lowered` meets its contract: a number with its words, of at most 27 bytes. Assumes nothing.
 use native.Mathlib.Omega.{arith}
-use borrow.Author.Rules.{rules}
 use Rattle.closure_text.proofs.LineLaws.{lowered_put, lowered_short}
 use Rattle.closure_text.proofs.lines.put_lowered.Goals as goal
 

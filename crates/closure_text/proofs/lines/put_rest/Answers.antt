@@ -1,12 +1,10 @@
 -- `put_rest` meets its contract. The loop's invariant: the first i numbers are put, of at most seven digits and a blank each; length - i falls.
 -- Assumes nothing.
-use Prim.Native.Nat.{ℕ, ◌+◌, ◌-◌, ◌*◌, ◌≤◌}
+use Prim.Native.Nat.{ℕ, ◌≤◌}
 use native.Mathlib.Omega.{arith}
-use mathlib.Core.List.{flat_map}
-use lib.ListN.{length, take, get_or}
-use Rattle.sheet_text.specs.Text.{decimal, spaced}
-use Rattle.sheet_text.specs.Putting.{PutText}
-use Rattle.sheet_text.proofs.LineLaws.{spaced_none, spaced_more, spaced_done}
+use lib.ListN.{length, get_or}
+use Rattle.sheet_text.specs.Text.{decimal}
+use Rattle.sheet_text.proofs.LineLaws.{spaced_none, spaced_more}
 use Rattle.closure_text.proofs.LineLaws.{number_short}
 use Rattle.closure_text.proofs.lines.put_rest.Goals as goal
 

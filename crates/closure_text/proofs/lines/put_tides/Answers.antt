@@ -1,13 +1,7 @@
 -- `put_tides` meets its contract. The loop's invariant: the lines of the first t tides are put, of at most 968 bytes each; n - t falls.
 -- Assumes nothing.
-use Prim.Native.Nat.{◌+◌, ◌-◌, ◌*◌, ◌≤◌}
 use native.Mathlib.Omega.{arith}
-use mathlib.Core.List.{flat_map}
-use Rattle.lists.specs.Lists.{tabulate}
-use Rattle.sheet_text.specs.Putting.{PutText}
-use Rattle.closure_text.specs.Text.{tide_line}
-use Rattle.closure_text.specs.Rows.{tide_at}
-use Rattle.closure_text.proofs.LineLaws.{tides_none, tides_more, tides_done}
+use Rattle.closure_text.proofs.LineLaws.{tides_none, tides_more}
 use Rattle.closure_text.proofs.lines.put_tides.Goals as goal
 
 pub loop-t-init : goal.loop-t-init

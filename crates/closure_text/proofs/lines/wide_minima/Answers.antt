@@ -1,10 +1,8 @@
 -- `wide_minima` meets its contract. The loop's invariant: the first i numbers stand in place of zeros; 8 - i falls. Assumes nothing.
 use borrow.Author.Rules.{rules}
 use native.Mathlib.Omega.{arith}
-use Prim.Native.Nat.{◌-◌, ◌≤◌}
 use mathlib.Core.Path.{◌≡◌, sym, subst}
-use lib.ListN.{length, get_or, replicate}
-use Rattle.lists.specs.Lists.{overwrite}
+use lib.ListN.{length, replicate}
 use Rattle.lists.proofs.Tables.{overwrite_none, overwrite_step, overwrite_done}
 use Rattle.metric_closure.specs.Tables.{InRange}
 use Rattle.closure_text.proofs.LineLaws.{all_eight, range_none, range_more}

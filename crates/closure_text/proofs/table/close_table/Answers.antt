@@ -1,5 +1,4 @@
 -- `close_table` meets its contract: such a table is not refused. Assumes nothing.
-use borrow.Author.Rules.{rules}
 use Rattle.closure_text.proofs.RowLaws.{told_pairs, pairs_few, never_refused, closed_left}
 use Rattle.closure_text.proofs.table.close_table.Goals as goal
 

@@ -1,13 +1,9 @@
 -- `fill_table` meets its contract. The loop's invariant: the places passed so far hold the distances, the rest is as before; n · n - p falls.
 -- Assumes nothing.
-use Prim.Native.Nat.{◌*◌, ◌/◌, ◌%◌, ◌≤◌, ◌-◌}
 use native.Mathlib.Omega.{arith}
-use mathlib.Core.Path.{◌≡◌, refl}
-use lib.ListN.{length, length-set}
-use Rattle.lists.specs.Lists.{overwrite}
-use Rattle.lists.proofs.Tables.{overwrite_none, overwrite_step, overwrite_done}
-use Rattle.metric_closure.proofs.TableLaws.{few_places, in_row}
-use Rattle.closure_text.specs.Rows.{lower_cell}
+use mathlib.Core.Path.{refl}
+use lib.ListN.{length-set}
+use Rattle.lists.proofs.Tables.{overwrite_none, overwrite_step}
 use Rattle.closure_text.proofs.table.fill_table.Goals as goal
 
 pub loop-p-init : goal.loop-p-init

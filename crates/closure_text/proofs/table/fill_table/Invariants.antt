@@ -1,12 +1,9 @@
 -- `fill_table` meets its contract. The loop's invariant: the places passed so far hold the distances, the rest is as before; n · n - p falls.
 -- Assumes nothing.
 use Prim.Native.Nat.{◌*◌, ◌/◌, ◌%◌, ◌≤◌, ◌-◌}
-use native.Mathlib.Omega.{arith}
-use mathlib.Core.Path.{◌≡◌, refl}
-use lib.ListN.{length, length-set}
+use mathlib.Core.Path.{◌≡◌}
+use lib.ListN.{length}
 use Rattle.lists.specs.Lists.{overwrite}
-use Rattle.lists.proofs.Tables.{overwrite_none, overwrite_step, overwrite_done}
-use Rattle.metric_closure.proofs.TableLaws.{few_places, in_row}
 use Rattle.closure_text.specs.Rows.{lower_cell}
 use Rattle.closure_text.proofs.table.fill_table.Given as goal
 

@@ -1,5 +1,4 @@
 -- `stored_distance` meets its contract: the later tide's row, or 0. Assumes nothing.
-use borrow.Author.Rules.{rules}
 use Rattle.closure_text.proofs.RowLaws.{earlier_cell, later_cell, own_cell}
 use Rattle.closure_text.proofs.table.stored_distance.Goals as goal
 

@@ -1,11 +1,9 @@
 -- `list_pairs` meets its contract. The loop's invariant: after as many steps as pairs are listed, the text stands at this place; the bytes that are
 -- left become fewer. Assumes nothing.
-use Prim.Native.Nat.{◌-◌, ◌≤◌}
 use native.Mathlib.Omega.{arith}
-use mathlib.Core.Path.{◌≡◌, refl}
-use lib.ListN.{length, length-set}
-use Rattle.merge_text.proofs.ListingLaws.{Listing, text_long, listing_none, listing_ends, listing_stops, listing_after, listing_few, listing_more}
-use borrow.Author.Rules.{rules}
+use mathlib.Core.Path.{refl}
+use lib.ListN.{length-set}
+use Rattle.merge_text.proofs.ListingLaws.{text_long, listing_none, listing_ends, listing_stops, listing_after, listing_few, listing_more}
 use Rattle.merge_text.proofs.pairs.list_pairs.Goals as goal
 
 pub returns-then-text-gt131072 : goal.returns-then-text-gt131072

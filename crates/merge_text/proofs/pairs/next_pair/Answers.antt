@@ -2,7 +2,6 @@
 use mathlib.Core.Path.{refl, sym, ◌∙◌}
 use Rattle.text_words.proofs.WordLaws.{next_within}
 use Rattle.merge_text.proofs.PairLaws.{step_is, number_many, number_begins}
-use borrow.Author.Rules.{rules}
 use Rattle.merge_text.proofs.pairs.next_pair.Goals as goal
 
 pub returns-then-after-last : goal.returns-then-after-last

@@ -1,9 +1,7 @@
 -- The tide may go to no block below m; blocks - m falls. Assumes nothing.
 use native.Mathlib.Omega.{arith}
-use Prim.Native.Nat.{◌-◌, ◌≤◌}
 use borrow.Author.Count.{below_more}
 use Rattle.promise.proofs.Pairs.{allows_yes, allows_no}
-use Rattle.promise.specs.Promise.{Nowhere}
 use Rattle.promise.proofs.table.first_allowed.Goals as goal
 
 pub returns-then-allowed-m-ne0 : goal.returns-then-allowed-m-ne0

@@ -1,8 +1,5 @@
 -- The tide may go to no block below m; blocks - m falls. Assumes nothing.
-use native.Mathlib.Omega.{arith}
 use Prim.Native.Nat.{◌-◌, ◌≤◌}
-use borrow.Author.Count.{below_more}
-use Rattle.promise.proofs.Pairs.{allows_yes, allows_no}
 use Rattle.promise.specs.Promise.{Nowhere}
 use Rattle.promise.proofs.table.first_allowed.Given as goal
 

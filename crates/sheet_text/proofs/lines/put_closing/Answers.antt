@@ -5,7 +5,6 @@ use lib.ListN.{length}
 use Rattle.sheet_text.specs.Text.{ascii}
 use Rattle.sheet_text.specs.Lines.{named}
 use Rattle.sheet_text.proofs.LineLaws.{named_short, closing_put}
-use borrow.Author.Rules.{rules}
 use Rattle.sheet_text.proofs.lines.put_closing.Goals as goal
 
 pub put_named-after_radius-requires : goal.put_named-after_radius-requires

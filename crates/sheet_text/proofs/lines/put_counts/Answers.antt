@@ -1,17 +1,15 @@
 -- `put_counts` meets its contract. The loop's invariant: the first i counts are put, of at most five digits and a blank each; 4 - i falls.
 -- Assumes nothing.
-use Prim.Native.Nat.{ℕ, ◌+◌, ◌-◌, ◌*◌, ◌≤◌}
+use Prim.Native.Nat.{ℕ, ◌≤◌}
 use native.Mathlib.Omega.{arith}
 use mathlib.Core.Path.{◌≡◌}
-use mathlib.Core.List.{flat_map}
 use mir.Syntax.{w16}
 use mir.Val.{Fits}
 use borrow.Author.Rules.{rules}
-use lib.ListN.{length, take, get_or}
-use Rattle.sheet_text.specs.Text.{decimal, spaced}
-use Rattle.sheet_text.specs.Putting.{PutText}
+use lib.ListN.{length, get_or}
+use Rattle.sheet_text.specs.Text.{decimal}
 use Rattle.sheet_text.proofs.NumberLaws.{decimal_short}
-use Rattle.sheet_text.proofs.LineLaws.{spaced_none, spaced_more, spaced_done}
+use Rattle.sheet_text.proofs.LineLaws.{spaced_none, spaced_more}
 use Rattle.sheet_text.proofs.lines.put_counts.Goals as goal
 
 pub loop-i-init : goal.loop-i-init

@@ -1,17 +1,10 @@
 -- `put_counts` meets its contract. The loop's invariant: the first i counts are put, of at most five digits and a blank each; 4 - i falls.
 -- Assumes nothing.
-use Prim.Native.Nat.{ℕ, ◌+◌, ◌-◌, ◌*◌, ◌≤◌}
-use native.Mathlib.Omega.{arith}
-use mathlib.Core.Path.{◌≡◌}
+use Prim.Native.Nat.{◌+◌, ◌-◌, ◌*◌, ◌≤◌}
 use mathlib.Core.List.{flat_map}
-use mir.Syntax.{w16}
-use mir.Val.{Fits}
-use borrow.Author.Rules.{rules}
-use lib.ListN.{length, take, get_or}
-use Rattle.sheet_text.specs.Text.{decimal, spaced}
+use lib.ListN.{take}
+use Rattle.sheet_text.specs.Text.{spaced}
 use Rattle.sheet_text.specs.Putting.{PutText}
-use Rattle.sheet_text.proofs.NumberLaws.{decimal_short}
-use Rattle.sheet_text.proofs.LineLaws.{spaced_none, spaced_more, spaced_done}
 use Rattle.sheet_text.proofs.lines.put_counts.Given as goal
 
 abbrev pub invariant-loop-i : goal.invariant-loop-i

@@ -7,7 +7,6 @@ use lib.ListN.{length}
 use Rattle.study.specs.declared.BlockRecord.{BlockRecord}
 use Rattle.sheet_text.specs.Text.{line}
 use Rattle.sheet_text.proofs.LineLaws.{field_short, line_put, line_length, line_short}
-use borrow.Author.Rules.{rules}
 use Rattle.sheet_text.proofs.lines.put_line.Goals as goal
 
 -- with what is known of a record of bytes and words

@@ -1,14 +1,11 @@
 -- `put_lines` meets its contract. The loop's invariant: the lines of the first i blocks are put, of at most 23 bytes each; 120 - i falls.
 -- Assumes nothing.
-use Prim.Native.Nat.{ℕ, ◌+◌, ◌-◌, ◌*◌, ◌≤◌}
 use native.Mathlib.Omega.{arith}
-use mathlib.Core.Path.{◌≡◌, refl, ap}
+use mathlib.Core.Path.{◌≡◌}
 use borrow.Author.Rules.{rules}
-use lib.ListN.{length, take}
-use Rattle.sheet_text.specs.Text.{line, lines}
-use Rattle.sheet_text.proofs.LineLaws.{lines_none, lines_more, lines_all}
-use Rattle.sheet_text.specs.Putting.{PutText}
-use Rattle.sheet_text.proofs.PuttingLaws.{puts_as}
+use lib.ListN.{length}
+use Rattle.sheet_text.specs.Text.{line}
+use Rattle.sheet_text.proofs.LineLaws.{lines_none, lines_more}
 use Rattle.sheet_text.proofs.lines.put_lines.Goals as goal
 
 pub loop-i-init : goal.loop-i-init

@@ -1,14 +1,9 @@
 -- `put_lines` meets its contract. The loop's invariant: the lines of the first i blocks are put, of at most 23 bytes each; 120 - i falls.
 -- Assumes nothing.
-use Prim.Native.Nat.{ℕ, ◌+◌, ◌-◌, ◌*◌, ◌≤◌}
-use native.Mathlib.Omega.{arith}
-use mathlib.Core.Path.{◌≡◌, refl, ap}
-use borrow.Author.Rules.{rules}
-use lib.ListN.{length, take}
-use Rattle.sheet_text.specs.Text.{line, lines}
-use Rattle.sheet_text.proofs.LineLaws.{lines_none, lines_more, lines_all}
+use Prim.Native.Nat.{◌+◌, ◌-◌, ◌*◌, ◌≤◌}
+use lib.ListN.{take}
+use Rattle.sheet_text.specs.Text.{lines}
 use Rattle.sheet_text.specs.Putting.{PutText}
-use Rattle.sheet_text.proofs.PuttingLaws.{puts_as}
 use Rattle.sheet_text.proofs.lines.put_lines.Given as goal
 
 abbrev pub invariant-loop-i : goal.invariant-loop-i

@@ -1,5 +1,5 @@
 -- `put_number` meets its contract: the digits of the tenth part are put, and the last after them. Assumes nothing.
-use Rattle.std.proofs.Common.{refl, sym, ◌∙◌, arith}
+use Rattle.std.proofs.Common.{refl, sym, arith}
 use Rattle.sheet_text.proofs.NumberLaws.{decimal_one, decimal_more, one_length, more_length}
 use Rattle.sheet_text.proofs.PuttingLaws.{puts_then, puts_as}
 use Rattle.sheet_text.proofs.putting.+put_number.Goals as goal

@@ -1,9 +1,7 @@
 -- `put_bytes` meets its contract. The loop's invariant: the first i bytes of the text are put; length - i falls. Assumes nothing.
 use Prim.Native.Nat.{◌+◌, ◌-◌, ◌≤◌}
-use native.Mathlib.Omega.{arith}
 use lib.ListN.{length, take}
 use Rattle.sheet_text.specs.Putting.{PutText}
-use Rattle.sheet_text.proofs.PuttingLaws.{copied_none, copied_more, copied_done}
 use Rattle.sheet_text.proofs.putting.put_bytes.Given as goal
 
 abbrev pub invariant-loop-i : goal.invariant-loop-i

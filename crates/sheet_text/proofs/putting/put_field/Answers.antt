@@ -3,7 +3,6 @@ use native.Mathlib.Omega.{arith}
 use Rattle.sheet_text.specs.Lines.{field}
 use Rattle.sheet_text.proofs.LineLaws.{field_length}
 use Rattle.sheet_text.proofs.PuttingLaws.{puts_then}
-use borrow.Author.Rules.{rules}
 use Rattle.sheet_text.proofs.putting.put_field.Goals as goal
 
 pub put_number-end-requires : goal.put_number-end-requires

@@ -3,7 +3,6 @@ use native.Mathlib.Omega.{arith}
 use Rattle.sheet_text.specs.Lines.{named}
 use Rattle.sheet_text.proofs.LineLaws.{named_length}
 use Rattle.sheet_text.proofs.PuttingLaws.{puts_then}
-use borrow.Author.Rules.{rules}
 use Rattle.sheet_text.proofs.putting.put_named.Goals as goal
 
 pub put_bytes-end-requires : goal.put_bytes-end-requires

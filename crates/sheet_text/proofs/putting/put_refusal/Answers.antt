@@ -2,7 +2,6 @@
 use native.Mathlib.Omega.{arith}
 use Rattle.study.specs.Refusals.{numbered}
 use Rattle.sheet_text.proofs.LineLaws.{refused_short, refused_put}
-use borrow.Author.Rules.{rules}
 use Rattle.sheet_text.proofs.putting.put_refusal.Goals as goal
 
 pub put_named-requires : goal.put_named-requires

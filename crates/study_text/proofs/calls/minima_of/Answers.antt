@@ -3,7 +3,6 @@ use Rattle.narrowing.specs.Narrowing.{narrow_minima}
 use Rattle.study_text.specs.Packing.{minima_from}
 use Rattle.lists.specs.Lists.{tabulate}
 use mathlib.Core.List.{[], ◌∷◌}
-use borrow.Author.Rules.{rules}
 use Rattle.study_text.proofs.calls.minima_of.Goals as goal
 
 pub returns : goal.returns

@@ -2,7 +2,6 @@
 use Rattle.text_words.proofs.WordLaws.{next_within}
 use mathlib.Core.Path.{refl, sym, ◌∙◌}
 use Rattle.study_text.proofs.Turns.{turn_goes, turn_ends, turn_stops}
-use borrow.Author.Rules.{rules}
 use Rattle.study_text.proofs.calls.next_tide.Goals as goal
 
 pub read_tide-requires : goal.read_tide-requires

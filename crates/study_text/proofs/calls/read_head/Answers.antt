@@ -1,6 +1,5 @@
 -- `read_head` meets its contract: Open, then Minima. Assumes nothing.
 use Rattle.study_text.proofs.Turns.{head_stops, head_goes}
-use borrow.Author.Rules.{rules}
 use Rattle.study_text.proofs.calls.read_head.Goals as goal
 
 pub returns-in_default : goal.returns-in_default

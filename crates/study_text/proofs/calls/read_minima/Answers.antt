@@ -1,11 +1,9 @@
 -- `read_minima` meets its contract: too few numbers stop; with all of them, what Minima answers. Assumes nothing.
 use native.Mathlib.Omega.{arith}
-use mathlib.Core.Path.{sym}
 use lib.Seq.{length-take-le}
 use lib.ListN.{replicate}
 use Prim.Native.Nat.{◌+◌}
 use Rattle.study_text.proofs.CallLaws.{minima_stops, minima_goes}
-use borrow.Author.Rules.{rules}
 use Rattle.study_text.proofs.calls.read_minima.Goals as goal
 
 pub returns-in-Stopped : goal.returns-in-Stopped

@@ -4,7 +4,6 @@ use Rattle.validity.proofs.LayoutLaws.{short_no}
 use Rattle.validity.specs.Memory.{state_of}
 use lib.ListN.{replicate}
 use Rattle.study_text.proofs.CallLaws.{open_stops, open_goes}
-use borrow.Author.Rules.{rules}
 use Rattle.study_text.proofs.calls.read_open.Goals as goal
 
 pub returns-in-Stopped : goal.returns-in-Stopped

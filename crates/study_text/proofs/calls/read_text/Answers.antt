@@ -1,7 +1,6 @@
 -- `read_text` meets its contract: the head, then the tides. Assumes nothing.
 use native.Mathlib.Omega.{arith}
 use Rattle.study_text.proofs.Turns.{text_begins, text_stops}
-use borrow.Author.Rules.{rules}
 use Rattle.study_text.proofs.calls.read_text.Goals as goal
 
 pub read_tides-requires-clause-cursor_within : goal.read_tides-requires-clause-cursor_within

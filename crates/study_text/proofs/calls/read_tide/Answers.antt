@@ -7,7 +7,6 @@ use lib.ListN.{length, drop}
 use Rattle.validity.specs.Memory.{state_of}
 use Rattle.study_text.proofs.ReachedLaws.{held_few}
 use Rattle.study_text.proofs.CallLaws.{tide_stops, tide_goes}
-use borrow.Author.Rules.{rules}
 use Rattle.study_text.proofs.calls.read_tide.Goals as goal
 
 pub slice_bounds-read_row-end : goal.slice_bounds-read_row-end
@@ -30,7 +29,7 @@ slice_bounds-take_tide-end c =
     omega arith
 
 pub slice_bounds-take_tide-end-in-Read : goal.slice_bounds-take_tide-end-in-Read
-slice_bounds-take_tide-end-in-Read c = 
+slice_bounds-take_tide-end-in-Read c =
     let row_fits : c.args.dataset.n ≤ length c.args.row.now =
     omega (arith, held_few c.args.rule (state_of c.args.dataset c.args.distances.now c.args.settings.now) c.requires.1, c.requires.2) in
     sym (length-take-le _ _ (omega arith))

@@ -1,12 +1,8 @@
 -- `read_tides` meets its contract. The loop's invariant: after as many turns as tides are held, the text stands at this place; 121 less the
 -- tides held falls. Assumes nothing.
-use borrow.Author.Rules.{rules}
 use native.Mathlib.Omega.{arith}
-use mathlib.Core.Path.{◌≡◌, refl}
-use lib.ListN.{length}
-use Prim.Native.Nat.{◌-◌, ◌≤◌}
 use Rattle.study_text.proofs.ReachedLaws.{held_few}
-use Rattle.study_text.proofs.Turns.{Midway, midway_size, midway_more, midway_ends}
+use Rattle.study_text.proofs.Turns.{midway_size, midway_more, midway_ends}
 use Rattle.study_text.proofs.calls.read_tides.Goals as goal
 
 pub returns-in-Over : goal.returns-in-Over

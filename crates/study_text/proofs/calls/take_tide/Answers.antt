@@ -1,5 +1,4 @@
 -- `take_tide` meets its contract: Enter with the setting as a byte, or what `measure` ensures. Assumes nothing.
-use borrow.Author.Rules.{rules}
 use Rattle.study_text.proofs.ReachedLaws.{held_as, took_as}
 use Rattle.study_text.proofs.CallLaws.{enter_took}
 use Rattle.study_text.proofs.calls.take_tide.Goals as goal

@@ -1,12 +1,9 @@
 -- `copy_row` meets its contract: the loop's invariant: the places before i are copied and the rest is as before; the places left fall.
 -- Assumes nothing.
 use Prim.Native.Nat.{◌-◌}
-use native.Mathlib.Omega.{arith}
-use mathlib.Core.Path.{refl}
 use lib.ListN.{length}
 use Rattle.lists.specs.Lists.{at}
-use Rattle.lists.proofs.Fills.{Filled, filled_none, filled_more}
-use Rattle.study_text.proofs.MeasuredLaws.{row_copied}
+use Rattle.lists.proofs.Fills.{Filled}
 use Rattle.study_text.proofs.measured.copy_row.Given as goal
 
 abbrev pub invariant-loop-i : goal.invariant-loop-i

@@ -1,5 +1,4 @@
 -- `measured_answer` meets its contract: the ladder of reasons, by the tests that led to each way out. Assumes nothing.
-use borrow.Author.Rules.{rules}
 use borrow.Author.Tests.{le-leb, lt-leb, eq-eqb, ne_eqb}
 use Rattle.lists.proofs.Scans.{between_in, between_low, between_high, test_passes, test_fails}
 use Rattle.study_text.proofs.MeasuredLaws.{measured_ladder, measured_far, measured_near}

@@ -1,7 +1,6 @@
 -- `number` meets its contract: each word is a number or stops, by one law for all four. Assumes nothing.
 use Rattle.study_text.proofs.StepLaws.{number_is}
 use mathlib.Core.Path.{refl}
-use borrow.Author.Rules.{rules}
 use Rattle.study_text.proofs.numbers.number.Goals as goal
 
 pub returns-in-Number : goal.returns-in-Number

@@ -1,10 +1,8 @@
 -- `read_row` meets its contract. The loop's invariant: the first i numbers stand in the row; length - i falls. Assumes nothing.
-use borrow.Author.Rules.{rules}
-use native.Mathlib.Omega.{arith}
-use Rattle.study_text.proofs.StepLaws.{ReadTo, row_none, row_more, row_stops, row_read}
-use lib.ListN.{length, length-set}
+use Rattle.study_text.proofs.StepLaws.{ReadTo}
+use lib.ListN.{length}
 use Prim.Native.Nat.{◌-◌, ◌≤◌}
-use mathlib.Core.Path.{◌≡◌, refl}
+use mathlib.Core.Path.{◌≡◌}
 use Rattle.study_text.proofs.numbers.read_row.Given as goal
 
 abbrev pub invariant-loop-i : goal.invariant-loop-i
