@@ -4,6 +4,7 @@
 
 pub mod head;
 mod length;
+pub mod memory;
 mod progress;
 pub mod tides;
 pub mod writing;

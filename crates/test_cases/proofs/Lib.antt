@@ -1,2 +1,0 @@
--- Lemmas for the proofs of the trials.
-pub mod SixLent

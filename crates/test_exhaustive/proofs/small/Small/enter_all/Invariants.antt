@@ -1,0 +1,13 @@
+-- `enter_all` is safe and ends: n - t falls. Assumes nothing.
+use borrow.Author.Rules.{rules}
+use lib.ListN.{length}
+use mathlib.Core.Path.{◌≡◌}
+use Prim.Native.Nat.{◌≤◌, ◌-◌}
+use Rattle.test_exhaustive.proofs.small.Small.enter_all.Given as goal
+
+abbrev pub invariant-loop-t : goal.invariant-loop-t
+invariant-loop-t l =
+    (l.t ≤ l.n) × (length l.distances ≡ length l.initial.distances) × (length l.settings ≡ length l.initial.settings)
+
+abbrev pub decreases-loop-t : goal.decreases-loop-t
+decreases-loop-t l = l.n - l.t
