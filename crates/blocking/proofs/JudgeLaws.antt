@@ -67,7 +67,8 @@ module _ (s : State) (list : List ℕ) where
         answer = q;
       }
 
-  pub judge_refused : {a : Answer} {x : Refusal} → a ≡ Refused x → verdict_of a ≡ answer s (judges_list list) → refusal (numbered x) ≡ reply s (judges_list list)
+  pub judge_refused : {a : Answer} {x : Refusal} → a ≡ Refused x → verdict_of a ≡ answer s (judges_list list) → refusal (numbered x) ≡ reply s
+      (judges_list list)
   judge_refused {a} {x} e f = replies_refusal s (judges_list list) (sym (ap verdict_of e) ∙ f)
 
   module _ (A : JudgeAccepted) where

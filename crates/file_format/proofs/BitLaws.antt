@@ -178,7 +178,8 @@ pack_bits s b f h =
 -- a field that starts in byte at / 8 and ends in the third byte after it or before, cut out of the number that these four bytes form
 pub window : (s : List ℕ) → Bytes s → (at w : ℕ) → at % 8 + w ≤ 32
     → bits_at s at w
-    ≡ (get_or s (at / 8) 0 * 16777216 + get_or s (at / 8 + 1) 0 * 65536 + get_or s (at / 8 + 2) 0 * 256 + get_or s (at / 8 + 3) 0) / 2 ^ (32 - at % 8 - w) % 2 ^ w
+    ≡ (get_or s (at / 8) 0 * 16777216 + get_or s (at / 8 + 1) 0 * 65536 + get_or s (at / 8 + 2) 0 * 256 + get_or s (at / 8 + 3) 0) / 2 ^
+    (32 - at % 8 - w) % 2 ^ w
 window s b at w l = sym (ap (λ x. x / 2 ^ rest % 2 ^ w) four ∙ ap (λ x. x % 2 ^ w) cut ∙ tail)
   where
     q : ℕ

@@ -149,7 +149,8 @@ module _ (is_too_short : Bool) (u : ℕ) (user : T (is_user u)) where
     where
       -- the rest of the calls, from anywhere
       Rest : Type 0
-      Rest = (next : Stretch) (t : Option Holding) → Reckoned u next t → Reckoned u (stretch_after next (accepted_calls is_too_short t cs)) (following is_too_short t cs)
+      Rest = (next : Stretch) (t : Option Holding) → Reckoned u next t → Reckoned u (stretch_after next (accepted_calls is_too_short t cs))
+      (following is_too_short t cs)
 
       by : Rest → (v : Verdict) → verdict is_too_short h (call_of c) ≡ v
           → let next = settled v (changed h (call_of c)) h in
@@ -179,7 +180,8 @@ module _ (is_too_short : Bool) where
   accepted_append h [] ds = refl
   accepted_append h (c ∷ cs) ds =
       let next = step is_too_short h (call_of c) in
-      by (verdict is_too_short h (call_of c)) (accepted_calls is_too_short next cs) (accepted_calls is_too_short (following is_too_short next cs) ds) (accepted_append next cs ds)
+      by (verdict is_too_short h (call_of c)) (accepted_calls is_too_short next cs) (accepted_calls is_too_short (following is_too_short next cs) ds)
+      (accepted_append next cs ds)
     where
       by : (v : Verdict) {xs : List Offered} (ys zs : List Offered) → xs ≡ ys ++ zs → settled v (c ∷ xs) xs ≡ settled v (c ∷ ys) ys ++ zs
       by accepted ys zs e = ap (λ l. c ∷ l) e

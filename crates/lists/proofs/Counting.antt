@@ -127,7 +127,8 @@ count_by (suc n) p q = omega (arith, count_by n p q, bit_by (p n) (q n))
 -- where f puts each number into one of k classes, the classes together are all that pass
 pub count_classes : (k n : ℕ) (q : ℕ → Bool) (f : ℕ → ℕ) → ((t : ℕ) → t < n → f t < k)
     → sum_below k (λ j. count_below n (λ t. q t && eqb (f t) j)) ≡ count_below n q
-count_classes k zero q f h = omega (arith, count_zero q, sum_none k (λ j. count_below 0 (λ t. q t && eqb (f t) j)) (λ j l. count_zero (λ t. q t && eqb (f t) j)))
+count_classes k zero q f h = omega
+    (arith, count_zero q, sum_none k (λ j. count_below 0 (λ t. q t && eqb (f t) j)) (λ j l. count_zero (λ t. q t && eqb (f t) j)))
 count_classes k (suc n) q f h = turn (count_classes k n q f (λ t l. h t (omega arith))) (test (q n))
   where
     part : ℕ → ℕ → ℕ

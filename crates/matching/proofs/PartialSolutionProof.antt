@@ -177,5 +177,6 @@ module _ (S : Study) (ok : Valid S) (g : ℕ) where
 pub partial_solution_exactly : PartialSolutionExactly
 partial_solution_exactly S ok g = (
   λ x. assigned S ok g x.0 x.1,
-  λ t. let xs = head_d (assignments (problem S) g) [] in (D S ok g xs (first_assignment (problem S) g t), solution S ok g xs (first_assignment (problem S) g t)),
+  λ t. let xs = head_d (assignments (problem S) g) [] in
+      (D S ok g xs (first_assignment (problem S) g t), solution S ok g xs (first_assignment (problem S) g t)),
 )

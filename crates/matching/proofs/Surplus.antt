@@ -47,7 +47,8 @@ module _ (b : List ℕ) (setting : ℕ → ℕ) (p : ℕ → Bool) where
   pub own_needed : (j t : ℕ) → T (own j t) → T (needed b setting p t)
   unfolding needed of_setting
   own_needed j t h =
-      let e : setting t ≡ suc j = eqb→eq (setting t) (suc j) (T-right (p t) (eqb (setting t) (suc j)) (firsts_pass (get_or b j 0) (of_setting setting p j) t h)) in
+      let e : setting t ≡ suc j = eqb→eq (setting t) (suc j)
+      (T-right (p t) (eqb (setting t) (suc j)) (firsts_pass (get_or b j 0) (of_setting setting p j) t h)) in
       let i : j ≡ setting t - 1 = omega arith in
       subst (λ i. T (own i t)) i h
 

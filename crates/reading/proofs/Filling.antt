@@ -15,7 +15,8 @@ Consumes-trans (Some x) (Some y) (Some z) bs cs p q = p ∙ ap (λ l. bs ++ l) q
 pub Consumes-in_place : {E : Type 0} (a b : Option (List ℕ)) (r : Result ℕ E) (front part rest : List ℕ) (at : ℕ) → length front ≡ at → ReadsAtMost r part
     → ReadConsumes a b r part → IfOk r (λ n. Consumes a b (take n (drop at (front ++ (part ++ rest)))))
 Consumes-in_place a b (Ok n) front part rest at long fits read =
-    let after : drop at (front ++ (part ++ rest)) ≡ part ++ rest = ap (λ k. drop k (front ++ (part ++ rest))) (sym long) ∙ drop-append_seam front (part ++ rest) in
+    let after : drop at (front ++ (part ++ rest)) ≡ part ++ rest = ap (λ k. drop k (front ++ (part ++ rest))) (sym long) ∙ drop-append_seam front
+    (part ++ rest) in
     subst (Consumes a b) (sym (ap (take n) after ∙ take-append-le n part rest fits.0)) read.0
 Consumes-in_place a b (Err e) front part rest at long fits read = tt
 

@@ -123,7 +123,8 @@ module _ (word : List ℕ) (i : ℕ) where
       → all_of digit (drop (i + 1) word) ≡ all_of digit word
   digits_more h t e = sym (rw (left word i h, t)) ∙ e
 
-  pub value_more : (v : ℕ) {w : ℕ} → i < length word → w ≡ capped (with_digit v (get_or word i 0)) → capped (value_from v (drop i word)) ≡ capped (value_from 0 word)
+  pub value_more : (v : ℕ) {w : ℕ} → i < length word → w ≡ capped (with_digit v (get_or word i 0)) → capped (value_from v (drop i word)) ≡ capped
+      (value_from 0 word)
       → capped (value_from w (drop (i + 1) word)) ≡ capped (value_from 0 word)
   unfolding value_from
   value_more v h e f = rw e (capped_value (with_digit v (get_or word i 0)) (drop (i + 1) word) ∙ sym (rw (left word i h)) ∙ f)

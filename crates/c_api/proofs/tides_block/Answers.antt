@@ -50,7 +50,9 @@ returns-in-Done-clause-code c =
     let done = c.in-Done.is in
     (blocks_done 3 _ _ (makes_blocks _) (makes_lent _)
     (record { room = c.if-numbers-lt-RECORD_SIZE.false; enough = c.if-res-lt3.false; held = c.dataset_of.ensures })
-    c.least-room.ensures c.block_core-computed.ensures.list (block_value _ _ _ _ c.block_core-computed.ensures.answer done) c.block_core-computed.ensures.rows (count_is _ _ _ _ c.block_core-computed.ensures.answer done c.block_core-computed.ensures.rows) c.put_columns.ensures.centres c.put_columns.ensures.sizes c.put_columns.ensures.diameters
+    c.least-room.ensures c.block_core-computed.ensures.list
+    (block_value _ _ _ _ c.block_core-computed.ensures.answer done) c.block_core-computed.ensures.rows
+    (count_is _ _ _ _ c.block_core-computed.ensures.answer done c.block_core-computed.ensures.rows) c.put_columns.ensures.centres c.put_columns.ensures.sizes c.put_columns.ensures.diameters
     (written_three _ c.put_numbers.ensures)).0
 
 pub returns-in-Done-clause-leaves : goal.returns-in-Done-clause-leaves
@@ -58,5 +60,7 @@ returns-in-Done-clause-leaves c =
     let done = c.in-Done.is in
     (blocks_done 3 _ _ (makes_blocks _) (makes_lent _)
     (record { room = c.if-numbers-lt-RECORD_SIZE.false; enough = c.if-res-lt3.false; held = c.dataset_of.ensures })
-    c.least-room.ensures c.block_core-computed.ensures.list (block_value _ _ _ _ c.block_core-computed.ensures.answer done) c.block_core-computed.ensures.rows (count_is _ _ _ _ c.block_core-computed.ensures.answer done c.block_core-computed.ensures.rows) c.put_columns.ensures.centres c.put_columns.ensures.sizes c.put_columns.ensures.diameters
+    c.least-room.ensures c.block_core-computed.ensures.list
+    (block_value _ _ _ _ c.block_core-computed.ensures.answer done) c.block_core-computed.ensures.rows
+    (count_is _ _ _ _ c.block_core-computed.ensures.answer done c.block_core-computed.ensures.rows) c.put_columns.ensures.centres c.put_columns.ensures.sizes c.put_columns.ensures.diameters
     (written_three _ c.put_numbers.ensures)).1

@@ -27,12 +27,22 @@ store_outcome-requires c =
 
 pub returns-clause-code : goal.returns-clause-code
 returns-clause-code c =
-    (call_left (record { room = c.if-numbers-lt-RECORD_SIZE.false; held = c.dataset_of.ensures; settles = (c.store_outcome.ensures.code, c.store_outcome.ensures.numbers) })
+    (call_left (record {
+      room = c.if-numbers-lt-RECORD_SIZE.false;
+      held = c.dataset_of.ensures;
+      settles =
+          (c.store_outcome.ensures.code, c.store_outcome.ensures.numbers);
+    })
     (lacks_no 9 _ c.if-minima-lt9.false) (minima_sound _ _)
     (as_given _ sets_minima _ c.minima_of.ensures (refl, refl) (c.set_minima-outcome.ensures.answer, c.set_minima-outcome.ensures.leaves))).0
 
 pub returns-clause-leaves : goal.returns-clause-leaves
 returns-clause-leaves c =
-    (call_left (record { room = c.if-numbers-lt-RECORD_SIZE.false; held = c.dataset_of.ensures; settles = (c.store_outcome.ensures.code, c.store_outcome.ensures.numbers) })
+    (call_left (record {
+      room = c.if-numbers-lt-RECORD_SIZE.false;
+      held = c.dataset_of.ensures;
+      settles =
+          (c.store_outcome.ensures.code, c.store_outcome.ensures.numbers);
+    })
     (lacks_no 9 _ c.if-minima-lt9.false) (minima_sound _ _)
     (as_given _ sets_minima _ c.minima_of.ensures (refl, refl) (c.set_minima-outcome.ensures.answer, c.set_minima-outcome.ensures.leaves))).1

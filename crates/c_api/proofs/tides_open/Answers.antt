@@ -19,10 +19,20 @@ store_outcome-requires c =
 
 pub returns-clause-code : goal.returns-clause-code
 returns-clause-code c =
-    (call_left (record { room = c.if-numbers-lt-RECORD_SIZE.false; held = c.dataset_of.ensures; settles = (c.store_outcome.ensures.code, c.store_outcome.ensures.numbers) }) refl
+    (call_left (record {
+      room = c.if-numbers-lt-RECORD_SIZE.false;
+      held = c.dataset_of.ensures;
+      settles =
+          (c.store_outcome.ensures.code, c.store_outcome.ensures.numbers);
+    }) refl
     (open_sound _ _) (as_given _ opens_dataset _ c.narrow.ensures ((unchanged _).on_open _) (c.open-outcome.ensures.answer, c.open-outcome.ensures.leaves))).0
 
 pub returns-clause-leaves : goal.returns-clause-leaves
 returns-clause-leaves c =
-    (call_left (record { room = c.if-numbers-lt-RECORD_SIZE.false; held = c.dataset_of.ensures; settles = (c.store_outcome.ensures.code, c.store_outcome.ensures.numbers) }) refl
+    (call_left (record {
+      room = c.if-numbers-lt-RECORD_SIZE.false;
+      held = c.dataset_of.ensures;
+      settles =
+          (c.store_outcome.ensures.code, c.store_outcome.ensures.numbers);
+    }) refl
     (open_sound _ _) (as_given _ opens_dataset _ c.narrow.ensures ((unchanged _).on_open _) (c.open-outcome.ensures.answer, c.open-outcome.ensures.leaves))).1

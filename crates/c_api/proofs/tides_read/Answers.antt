@@ -17,10 +17,20 @@ store_outcome-requires c =
 
 pub returns-clause-code : goal.returns-clause-code
 returns-clause-code c =
-    (call_left (record { room = c.if-numbers-lt-RECORD_SIZE.false; held = c.dataset_of.ensures; settles = (c.store_outcome.ensures.code, c.store_outcome.ensures.numbers) }) refl
+    (call_left (record {
+      room = c.if-numbers-lt-RECORD_SIZE.false;
+      held = c.dataset_of.ensures;
+      settles =
+          (c.store_outcome.ensures.code, c.store_outcome.ensures.numbers);
+    }) refl
     (read_sound _ _) (c.read-outcome.ensures.answer, c.read-outcome.ensures.leaves)).0
 
 pub returns-clause-leaves : goal.returns-clause-leaves
 returns-clause-leaves c =
-    (call_left (record { room = c.if-numbers-lt-RECORD_SIZE.false; held = c.dataset_of.ensures; settles = (c.store_outcome.ensures.code, c.store_outcome.ensures.numbers) }) refl
+    (call_left (record {
+      room = c.if-numbers-lt-RECORD_SIZE.false;
+      held = c.dataset_of.ensures;
+      settles =
+          (c.store_outcome.ensures.code, c.store_outcome.ensures.numbers);
+    }) refl
     (read_sound _ _) (c.read-outcome.ensures.answer, c.read-outcome.ensures.leaves)).1

@@ -17,10 +17,20 @@ store_outcome-requires c =
 
 pub returns-clause-code : goal.returns-clause-code
 returns-clause-code c =
-    (call_left (record { room = c.if-numbers-lt-RECORD_SIZE.false; held = c.dataset_of.ensures; settles = (c.store_outcome.ensures.code, c.store_outcome.ensures.numbers) }) refl
+    (call_left (record {
+      room = c.if-numbers-lt-RECORD_SIZE.false;
+      held = c.dataset_of.ensures;
+      settles =
+          (c.store_outcome.ensures.code, c.store_outcome.ensures.numbers);
+    }) refl
     (withdraw_sound _ _ _) (withdraw_given _ _ _ c.narrow.ensures c.narrow-2.ensures (c.withdraw-outcome.ensures.answer, c.withdraw-outcome.ensures.leaves))).0
 
 pub returns-clause-leaves : goal.returns-clause-leaves
 returns-clause-leaves c =
-    (call_left (record { room = c.if-numbers-lt-RECORD_SIZE.false; held = c.dataset_of.ensures; settles = (c.store_outcome.ensures.code, c.store_outcome.ensures.numbers) }) refl
+    (call_left (record {
+      room = c.if-numbers-lt-RECORD_SIZE.false;
+      held = c.dataset_of.ensures;
+      settles =
+          (c.store_outcome.ensures.code, c.store_outcome.ensures.numbers);
+    }) refl
     (withdraw_sound _ _ _) (withdraw_given _ _ _ c.narrow.ensures c.narrow-2.ensures (c.withdraw-outcome.ensures.answer, c.withdraw-outcome.ensures.leaves))).1

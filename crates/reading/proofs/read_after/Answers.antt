@@ -9,4 +9,5 @@ returns-clause-front g c = take_put _ _ c.args.bytes.now _ (omega (arith, c.requ
 
 pub returns-clause-read : goal.returns-clause-read
 returns-clause-read g c =
-    Consumes-in_place _ _ c.read.result _ c.read.new.buf _ c.args.done (length-take-le _ c.args.bytes.now (omega (arith, c.requires))) c.read.ensures.bound c.read.ensures.bytes
+    Consumes-in_place _ _ c.read.result _ c.read.new.buf _ c.args.done
+    (length-take-le _ c.args.bytes.now (omega (arith, c.requires))) c.read.ensures.bound c.read.ensures.bytes

@@ -13,4 +13,5 @@ pub returns-clause-text : goal.returns-clause-text
 returns-clause-text c =
     let file = c.args.file.now in
     let done = c.in_default.is in
-    c.blocked_sheet.ensures.1 ∙ ap laid_out (sheet_blocked file _ (long_enough c.blank-before.result) c.read-outcome.ensures.answer done c.read-outcome.ensures.leaves)
+    c.blocked_sheet.ensures.1 ∙ ap laid_out
+    (sheet_blocked file _ (long_enough c.blank-before.result) c.read-outcome.ensures.answer done c.read-outcome.ensures.leaves)

@@ -13,8 +13,13 @@ pub loop-j-init : goal.loop-j-init
 loop-j-init c = (omega arith, omega arith, c.search.invariant.1, c.search.invariant.2 ∙ violation_enters _ _ _ (omega arith))
 
 pub loop-j-preserved : goal.loop-j-preserved
-loop-j-preserved c =
-    (omega arith, omega arith, c.loop-j.invariant.2, c.loop-j.invariant.3 ∙ violation_passes _ _ _ _ (omega arith) (sym c.violates.ensures ∙ c.if-violates.false))
+loop-j-preserved c = (
+  omega arith,
+  omega arith,
+  c.loop-j.invariant.2,
+  c.loop-j.invariant.3 ∙ violation_passes _ _ _ _ (omega arith)
+      (sym c.violates.ensures ∙ c.if-violates.false),
+)
 
 pub search-preserved : goal.search-preserved
 search-preserved c = (omega arith, c.loop-j.invariant.2, c.loop-j.invariant.3 ∙ violation_leaves _ _ _ _ (omega arith))

@@ -9,7 +9,8 @@ use Rattle.triangle.proofs.find_violation.Given as goal
 
 abbrev pub invariant-loop-j : goal.invariant-loop-j
 invariant-loop-j l =
-    (l.i < l.j) × (l.j ≤ length l.row) × (l.found ≡ Nothing) × (violations (cell l.distances) (length l.row) (λ i. get_or l.row i 0) ≡ pairs_at l.distances l.row l.i l.j)
+    (l.i < l.j) × (l.j ≤ length l.row) × (l.found ≡ Nothing) ×
+    (violations (cell l.distances) (length l.row) (λ i. get_or l.row i 0) ≡ pairs_at l.distances l.row l.i l.j)
 
 abbrev pub decreases-loop-j : goal.decreases-loop-j
 decreases-loop-j l = length l.row - l.j

@@ -28,5 +28,6 @@ pub returns : goal.returns
 returns c =
     c.valid_rows.ensures
     ∙ rows_decide _ (between_in 1 8 _ c.if-k-lt1.false c.if-k-gt-MAX_K.false) c.if-n-gt-MAX_TIDES.false
-    (test_passes c.valid_minima.ensures (not_from_true _ c.if-not-valid_minima.false)) (test_passes c.valid_settings.ensures (not_from_true _ c.if-not-valid_settings.false))
+    (test_passes c.valid_minima.ensures (not_from_true _ c.if-not-valid_minima.false))
+    (test_passes c.valid_settings.ensures (not_from_true _ c.if-not-valid_settings.false))
     (test_passes c.valid_distances.ensures (not_from_true _ c.if-not-valid_distances.false))

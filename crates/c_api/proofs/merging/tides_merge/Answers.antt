@@ -40,12 +40,22 @@ store_outcome-requires c =
 
 pub returns-clause-code : goal.returns-clause-code
 returns-clause-code c =
-    (call_left (record { room = c.if-numbers-lt-RECORD_SIZE.false; held = c.dataset_of-into.ensures; settles = (c.store_outcome.ensures.code, c.store_outcome.ensures.numbers) })
+    (call_left (record {
+      room = c.if-numbers-lt-RECORD_SIZE.false;
+      held = c.dataset_of-into.ensures;
+      settles =
+          (c.store_outcome.ensures.code, c.store_outcome.ensures.numbers);
+    })
     (neither_lacks _ _ c.if-n1-lt-RECORD_SIZE.false c.if-n2-lt-RECORD_SIZE.false) (merge_sound _ _ _ _ _)
     (merge_given _ _ _ _ _ c.dataset_of-first.ensures c.dataset_of-second.ensures (c.merge-outcome.ensures.answer, c.merge-outcome.ensures.leaves))).0
 
 pub returns-clause-leaves : goal.returns-clause-leaves
 returns-clause-leaves c =
-    (call_left (record { room = c.if-numbers-lt-RECORD_SIZE.false; held = c.dataset_of-into.ensures; settles = (c.store_outcome.ensures.code, c.store_outcome.ensures.numbers) })
+    (call_left (record {
+      room = c.if-numbers-lt-RECORD_SIZE.false;
+      held = c.dataset_of-into.ensures;
+      settles =
+          (c.store_outcome.ensures.code, c.store_outcome.ensures.numbers);
+    })
     (neither_lacks _ _ c.if-n1-lt-RECORD_SIZE.false c.if-n2-lt-RECORD_SIZE.false) (merge_sound _ _ _ _ _)
     (merge_given _ _ _ _ _ c.dataset_of-first.ensures c.dataset_of-second.ensures (c.merge-outcome.ensures.answer, c.merge-outcome.ensures.leaves))).1

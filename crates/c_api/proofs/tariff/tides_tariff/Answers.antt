@@ -68,7 +68,8 @@ returns-in-Done-clause-code c =
     (blocks_done 12 _ _ (prices_blocks _) (prices_lent _)
     (record { room = c.if-numbers-lt-RECORD_SIZE.false; enough = c.if-res-lt12.false; held = c.dataset_of.ensures })
     c.least-room.ensures e.list (bill_numbers _ _ _ P e.answer done) e.rows
-    (count_is _ _ _ _ (bill_reply _ _ _ P e.answer) done (bill_rows _ _ _ P e.answer e.rows)) c.put_columns.ensures.centres c.put_columns.ensures.sizes c.put_columns.ensures.diameters
+    (count_is _ _ _ _ (bill_reply _ _ _ P e.answer) done
+    (bill_rows _ _ _ P e.answer e.rows)) c.put_columns.ensures.centres c.put_columns.ensures.sizes c.put_columns.ensures.diameters
     (written_bill _ (bill_eight _ _ _ P e.answer done) c.bill_row-bill.ensures c.put_numbers.ensures)).0
 
 pub returns-in-Done-clause-leaves : goal.returns-in-Done-clause-leaves
@@ -80,5 +81,6 @@ returns-in-Done-clause-leaves c =
     (blocks_done 12 _ _ (prices_blocks _) (prices_lent _)
     (record { room = c.if-numbers-lt-RECORD_SIZE.false; enough = c.if-res-lt12.false; held = c.dataset_of.ensures })
     c.least-room.ensures e.list (bill_numbers _ _ _ P e.answer done) e.rows
-    (count_is _ _ _ _ (bill_reply _ _ _ P e.answer) done (bill_rows _ _ _ P e.answer e.rows)) c.put_columns.ensures.centres c.put_columns.ensures.sizes c.put_columns.ensures.diameters
+    (count_is _ _ _ _ (bill_reply _ _ _ P e.answer) done
+    (bill_rows _ _ _ P e.answer e.rows)) c.put_columns.ensures.centres c.put_columns.ensures.sizes c.put_columns.ensures.diameters
     (written_bill _ (bill_eight _ _ _ P e.answer done) c.bill_row-bill.ensures c.put_numbers.ensures)).1

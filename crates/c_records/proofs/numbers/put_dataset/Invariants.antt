@@ -8,7 +8,8 @@ use Rattle.c_records.proofs.numbers.put_dataset.Given as goal
 
 abbrev pub invariant-loop-i : goal.invariant-loop-i
 invariant-loop-i l =
-    (l.i ≤ record_size) × (l.numbers ≡ overwrite l.i (λ (j : ℕ). get_or (numbers_of l.dataset) j 0) l.initial.numbers) × (length l.numbers ≡ length l.initial.numbers)
+    (l.i ≤ record_size) × (l.numbers ≡ overwrite l.i (λ (j : ℕ). get_or (numbers_of l.dataset) j 0) l.initial.numbers) ×
+    (length l.numbers ≡ length l.initial.numbers)
 
 abbrev pub decreases-loop-i : goal.decreases-loop-i
 decreases-loop-i l = record_size - l.i

@@ -9,7 +9,8 @@ use Rattle.first_assignment.proofs.first.first_assignment.Given as goal
 
 abbrev pub invariant-loop-t : goal.invariant-loop-t
 invariant-loop-t l =
-    (l.t ≤ l.n) × TailKept l.n l.initial.list l.list × Fixed (rank l.distances l.centres) l.n l.blocks (meeting l.minima l.n l.settings) l.t l.initial.allowed l.allowed l.list
+    (l.t ≤ l.n) × TailKept l.n l.initial.list l.list × Fixed (rank l.distances l.centres) l.n l.blocks
+    (meeting l.minima l.n l.settings) l.t l.initial.allowed l.allowed l.list
 
 abbrev pub decreases-loop-t : goal.decreases-loop-t
 decreases-loop-t l = l.n - l.t

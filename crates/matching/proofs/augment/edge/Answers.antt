@@ -10,7 +10,11 @@ pub returns-then-allowed-m-eq0 : goal.returns-then-allowed-m-eq0
 returns-then-allowed-m-eq0 c = record { holds = λ e. absurd (false≢true e); fails = λ _ p. allows_no _ _ _ c.if-allowed-m-eq0.true p.may }
 
 pub returns-then-k-eq0 : goal.returns-then-k-eq0
-returns-then-k-eq0 c = record { holds = λ _. record { may = allows_yes _ _ _ c.if-allowed-m-eq0.false; suits = inl (omega arith) }; fails = λ e. absurd (true≢false e) }
+returns-then-k-eq0 c = record {
+  holds = λ _. record { may = allows_yes _ _ _ c.if-allowed-m-eq0.false; suits = inl (omega arith) };
+  fails = λ e. absurd
+      (true≢false e);
+}
 
 pub returns : goal.returns
 returns c =
