@@ -150,7 +150,7 @@ module _ (is_too_short : Bool) (u : ℕ) (user : T (is_user u)) where
       -- the rest of the calls, from anywhere
       Rest : Type 0
       Rest = (next : Stretch) (t : Option Holding) → Reckoned u next t → Reckoned u (stretch_after next (accepted_calls is_too_short t cs))
-      (following is_too_short t cs)
+          (following is_too_short t cs)
 
       by : Rest → (v : Verdict) → verdict is_too_short h (call_of c) ≡ v
           → let next = settled v (changed h (call_of c)) h in

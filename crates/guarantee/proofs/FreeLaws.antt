@@ -73,7 +73,7 @@ module _ (is_too_short : Bool) where
           let rest = accepted_calls is_too_short next cs in
           BringsNone (settled v (c ∷ rest) rest) → Free (following is_too_short next cs)
       by go accepted e k = go (changed h (call_of c)) (λ d C m. k d C (there m))
-      (free_changed c (accepted_calls is_too_short (changed h (call_of c)) cs) h k e F)
+          (free_changed c (accepted_calls is_too_short (changed h (call_of c)) cs) h k e F)
       by go (refused r) e k = go h k F
 
 free_start : (h : Option Holding) → ((H : Holding) → h ≡ some H → holds_duplicate H.contents.study ≡ false) → Free h
