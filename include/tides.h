@@ -25,7 +25,7 @@ extern "C" {
  *
  * The calls keep nothing from one to the next, allocate nothing, and touch the lists that they are lent and the stack alone. So different
  * datasets may be used in different threads at once. A call needs at most about 64 KB of stack (measured on x86-64: tides_read and
- * tides_mend 61 KB, tides_block and tides_tariff 28 KB, each other call less than 3 KB).
+ * tides_mend 59 KB, tides_block and tides_tariff 32 KB, each other call less than 3 KB).
  *
  * Each call answers 0, or the number of the first reason that holds, in the order given. For 7 it answers 7 + 256 i + 65,536 j,
  * where i < j is the first pair of earlier tides with which the tide that is entered, or read, breaks the three-tide rule. A refused call
