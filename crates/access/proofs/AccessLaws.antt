@@ -12,9 +12,8 @@ use Rattle.lists.specs.Lists.{all_of}
 use Rattle.lists.proofs.Tests.{T_true, T-left, true-T, between-T}
 use Rattle.lists.proofs.Scans.{test_passes, test_fails}
 use Rattle.study.specs.declared.Refusal.{Refusal}
-use Rattle.study.specs.declared.Answer.{Answer}
-use Rattle.study.specs.declared.Answer.TheVariants.{Done, Refused}
-use Rattle.study.specs.Refusals.{number, Numbered, Verdict, accepted, refused, verdict_of, settled, value, refusal, replied, Reason, first_of}
+use Rattle.std.specs.Prelude.{Result, Ok, Err}
+use Rattle.study.specs.Refusals.{numbered, number, Numbered, Verdict, accepted, refused, verdict_of, settled, value, refusal, replied, Reason, first_of}
 use Rattle.study.specs.Refusals.{fresh_reasons, is_user, held_reasons}
 use Rattle.study.specs.Study.{Contents}
 use Rattle.study.specs.Theorems.{ValidContents}
@@ -77,11 +76,9 @@ module _ (s : State) where
     accepted_held e = ladder_accepts (short s) by.users (is_dataset s) (own (holding_of s)) (ladder_is ∙ e)
 
   -- what refuses before the call's own reasons refuses the call
-  pub held_refused : (by : Caller) (own : Holding → List Reason) {a : Answer} {x : Refusal} → a ≡ Refused x → verdict_of a ≡ held_answer s by (λ _. [])
-      → verdict_of a ≡ held_answer s by own
-  held_refused by own e f =
-      let q = ap verdict_of e in
-      q ∙ sym (ladder_refuses (short s) by.users (is_dataset s) (own (holding_of s)) (ladder_is by (λ _. []) ∙ sym f ∙ q)) ∙ ladder_is by own
+  pub held_refused : (by : Caller) (own : Holding → List Reason) {x : Numbered} → refused x ≡ held_answer s by (λ _. []) → refused x ≡ held_answer s by own
+  held_refused by own e =
+      sym (ladder_refuses (short s) by.users (is_dataset s) (own (holding_of s)) (ladder_is by (λ _. []) ∙ sym e)) ∙ ladder_is by own
 
   -- past the ladder, the own reasons of one that names none answer
   pub held_own : (own : Holding → List Reason) → short s ≡ false → is_dataset s ≡ true → first_of (own (holding_of s)) ≡ held_answer s nobody own
@@ -90,7 +87,7 @@ module _ (s : State) where
   pub passed_by : short s ≡ false → is_dataset s ≡ true → Passed s
   passed_by e f = record { not_short = e; tested = f; study = ((is_dataset-T s).0 (true-T (is_dataset s) f)).study; long = long s e }
 
-  pub passed : {a : Answer} (by : Caller) → a ≡ Done → verdict_of a ≡ held_answer s by (λ _. []) → Passed s
+  pub passed : {a : Result Unit Refusal} {done : Unit} (by : Caller) → a ≡ Ok done → verdict_of a ≡ held_answer s by (λ _. []) → Passed s
   passed by e f = let h = accepted_held by (λ _. []) (sym (sym (ap verdict_of e) ∙ f)) in passed_by h.not_short h.tested
 
 -- so its contents are valid
@@ -132,7 +129,7 @@ module _ (s : State) (u : ℕ) where
       sym (ladder_is s nobody (λ _. [])) ∙ (let z : ladder s nobody (λ _. []) ≡ ladder s (the_user u) (λ _. []) = rw (e, test_passes p q) in z)
       ∙ ladder_is s (the_user u) (λ _. [])
 
-  pub known_user : {a : Answer} → a ≡ Done → verdict_of a ≡ held_answer s (the_user u) (λ _. []) → T (is_user u)
+  pub known_user : {a : Result Unit Refusal} {done : Unit} → a ≡ Ok done → verdict_of a ≡ held_answer s (the_user u) (λ _. []) → T (is_user u)
   known_user e f = user_known u (accepted_held s (the_user u) (λ _. []) (sym (sym (ap verdict_of e) ∙ f))).known
 
 -- ---- any call
@@ -150,9 +147,6 @@ module _ (s : State) (c : Call) where
   pub unmoved : {x : Numbered} → refused x ≡ answer s c → s ≡ after s c
   unfolding after
   unmoved e = ap (λ w. settled w (made s c) s) e
-
-  pub stays : {a : Answer} {x : Refusal} → a ≡ Refused x → verdict_of a ≡ answer s c → s ≡ after s c
-  stays e f = unmoved (sym (ap verdict_of e) ∙ f)
 
   -- and an accepted one what it makes of them
   pub leaves : accepted ≡ answer s c → made s c ≡ after s c
@@ -209,9 +203,10 @@ module _ (s : State) where
   inquiry_own Q P u = users_own s Q.caller Q.own P.not_short u P.tested ∙ sym (inquiry_answer Q)
 
   -- what refuses before a call's own reasons refuses the call
-  pub update_refused : (U : Update) {a : Answer} {x : Refusal} → a ≡ Refused x → verdict_of a ≡ held_answer s U.caller (λ _. [])
-      → (verdict_of a ≡ answer s (changes U)) × (s ≡ after s (changes U))
-  update_refused U e f = let g = held_refused s U.caller U.own e f ∙ sym (update_answer U) in (g, stays s (changes U) e g)
+  pub update_refused : (U : Update) {r : Result Unit Refusal} {x : Refusal} → r ≡ Err x → refused (numbered x) ≡ held_answer s U.caller (λ _. [])
+      → (verdict_of r ≡ answer s (changes U)) × (s ≡ after s (changes U))
+  update_refused U e f =
+      let g = held_refused s U.caller U.own f ∙ sym (update_answer U) in (ap verdict_of e ∙ g, unmoved s (changes U) g)
 
   pub update_accepted : (U : Update) → answer s (changes U) ≡ accepted → HeldAccepted s U.caller U.own
   update_accepted U e = accepted_held s U.caller U.own (sym (update_answer U) ∙ e)

@@ -9,12 +9,12 @@ use lib.Dec.{leb, eqb}
 use lib.ListN.{length, get_or}
 use lib.Pow.{field, low, shl-shr, shr-shr}
 use borrow.Author.Tests.{leb-true, leb-false, not-true, not-false}
+use Rattle.std.specs.Prelude.{Some, None}
 use Rattle.file_format.specs.Bits.{binary, bit_at, bits_at}
 use Rattle.file_format.specs.Theorems.{Bytes}
 use Rattle.file_format.proofs.BitLaws.{bits_at_small, binary_split, byte_at, window}
 use Rattle.bit_reader.specs.declared.Place.{Place}
-use Rattle.bit_reader.specs.declared.FieldValue.TheVariants as FieldValueCase
-use Rattle.bit_reader.specs.Fields.{BitsRead, Askable, FieldGot, FieldRead, AskableTwo}
+use Rattle.bit_reader.specs.Fields.{BitsRead, word_at, FieldGot, FieldRead}
 
 -- ---- reading
 
@@ -28,21 +28,13 @@ cut x b w h =
     ∙ ap (λ y. y % 2 ^ w) (ap (λ k. x * 2 ^ b / 2 ^ k) back ∙ sym (shr-shr (x * 2 ^ b) b (32 - b - w)) ∙ ap (λ y. y / 2 ^ (32 - b - w)) (shl-shr x b))
 
 module _ (s : List ℕ) {n : ℕ} (p : Place) (h : BitsRead p n) where
-  -- the number in the field, of the bytes from the place's on
-  pub field_value : (w : ℕ) → w ≤ 20 → Bytes s → (a b c d : ℕ)
-      → a ≡ get_or s p.byte 0 → b ≡ get_or s (p.byte + 1) 0 → c ≡ get_or s (p.byte + 2) 0 → d ≡ get_or s (p.byte + 3) 0
-      → (a * 16777216 + b * 65536 + (c * 256 + d)) * 2 ^ p.bit % 4294967296 / 2 ^ (32 - w) ≡ bits_at s n w
-  field_value w narrow bytes a b c d e f g k =
-      cut (a * 16777216 + b * 65536 + (c * 256 + d)) p.bit w (omega (arith, h.below))
-      ∙ ap₂ (λ x y. x / 2 ^ (32 - y - w) % 2 ^ w) (four ∙ ap word byte_is) bit_is
+  -- the number in the field, cut out of the four bytes from the place's on
+  pub field_value : (w : ℕ) → w ≤ 20 → Bytes s → {x : ℕ} → x ≡ word_at s p.byte → x * 2 ^ p.bit % 4294967296 / 2 ^ (32 - w) ≡ bits_at s n w
+  field_value w narrow bytes {x} e =
+      cut x p.bit w (omega (arith, h.below))
+      ∙ ap₂ (λ y z. y / 2 ^ (32 - z - w) % 2 ^ w) (e ∙ ap (word_at s) byte_is) bit_is
       ∙ sym (window s bytes n w (omega (arith, narrow)))
     where
-      word : ℕ → ℕ
-      word i = get_or s i 0 * 16777216 + get_or s (i + 1) 0 * 65536 + get_or s (i + 2) 0 * 256 + get_or s (i + 3) 0
-
-      four : a * 16777216 + b * 65536 + (c * 256 + d) ≡ word p.byte
-      four = omega arith
-
       byte_is : p.byte ≡ n / 8
       byte_is = omega (arith, h.below, h.count)
 
@@ -88,37 +80,29 @@ module _ (s : List ℕ) (m : ℕ) {r : Bool} (e : r ≡ leb m (8 * length s)) wh
   pub outside : not r ≡ true → 8 * length s < m
   outside q = leb-false m (8 * length s) (sym e ∙ not-true r q)
 
--- ---- what can be asked for
-
--- after the first of two fields, the second
-pub then_askable : {p q : Place} {v w : ℕ} (two : AskableTwo p v w) → BitsRead q (two.first.read + v) → Askable q w
-then_askable two here = record { read = _; here = here; low = two.low; wide = two.wide; narrow = two.narrow }
-
 -- ---- what was read
 
 -- the same number of bits, written otherwise
 pub bits_same : {p : Place} {m n : ℕ} → BitsRead p m → m ≡ n → BitsRead p n
 bits_same r e = record { below = r.below; count = r.count ∙ e }
 
-module _ {s : List ℕ} {n w v : ℕ} {next : Place} where
-  pub field_small : FieldGot s n w v next → v < 2 ^ w
+module _ {s : List ℕ} {n w v : ℕ} where
+  pub field_small : FieldGot s n w v → v < 2 ^ w
   field_small g = subst (λ x. x < 2 ^ w) (sym g.is) (bits_at_small s n w)
 
   -- the answer is the field
-  pub field_read : FieldGot s n w v next → FieldRead s n w (FieldValueCase.Value v next)
+  pub field_read : FieldGot s n w v → FieldRead s n w (Some v)
   field_read g = record { got = λ e. same e; ends = λ e. absurd (never e) }
     where
-      same : {x : ℕ} {p : Place} → FieldValueCase.Value v next ≡ FieldValueCase.Value x p → FieldGot s n w x p
-      same {x} {p} e =
-          let i : v ≡ x = cc in
-          let j : next ≡ p = cc in subst (λ y. FieldGot s n w y p) i (subst (FieldGot s n w v) j g)
+      same : {x : ℕ} → Some v ≡ Some x → FieldGot s n w x
+      same {x} e = let i : v ≡ x = cc in subst (FieldGot s n w) i g
 
-      never : FieldValueCase.Value v next ≡ FieldValueCase.End → ⊥
+      never : Some v ≡ None → ⊥
       never e = let z : ◌≡◌ {A = ℕ} 0 1 = cc in omega arith
 
--- the answer is the end
-pub end_read : (s : List ℕ) (n w : ℕ) → 8 * length s < n + w → FieldRead s n w FieldValueCase.End
-end_read s n w h = record { got = λ e. absurd (never e); ends = λ _. h }
+-- there is none
+pub none_read : (s : List ℕ) (n w : ℕ) → 8 * length s < n + w → FieldRead s n w None
+none_read s n w h = record { got = λ e. absurd (never e); ends = λ _. h }
   where
-    never : {x : ℕ} {p : Place} → FieldValueCase.End ≡ FieldValueCase.Value x p → ⊥
+    never : {x : ℕ} → None ≡ Some x → ⊥
     never e = let z : ◌≡◌ {A = ℕ} 0 1 = cc in omega arith

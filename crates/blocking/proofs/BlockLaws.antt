@@ -1,5 +1,5 @@
 -- The ways out of Block's core: of what the code has found out, what the call answers and leaves. Assumes nothing.
-use Rattle.std.specs.Prelude.{◌≡◌, ℕ, suc, ◌+◌, ◌<◌, ◌≤◌, Bool, true, false, ◌&&◌, T, leb, List, [], ◌∷◌, ◌++◌, length, get_or, drop}
+use Rattle.std.specs.Prelude.{◌≡◌, ℕ, suc, ◌+◌, ◌<◌, ◌≤◌, Bool, true, false, ◌&&◌, T, leb, List, [], ◌∷◌, ◌++◌, length, get_or, drop, Result, Ok, Err}
 use native.Mathlib.Omega.{arith}
 use native.Mathlib.Numerals.{add-one}
 use mathlib.Core.Path.{refl, sym, ap, ap₂, ◌∙◌, subst}
@@ -7,22 +7,20 @@ use lib.Dec.{leb→le}
 use borrow.Author.Tests.{le-leb, lt-leb}
 use Rattle.lists.specs.Lists.{count_below, overwrite}
 use Rattle.lists.proofs.Tests.{not_not, T-left, T-right}
-use Rattle.lists.proofs.Tables.{overwrite_none, overwrite_ext, getD_overwrite}
+use Rattle.lists.proofs.Tables.{overwrite_ext, getD_overwrite}
 use Rattle.study.specs.Limits.{cell, max_distance}
 use Rattle.study.specs.declared.Minima.{Minima}
+use Rattle.study.specs.declared.Figures.{Figures}
 use Rattle.study.specs.declared.Refusal.{Refusal}
 use Rattle.study.specs.declared.BlockRecord.{BlockRecord}
-use Rattle.study.specs.declared.Answer.{Answer}
-use Rattle.study.specs.declared.Answer.TheVariants.{Done, Refused}
 use Rattle.study.specs.Problem.{Problem, centres, block, labels, radius, blocking, diameter, greatest_diameter}
 use Rattle.study.specs.Study.{Study, size, sufficient, problem}
-use Rattle.study.specs.Refusals.{number, numbered, Verdict, accepted, refused, verdict_of, value, refusal, first_of}
-use Rattle.study.specs.Calls.{block_reasons, Figures, figures, block_record}
+use Rattle.study.specs.Refusals.{Numbered, number, numbered, Verdict, accepted, refused, verdict_of, value, first_of}
+use Rattle.study.specs.Calls.{block_reasons, figures, block_record}
 use Rattle.study.proofs.CallLaws.{none_holds}
 use Rattle.study.proofs.Proofs.{for_problem, for_study}
 use Rattle.promise.specs.Promise.{meeting, Able}
 use Rattle.radius_theory.specs.Arrays.{array_problem, ball, SizedArrays, ValidArrays}
-use Rattle.radius_search.specs.Inputs.{input_problem}
 use Rattle.blocking_core.specs.Core.{Blocks}
 use Rattle.validity.specs.Memory.{State, study_of, contents_of}
 use Rattle.validity.proofs.ValidityLaws.{study_size, valid_study}
@@ -30,9 +28,10 @@ use Rattle.access.specs.Calls.{nobody, Output, first_list, lent, answer, reply, 
 use Rattle.access.specs.Passed.{Passed}
 use Rattle.access.proofs.AccessLaws.{held_own, accepted_held, inquiry_answer, passed_by, replies_refusal, unwritten, replies, writes}
 use Rattle.blocking.specs.declared.block.BlockRows.{BlockRows}
+use Rattle.blocking.specs.declared.block.Computed.{Computed}
 use Rattle.blocking.specs.Calls.{makes_blocks}
 use Rattle.blocking.proofs.ProblemOfArrays.{problem_of_arrays, sized_arrays, valid_arrays, meets_same}
-use Rattle.blocking.specs.Rows.{row_record, Lending, RowsOf}
+use Rattle.blocking.specs.Rows.{row_record, Lending, RowsOf, Leaves, rows_of, core_reply}
 use Rattle.blocking.proofs.TidesLaws.{past_24, tide_there}
 use Rattle.blocking.specs.Accepted.{TidesChecked, block_answer, BlockAccepted}
 
@@ -56,7 +55,7 @@ module _ (s : State) (list room : ℕ) where
   abbrev whole : Bool
   whole = meeting M n s.settings (ball s.distances 0 max_distance)
 
-  module _ {first : Answer} (F : TidesChecked s first) (done : first ≡ Done) where
+  module _ {first : Result Unit Refusal} {u : Unit} (F : TidesChecked s first) (done : first ≡ Ok u) where
     block_own : (v : Verdict) → first_of (block_reasons S list room) ≡ v → v ≡ block_answer s list room
     unfolding block_answer contents_of
     block_own v q = sym q ∙ held_own s (λ H. block_reasons H.contents.study list room) (F.passed done).not_short (F.passed done).tested
@@ -101,7 +100,7 @@ module _ (s : State) (list room : ℕ) where
               le-leb (size S) room (omega (arith, study_size s)),
             ))
 
-  pub block_accepted : {a : Answer} → a ≡ Done → verdict_of a ≡ block_answer s list room → BlockAccepted s list room
+  pub block_accepted : {a : Result Unit Refusal} {u : Unit} → a ≡ Ok u → verdict_of a ≡ block_answer s list room → BlockAccepted s list room
   unfolding block_answer contents_of block_reasons
   block_accepted e f =
       let q : accepted ≡ block_answer s list room = sym (ap verdict_of e) ∙ f in
@@ -180,28 +179,26 @@ module _ (s : State) (list : List ℕ) (room : ℕ) where
   abbrev of_study : Study
   of_study = study_of s
 
-  -- a refused call has no rows, and leaves the list
-  module _ {a : Answer} {x : Refusal} (e : a ≡ Refused x) (f : verdict_of a ≡ block_answer s (length list) room) where
-    refusing : (records : List BlockRecord) → length records ≡ room → refused (numbered x) ≡ answer s (makes_blocks list records)
-    refusing records k = sym (ap verdict_of e) ∙ f ∙ made_answer s list records k
+  -- a refused call answers its refusal, and leaves the records and the list
+  refusing : {x : Numbered} → refused x ≡ block_answer s (length list) room → (records : List BlockRecord) → length records ≡ room
+      → refused x ≡ answer s (makes_blocks list records)
+  refusing f records k = f ∙ made_answer s list records k
 
-    pub block_refusal : Lending room (λ records. refusal (numbered x) ≡ reply s (makes_blocks list records))
-    block_refusal records k = replies_refusal s (makes_blocks list records) (refusing records k)
+  pub block_refusal : {r : Result Computed Refusal} {x : Refusal} → r ≡ Err x → refused (numbered x) ≡ block_answer s (length list) room
+      → Lending room (λ records. core_reply r ≡ reply s (makes_blocks list records))
+  block_refusal e f records k = ap core_reply e ∙ replies_refusal s (makes_blocks list records) (refusing f records k)
 
-    pub no_rows : (rows : BlockRows) → rows.count ≡ 0 → RowsOf s (makes_blocks list) room rows
-    unfolding makes_blocks lent
-    no_rows rows z =
-        record {
-          fits = omega arith;
-          few = omega arith;
-          records = λ l k.
-              ap (λ c. overwrite c (row_record rows) l) z ∙ sym (overwrite_none (row_record rows) l)
-              ∙ ap (λ (o : Output). o.records) (unwritten s (makes_blocks list l) (refusing l k));
-        }
+  pub records_stay : {r : Result Computed Refusal} {x : Refusal} → r ≡ Err x → refused (numbered x) ≡ block_answer s (length list) room
+      → Leaves s (makes_blocks list) room rows_of r
+  unfolding makes_blocks lent
+  records_stay e f =
+      subst (Leaves s (makes_blocks list) room rows_of) (sym e)
+      (λ l k. ap (λ (o : Output). o.records) (unwritten s (makes_blocks list l) (refusing f l k)))
 
-    pub block_list_stays : Lending room (λ records. list ≡ list_after s (makes_blocks list records))
-    unfolding makes_blocks lent
-    block_list_stays records k = ap (λ (o : Output). first_list o.lists) (unwritten s (makes_blocks list records) (refusing records k))
+  pub block_list_stays : {x : Numbered} → refused x ≡ block_answer s (length list) room
+      → Lending room (λ records. list ≡ list_after s (makes_blocks list records))
+  unfolding makes_blocks lent
+  block_list_stays f records k = ap (λ (o : Output). first_list o.lists) (unwritten s (makes_blocks list records) (refusing f records k))
 
   -- an accepted one hands back the study's blocks
   module _ (A : BlockAccepted s (length list) room) where
@@ -230,7 +227,7 @@ module _ (s : State) (list : List ℕ) (room : ℕ) where
             }
 
     pub block_list : {new : List ℕ}
-        → new ≡ blocking (input_problem s.distances s.settings s.dataset.n s.dataset.minima) ++ drop s.dataset.n list
+        → new ≡ blocking (array_problem s.distances s.dataset.n (meeting s.dataset.minima s.dataset.n s.settings)) ++ drop s.dataset.n list
         → Lending room (λ records. new ≡ list_after s (makes_blocks list records))
     unfolding makes_blocks contents_of
     block_list {new} e records k =

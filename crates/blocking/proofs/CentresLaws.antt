@@ -1,5 +1,5 @@
 -- The ways out of Centres: of what the code has found out, what the call answers and leaves. Assumes nothing.
-use Rattle.std.specs.Prelude.{◌≡◌, ℕ, suc, ◌+◌, ◌<◌, ◌≤◌, Bool, false, leb, ◌⊎◌, List, [], ◌∷◌, ◌++◌, map, length, get_or, take, drop}
+use Rattle.std.specs.Prelude.{◌≡◌, ℕ, suc, ◌+◌, ◌<◌, ◌≤◌, Bool, false, leb, ◌⊎◌, List, [], ◌∷◌, ◌++◌, map, length, get_or, take, drop, Result, Ok, Err}
 use native.Mathlib.Omega.{arith}
 use native.Mathlib.Numerals.{add-one}
 use mathlib.Core.Path.{refl, sym, ap, ap₂, ◌∙◌, subst}
@@ -13,13 +13,12 @@ use Rattle.lists.proofs.Tests.{not_not, each_at}
 use Rattle.lists.proofs.Scans.{each_fails}
 use Rattle.lists.proofs.Tables.{length_tabulate, tabulate_is}
 use Rattle.study.specs.declared.Refusal.{Refusal}
-use Rattle.study.specs.declared.Answer.{Answer}
-use Rattle.study.specs.declared.Answer.TheVariants.{Done, Refused}
 use Rattle.study.specs.Problem.{Problem, centres_among, centres, nearest_distance, nearest_block}
 use Rattle.study.specs.Study.{Study, size, distance, problem}
-use Rattle.study.specs.Refusals.{number, numbered, Verdict, accepted, refused, verdict_of, settled, first_of}
+use Rattle.study.specs.Refusals.{number, numbered, Verdict, accepted, refused, verdict_of, settled, value, first_of}
+use Rattle.study.specs.Numbers.{number_of, refusal_number}
 use Rattle.study.specs.Calls.{CentreLists, all_roomy, centres_reasons, centre_numbers, nearest_numbers, nearest_distances, centres_written}
-use Rattle.study.proofs.CallLaws.{none_holds}
+use Rattle.study.proofs.CallLaws.{none_holds, reply_refused, reply_value}
 use Rattle.study.proofs.StudyLaws.{study_lawful}
 use Rattle.study.proofs.NearestLaws.{some_centre}
 use Rattle.radius_theory.specs.Arrays.{within, array_problem}
@@ -28,9 +27,9 @@ use Rattle.radius_search.specs.Front.{CentresAt}
 use Rattle.radius_search.proofs.FrontLaws.{front_at}
 use Rattle.validity.specs.Memory.{State, study_of, contents_of}
 use Rattle.validity.proofs.ValidityLaws.{study_size, valid_study}
-use Rattle.access.specs.Calls.{Output, first_list, lent, answer, lists_after, list_after}
-use Rattle.access.proofs.AccessLaws.{passed_by, unwritten, inquiry_own, inquiry_accepted, inquiry_passed, writes}
-use Rattle.blocking.specs.Calls.{centre_lists, all_three, finds_centres, centres_front}
+use Rattle.access.specs.Calls.{Output, first_list, lent, answer, reply, lists_after, list_after}
+use Rattle.access.proofs.AccessLaws.{passed_by, replies_refusal, unwritten, inquiry_own, inquiry_accepted, inquiry_passed, reply_tells, replies, writes}
+use Rattle.blocking.specs.Calls.{centre_lists, all_three, finds_centres, counted_reply, centres_front}
 use Rattle.blocking.proofs.ProblemOfArrays.{problem_of_arrays}
 use Rattle.blocking.proofs.TidesLaws.{past_24, tide_there}
 use Rattle.blocking.specs.Accepted.{TidesChecked, CentresAccepted}
@@ -50,7 +49,7 @@ module _ (s : State) (l : CentreLists) where
   abbrev roomy : List Bool
   roomy = leb (size S) (length l.list) ∷ leb (size S) (length l.nearest) ∷ leb (size S) (length l.away) ∷ []
 
-  module _ {first : Answer} (F : TidesChecked s first) (done : first ≡ Done) where
+  module _ {first : Result Unit Refusal} {u : Unit} (F : TidesChecked s first) (done : first ≡ Ok u) where
     centres_own : (v : Verdict) → first_of (centres_reasons S l) ≡ v → (g : ℕ) → v ≡ answer s (finds_centres g l)
     unfolding finds_centres contents_of
     centres_own v q g = sym q ∙ inquiry_own s _ (F.passed done) refl
@@ -76,7 +75,7 @@ module _ (s : State) (l : CentreLists) where
           le-leb (size S) (length l.away) (omega (arith, study_size s)),
         ))
 
-  pub centres_accepted : {a : Answer} → a ≡ Done → ((g : ℕ) → verdict_of a ≡ answer s (finds_centres g l)) → CentresAccepted s l
+  pub centres_accepted : {a : Result Unit Refusal} {u : Unit} → a ≡ Ok u → ((g : ℕ) → verdict_of a ≡ answer s (finds_centres g l)) → CentresAccepted s l
   unfolding finds_centres contents_of centres_reasons
   centres_accepted e f =
       let q : (g : ℕ) → accepted ≡ answer s (finds_centres g l) = λ g. sym (ap verdict_of e) ∙ f g in
@@ -101,13 +100,34 @@ module _ (s : State) (l : CentreLists) where
     abbrev numbers : List ℕ
     numbers = centre_numbers S g
 
-    -- a refused call hands back nothing and leaves the lists
-    pub centres_refused : {a : Answer} {x : Refusal} → a ≡ Refused x → verdict_of a ≡ answer s (finds_centres g l)
-        → (0 ≡ length (centres_front s g l)) × (all_three l ≡ lists_after s (finds_centres g l))
-    unfolding centres_front finds_centres lent
-    centres_refused {a} {x} e f =
-        let q : refused (numbered x) ≡ answer s (finds_centres g l) = sym (ap verdict_of e) ∙ f in
-        (ap (λ v. length (settled v numbers [])) q, ap (λ (o : Output). o.lists) (unwritten s (finds_centres g l) q))
+    -- a refused call answers its refusal and leaves the lists
+    pub centres_refused : {r : Result ℕ Refusal} {x : Refusal} → r ≡ Err x → refused (numbered x) ≡ answer s (finds_centres g l)
+        → (counted_reply r ≡ reply s (finds_centres g l)) × (all_three l ≡ lists_after s (finds_centres g l))
+    unfolding finds_centres lent
+    centres_refused e f =
+        (ap counted_reply e ∙ replies_refusal s (finds_centres g l) f, ap (λ (o : Output). o.lists) (unwritten s (finds_centres g l) f))
+
+    -- how much of the list is filled, and the number of the answer
+    abbrev pub Filled : ℕ × ℕ → Type 0
+    Filled p = (p.0 ≡ length (centres_front s g l)) × (p.1 ≡ refusal_number (answer s (finds_centres g l)))
+
+    -- the answer tells both
+    module _ {r : Result ℕ Refusal} (told : counted_reply r ≡ reply s (finds_centres g l)) {p : ℕ × ℕ} where
+      pub filled_some : {count : ℕ} → r ≡ Ok count → p ≡ (count, 0) → Filled p
+      unfolding centres_front finds_centres contents_of
+      filled_some {count} e f =
+          let q = reply_value (answer s (finds_centres g l)) (length numbers ∷ []) (sym (ap counted_reply e) ∙ told ∙ reply_tells s _) in (
+            ap (λ (z : ℕ × ℕ). z.0) f ∙ ap (λ ns. get_or ns 0 0) q.1 ∙ ap (λ v. length (settled v numbers [])) (sym q.0),
+            ap (λ (z : ℕ × ℕ). z.1) f ∙ ap refusal_number (sym q.0),
+          )
+
+      pub filled_none : {x : Refusal} → r ≡ Err x → {n : ℕ} → n ≡ number_of (numbered x) → p ≡ (0, n) → Filled p
+      unfolding centres_front finds_centres contents_of
+      filled_none {x} e k f =
+          let q = reply_refused (answer s (finds_centres g l)) (length numbers ∷ []) (sym (ap counted_reply e) ∙ told ∙ reply_tells s _) in (
+            ap (λ (z : ℕ × ℕ). z.0) f ∙ ap (λ v. length (settled v numbers [])) (sym q),
+            ap (λ (z : ℕ × ℕ). z.1) f ∙ k ∙ ap refusal_number (sym q),
+          )
 
     -- the front of the list that is left
     front_of : (v : Verdict) → answer s (finds_centres g l) ≡ v
@@ -128,6 +148,12 @@ module _ (s : State) (l : CentreLists) where
         part = ap₂ (λ (c : ℕ) (ls : List (List ℕ)). take c (first_list ls)) e f ∙ front_of (answer s (finds_centres g l)) refl
 
     module _ (A : CentresAccepted s l) where
+      -- an accepted call answers the number of centres
+      pub centres_reply : {count : ℕ} → count ≡ length (centres_front s g l) → value (count ∷ []) ≡ reply s (finds_centres g l)
+      unfolding centres_front finds_centres contents_of
+      centres_reply e =
+          ap (λ n. value (n ∷ [])) (e ∙ ap (λ v. length (settled v numbers [])) (sym (A.answer g))) ∙ replies s _ A.passed (A.answer g)
+
       abbrev found : List ℕ
       found = centres_among (within s.distances n) g n
 

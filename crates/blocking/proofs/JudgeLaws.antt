@@ -1,6 +1,5 @@
 -- The ways out of Judge: of what the code has found out, what the call answers. Assumes nothing.
-use Rattle.std.specs.Prelude.{◌≡◌, ℕ, Bool, true, false, cond, ◌&&◌, eqb, List, length, get_or}
-use native.Mathlib.Omega.{arith}
+use Rattle.std.specs.Prelude.{◌≡◌, ℕ, Bool, true, false, cond, ◌&&◌, eqb, List, length, Option, Result, Ok, Err}
 use mathlib.Core.Path.{refl, sym, ap, ap₂, ◌∙◌}
 use lib.Dec.{eqb→eq}
 use borrow.Author.Tests.{eq-eqb, ne_eqb}
@@ -8,11 +7,9 @@ use Rattle.lists.specs.Lists.{between, every}
 use Rattle.lists.proofs.Tests.{not_not}
 use Rattle.study.specs.declared.Minima.{Minima}
 use Rattle.study.specs.declared.Refusal.{Refusal}
-use Rattle.study.specs.declared.Answer.{Answer}
-use Rattle.study.specs.declared.Answer.TheVariants.{Done, Refused}
 use Rattle.study.specs.Problem.{Problem, block, labels, greatest_diameter, feasible}
-use Rattle.study.specs.Study.{Study, size, meets, problem}
-use Rattle.study.specs.Refusals.{number, numbered, Verdict, accepted, refused, verdict_of, value, refusal, first_of}
+use Rattle.study.specs.Study.{Study, size, problem}
+use Rattle.study.specs.Refusals.{number, numbered, Verdict, accepted, refused, verdict_of, value, first_of}
 use Rattle.study.specs.Calls.{judge_reasons, approved, approval, disapproval, judgement}
 use Rattle.study.proofs.CallLaws.{none_holds}
 use Rattle.promise.specs.Promise.{meeting}
@@ -22,12 +19,12 @@ use Rattle.validity.proofs.ValidityLaws.{study_size}
 use Rattle.access.specs.Calls.{answer, reply}
 use Rattle.access.specs.Passed.{Passed}
 use Rattle.access.proofs.AccessLaws.{passed_by, replies_refusal, inquiry_own, inquiry_accepted, replies}
-use Rattle.blocking.specs.Calls.{judgement_numbers, judges_list}
-use Rattle.blocking.proofs.ProblemOfArrays.{problem_of_arrays, sized_arrays}
+use Rattle.blocking.specs.Calls.{judgement_numbers, judges_list, judged_reply}
+use Rattle.blocking.proofs.ProblemOfArrays.{problem_of_arrays}
 use Rattle.blocking_core.specs.Measured.{widest_of}
 use Rattle.blocking_core.proofs.MeasuredLaws.{widest_diameter}
 use Rattle.blocking.proofs.TidesLaws.{past_24}
-use Rattle.blocking.specs.Accepted.{TidesChecked, JudgedArrays}
+use Rattle.blocking.specs.Accepted.{TidesChecked}
 
 module _ (s : State) (list : List ℕ) where
   abbrev n : ℕ
@@ -36,7 +33,7 @@ module _ (s : State) (list : List ℕ) where
   abbrev S : Study
   S = study_of s
 
-  module _ {first : Answer} (F : TidesChecked s first) (done : first ≡ Done) where
+  module _ {first : Result Unit Refusal} {u : Unit} (F : TidesChecked s first) (done : first ≡ Ok u) where
     judge_own : (v : Verdict) → first_of (judge_reasons S list) ≡ v → v ≡ answer s (judges_list list)
     unfolding judges_list contents_of
     judge_own v q = sym q ∙ inquiry_own s _ (F.passed done) refl
@@ -55,7 +52,7 @@ module _ (s : State) (list : List ℕ) where
     pub long : length list ≡ n
     pub answer : accepted ≡ answer s (judges_list list)
 
-  pub judge_accepted : {a : Answer} → a ≡ Done → verdict_of a ≡ answer s (judges_list list) → JudgeAccepted
+  pub judge_accepted : {a : Result Unit Refusal} {u : Unit} → a ≡ Ok u → verdict_of a ≡ answer s (judges_list list) → JudgeAccepted
   unfolding judges_list contents_of judge_reasons
   judge_accepted e f =
       let q : accepted ≡ answer s (judges_list list) = sym (ap verdict_of e) ∙ f in
@@ -67,30 +64,20 @@ module _ (s : State) (list : List ℕ) where
         answer = q;
       }
 
-  pub judge_refused : {a : Answer} {x : Refusal} → a ≡ Refused x → verdict_of a ≡ answer s (judges_list list) → refusal (numbered x) ≡ reply s
-      (judges_list list)
-  judge_refused {a} {x} e f = replies_refusal s (judges_list list) (sym (ap verdict_of e) ∙ f)
+  pub judge_refused : {r : Result (Option ℕ) Refusal} {x : Refusal} → r ≡ Err x → refused (numbered x) ≡ answer s (judges_list list)
+      → judged_reply r ≡ reply s (judges_list list)
+  judge_refused e f = ap judged_reply e ∙ replies_refusal s (judges_list list) f
 
   module _ (A : JudgeAccepted) where
     abbrev M : Minima
     M = s.dataset.minima
-
-    pub judged_arrays : JudgedArrays s.settings n list
-    judged_arrays =
-        let z = sized_arrays s A.passed.study A.passed.long in
-        record {
-          few = z.few;
-          settings_long = z.able.settings_long;
-          setting_high = z.able.setting_high;
-          list_long = omega (arith, A.long);
-        }
 
     -- the two tests that the code makes
     abbrev numbers : Bool
     numbers = every n (λ t. between 1 255 (labels list t))
 
     abbrev sufficient : Bool
-    sufficient = every n (λ u. meets M n (λ t. get_or s.settings t 0) (block (labels list) (labels list u)))
+    sufficient = every n (λ u. meeting M n s.settings (block (labels list) (labels list u)))
 
     approved_is : approved S list ≡ numbers && sufficient
     unfolding approved feasible array_problem meeting

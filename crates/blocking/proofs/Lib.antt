@@ -4,3 +4,4 @@ pub mod BlockLaws
 pub mod RowLaws
 pub mod JudgeLaws
 pub mod TidesLaws
+pub mod ScanLaws

@@ -1,9 +1,6 @@
 -- What an accepted call tells; the function that computes or writes requires it. Assumes nothing.
-use Rattle.std.specs.Prelude.{◌≡◌, ℕ, ◌<◌, ◌≤◌, true, T, List, ◌∷◌, length, nat_eq, slice_index}
-use Rattle.study.specs.Limits.{max_tides, max_settings}
+use Rattle.std.specs.Prelude.{◌≡◌, ℕ, ◌<◌, ◌≤◌, true, T, List, ◌∷◌, length, nat_eq, Result, Ok, Err}
 use Rattle.study.specs.declared.Refusal.{Refusal}
-use Rattle.study.specs.declared.Answer.{Answer}
-use Rattle.study.specs.declared.Answer.TheVariants.{Done, Refused}
 use Rattle.study.specs.Study.{Study, size, sufficient}
 use Rattle.study.specs.Refusals.{Reason, ◌⇒◌, number, Verdict, accepted, verdict_of}
 use Rattle.study.specs.Calls.{CentreLists, block_reasons}
@@ -16,13 +13,13 @@ use Rattle.blocking.specs.Calls.{finds_centres}
 abbrev pub no_tides : Study → Reason
 no_tides S = nat_eq (size S) 0 ⇒ number 24
 
--- what `check_tides` answers: a refusal is that of every call whose own reasons begin with no_tides; Done tells that there is a dataset
+-- what `check_tides` answers: a refusal is that of every call whose own reasons begin with no_tides; Ok tells that there is a dataset
 -- with a tide in it
-pub record TidesChecked (s : State) (r : Answer) : Type 0 where
-  pub refuses : (x : Refusal) → r ≡ Refused x → (own : Holding → List Reason)
+pub record TidesChecked (s : State) (r : Result Unit Refusal) : Type 0 where
+  pub refuses : (x : Refusal) → r ≡ Err x → (own : Holding → List Reason)
       → verdict_of r ≡ held_answer s nobody (λ H. no_tides H.contents.study ∷ own H)
-  pub passed : r ≡ Done → Passed s
-  pub some_tide : r ≡ Done → 1 ≤ s.dataset.n
+  pub passed : {u : Unit} → r ≡ Ok u → Passed s
+  pub some_tide : {u : Unit} → r ≡ Ok u → 1 ≤ s.dataset.n
 
 -- the answer of Block, lent a list and records of these lengths
 unfoldable pub block_answer : State → ℕ → ℕ → Verdict
@@ -45,10 +42,3 @@ pub record CentresAccepted (s : State) (l : CentreLists) : Type 0 where
   pub nearest_room : s.dataset.n ≤ length l.nearest
   pub away_room : s.dataset.n ≤ length l.away
   pub answer : (g : ℕ) → accepted ≡ answer s (finds_centres g l)
-
--- settings and block numbers of n tides, long enough and each setting 1 to 8
-pub record JudgedArrays (s : List ℕ) (n : ℕ) (list : List ℕ) : Type 0 where
-  pub few : n ≤ max_tides
-  pub settings_long : n ≤ length s
-  pub setting_high : (t : ℕ) → t < n → slice_index s t ≤ max_settings
-  pub list_long : n ≤ length list

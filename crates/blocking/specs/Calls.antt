@@ -1,13 +1,13 @@
 -- Centres, Block and Judge, each as one value; what it answers and leaves is said of every call in access. Assumes nothing.
-use Rattle.std.specs.Prelude.{ℕ, List, [], ◌∷◌, length}
+use Rattle.std.specs.Prelude.{ℕ, List, [], ◌∷◌, length, Option, Result, Ok, Err}
 use Rattle.lists.specs.Lists.{overwrite, over}
 use Rattle.study.specs.declared.BlockRecord.{BlockRecord}
-use Rattle.study.specs.declared.Blocked.{Blocked}
-use Rattle.study.specs.declared.Judged.{Judged}
+use Rattle.study.specs.declared.Figures.{Figures}
+use Rattle.study.specs.declared.Refusal.{Refusal}
 use Rattle.study.specs.Problem.{blocking}
 use Rattle.study.specs.Study.{Study, problem}
-use Rattle.study.specs.Refusals.{settled, Reply, in_numbers}
-use Rattle.study.specs.Calls.{CentreLists, centres_reasons, centre_numbers, centres_written, block_reasons, Figures, figures, block_record, blocked_of}
+use Rattle.study.specs.Refusals.{numbered, settled, Reply, value, refusal, in_numbers}
+use Rattle.study.specs.Calls.{CentreLists, centres_reasons, centre_numbers, centres_written, block_reasons, figures, block_record, blocked_of}
 use Rattle.study.specs.Calls.{judge_reasons, Judgement, approval, disapproval, judgement, judged_of}
 use Rattle.validity.specs.Memory.{State, study_of}
 use Rattle.access.specs.Calls.{nobody, no_output, Inquiry, Call, asks, answer}
@@ -35,6 +35,11 @@ finds_centres g l =
         records = [];
       };
     })
+
+-- the number of the code's answer, by document 01's number and values
+abbrev pub counted_reply : Result ℕ Refusal → Reply (List ℕ)
+counted_reply (Ok count) = value (count ∷ [])
+counted_reply (Err r) = refusal (numbered r)
 
 -- the filled front of the list of centres, empty on a refusal
 unfoldable pub centres_front : State → ℕ → CentreLists → List ℕ
@@ -66,7 +71,7 @@ unfoldable pub makes_blocks : List ℕ → List BlockRecord → Call
 makes_blocks list records = asks (block_inquiry (λ S. figure_numbers (figures S)) list records)
 
 -- the numbers of the code's answer, by document 01's number and values (study/Calls)
-abbrev pub blocked_reply : Blocked → Reply (List ℕ)
+abbrev pub blocked_reply : Result Figures Refusal → Reply (List ℕ)
 blocked_reply r = in_numbers figure_numbers (blocked_of r)
 
 -- ---- Judge, given a list
@@ -87,5 +92,5 @@ judges_list list =
     })
 
 -- the numbers of the code's answer, by document 01's number and values (study/Calls)
-abbrev pub judged_reply : Judged → Reply (List ℕ)
+abbrev pub judged_reply : Result (Option ℕ) Refusal → Reply (List ℕ)
 judged_reply r = in_numbers judgement_numbers (judged_of r)

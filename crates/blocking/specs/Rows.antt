@@ -1,11 +1,15 @@
 -- The rows of numbers that the core of Block hands back, and the records that they stand for. Assumes nothing.
-use Rattle.std.specs.Prelude.{◌≡◌, ℕ, ◌≤◌, List, length, replicate, slice_index}
+use Rattle.std.specs.Prelude.{◌≡◌, ℕ, ◌≤◌, List, length, replicate, slice_index, Result, Ok, Err}
 use Rattle.lists.specs.Lists.{overwrite}
 use Rattle.study.specs.Limits.{max_tides}
 use Rattle.study.specs.declared.BlockRecord.{BlockRecord}
+use Rattle.study.specs.declared.Refusal.{Refusal}
+use Rattle.study.specs.Refusals.{numbered, Reply, value, refusal}
 use Rattle.validity.specs.Memory.{State}
 use Rattle.blocking.specs.declared.block.BlockRows.{BlockRows}
+use Rattle.blocking.specs.declared.block.Computed.{Computed}
 use Rattle.access.specs.Calls.{Call, records_after}
+use Rattle.blocking.specs.Calls.{figure_numbers}
 
 -- the record of block i, from 0
 abbrev pub row_record : BlockRows → ℕ → BlockRecord
@@ -31,3 +35,18 @@ pub record RowsOf (s : State) (call : List BlockRecord → Call) (room : ℕ) (r
   pub few : rows.count ≤ max_tides
   -- put into the records, they are what the call leaves
   pub records : Lending room (λ l. overwrite rows.count (row_record rows) l ≡ records_after s (call l))
+
+-- what the core of a call leaves in the records that its caller lends: the rows that it hands back; a refused one hands back none, and leaves
+-- the records as they were
+abbrev pub Leaves : {A : Type 0} → State → (List BlockRecord → Call) → ℕ → (A → BlockRows) → Result A Refusal → Type 0
+Leaves s call room rows (Ok x) = RowsOf s call room (rows x)
+Leaves s call room rows (Err r) = Lending room (λ l. l ≡ records_after s (call l))
+
+-- the rows that the core of Block hands back
+abbrev pub rows_of : Computed → BlockRows
+rows_of c = c.rows
+
+-- the numbers of its answer, as of Block's
+abbrev pub core_reply : Result Computed Refusal → Reply (List ℕ)
+core_reply (Ok c) = value (figure_numbers c.figures)
+core_reply (Err r) = refusal (numbered r)

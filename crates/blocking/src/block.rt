@@ -1,19 +1,21 @@
 // Block: the core, by plain rows of numbers.
 ghost use Rattle.std.specs.Prelude.{◌≡◌};
 ghost use Rattle.study.specs.Refusals.{verdict_of};
-ghost use Rattle.validity.specs.Memory.{state_of};
+ghost use Rattle.validity.specs.View.{seen};
 ghost use Rattle.access.specs.Calls.{reply, list_after};
-ghost use Rattle.blocking.specs.Calls.{makes_blocks, blocked_reply};
+ghost use Rattle.blocking.specs.Calls.{makes_blocks};
 ghost use Rattle.blocking.specs.Accepted.{block_answer};
-ghost use Rattle.blocking.specs.Rows.{Lending, RowsOf};
+ghost use Rattle.blocking.specs.Rows.{Lending, Leaves, core_reply, rows_of};
 
 use crate::computing::compute;
+use crate::input::study_of;
 use crate::tides::check_tides;
 use radius_search::bound::ball_meets;
-use study::{Answer, Blocked, Dataset, MAX_DISTANCE, MAX_TIDES, Refusal};
+use study::{Figures, MAX_DISTANCE, MAX_TIDES, Refusal};
+use validity::view::View;
 
-// The records of the blocks as rows of numbers: centres' tide numbers, numbers of tides, diameters. `count` is the number of blocks, 0 on a
-// refusal. The places past it are free: they may hold any numbers, and no record is made of them.
+// The records of the blocks as rows of numbers: centres' tide numbers, numbers of tides, diameters. `count` is the number of blocks.
+// The places past it are free: they may hold any numbers, and no record is made of them.
 #[derive(Clone, Copy)]
 pub struct BlockRows {
     pub count: usize,
@@ -22,68 +24,41 @@ pub struct BlockRows {
     pub diameters: [u32; MAX_TIDES],
 }
 
-// Block's answer, and the rows of its blocks; there are none on a refusal.
+// Block's figures, and the rows of its blocks.
 #[derive(Clone, Copy)]
 pub struct Computed {
-    pub answer: Blocked,
+    pub figures: Figures,
     pub rows: BlockRows,
 }
 
 // The answer alone, with a list and records of these lengths.
-fn block_answer(
-    dataset: Dataset,
-    distances: &[u32],
-    settings: &[u8],
-    list: usize,
-    records: usize,
-) -> Answer
-    ensures { verdict_of result ≡ block_answer (state_of dataset distances.now settings.now) list records }
+fn block_answer(view: View, list: usize, records: usize) -> Result<(), Refusal>
+    ensures { verdict_of result ≡ block_answer (seen view.entry) list records }
 {
-    let first = check_tides(dataset, distances, settings);
-    let Answer::Done = first else {
-        return first;
-    };
-    let n = dataset.n;
+    check_tides(view)?;
+    let n = view.dataset.n;
+    let study = study_of(view);
     // every tide is at most MAX_DISTANCE from the first
-    if !ball_meets(distances, settings, n, dataset.minima, 0, MAX_DISTANCE) {
-        return Answer::Refused(Refusal::TooFewTides);
+    if !ball_meets(&study, 0, MAX_DISTANCE) {
+        return Err(Refusal::TooFewTides);
     }
     if list < n {
-        return Answer::Refused(Refusal::ShortMemory);
+        return Err(Refusal::ShortMemory);
     }
     if records < n {
-        return Answer::Refused(Refusal::ShortMemory);
+        return Err(Refusal::ShortMemory);
     }
-    Answer::Done
+    Ok(())
 }
 
 // Block, with its records by value. Of the records that the rows will be put into it is told how many there are, `room`, and no more; so its
 // contract speaks of any records of that number (`Lending`). Answer, list and the rows of the blocks there are are settled; the rows past the
 // last block are free (`RowsOf`).
-pub fn block_core(
-    dataset: Dataset,
-    distances: &[u32],
-    settings: &[u8],
-    list: &mut [u8],
-    room: usize,
-) -> Computed
-    ensures answer { Lending room (λ records. blocked_reply result.answer
-        ≡ reply (state_of dataset distances.now settings.now) (makes_blocks list.old records)) }
-    ensures rows { RowsOf (state_of dataset distances.now settings.now) (makes_blocks list.old) room result.rows }
-    ensures list { Lending room (λ records. list.new
-        ≡ list_after (state_of dataset distances.now settings.now) (makes_blocks list.old records)) }
+pub fn block_core(view: View, list: &mut [u8], room: usize) -> Result<Computed, Refusal>
+    ensures answer { Lending room (λ records. core_reply result ≡ reply (seen view.entry) (makes_blocks list.old records)) }
+    ensures rows { Leaves (seen view.entry) (makes_blocks list.old) room rows_of result }
+    ensures list { Lending room (λ records. list.new ≡ list_after (seen view.entry) (makes_blocks list.old records)) }
 {
-    let answer = block_answer(dataset, distances, settings, list.len(), room);
-    if let Answer::Refused(why) = answer {
-        return Computed {
-            answer: Blocked::Refused(why),
-            rows: BlockRows {
-                count: 0,
-                centres: [0; MAX_TIDES],
-                tides: [0; MAX_TIDES],
-                diameters: [0; MAX_TIDES],
-            },
-        };
-    }
-    compute(dataset, distances, settings, list, room)
+    block_answer(view, list.len(), room)?;
+    Ok(compute(view, list, room))
 }

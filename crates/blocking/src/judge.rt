@@ -1,44 +1,42 @@
 // Judge: whether a list of block numbers made by anyone is feasible.
 ghost use Rattle.std.specs.Prelude.{◌≡◌};
 ghost use Rattle.study.specs.Refusals.{verdict_of};
-ghost use Rattle.validity.specs.Memory.{state_of};
+ghost use Rattle.validity.specs.View.{seen};
 ghost use Rattle.access.specs.Calls.{answer, reply};
 ghost use Rattle.blocking.specs.Calls.{judges_list, judged_reply};
 
-use crate::judging::{blocks_meet, numbers_valid};
+use crate::input::study_of;
+use crate::judging::Proposal;
 use crate::tides::check_tides;
 use blocking_core::measure::widest;
-use study::{Answer, Dataset, Judged, Refusal};
+use study::Refusal;
+use validity::view::View;
 
 // The answer alone: whether the list is judged at all.
-fn judge_answer(dataset: Dataset, distances: &[u32], settings: &[u8], list: &[u8]) -> Answer
-    ensures { verdict_of result ≡ answer (state_of dataset distances.now settings.now) (judges_list list.now) }
+fn judge_answer(view: View, list: &[u8]) -> Result<(), Refusal>
+    ensures { verdict_of result ≡ answer (seen view.entry) (judges_list list.now) }
 {
-    let first = check_tides(dataset, distances, settings);
-    let Answer::Done = first else {
-        return first;
-    };
-    let n = dataset.n;
-    if list.len() != n {
-        return Answer::Refused(Refusal::ListLength);
+    check_tides(view)?;
+    if list.len() != view.dataset.n {
+        return Err(Refusal::ListLength);
     }
-    Answer::Done
+    Ok(())
 }
 
-// Yes with the greatest diameter, or no.
-pub fn judge(dataset: Dataset, distances: &[u32], settings: &[u8], list: &[u8]) -> Judged
-    ensures { judged_reply result ≡ reply (state_of dataset distances.now settings.now) (judges_list list.now) }
+// The greatest diameter where the list is feasible; none where it is not.
+pub fn judge(view: View, list: &[u8]) -> Result<Option<u32>, Refusal>
+    ensures { judged_reply result ≡ reply (seen view.entry) (judges_list list.now) }
 {
-    let answer = judge_answer(dataset, distances, settings, list);
-    if let Answer::Refused(why) = answer {
-        return Judged::Refused(why);
+    judge_answer(view, list)?;
+    let proposal = Proposal {
+        study: study_of(view),
+        list,
+    };
+    if !proposal.numbers_valid() {
+        return Ok(None);
     }
-    let n = dataset.n;
-    if !numbers_valid(list, n) {
-        return Judged::Declined;
+    if !proposal.blocks_meet() {
+        return Ok(None);
     }
-    if !blocks_meet(settings, n, dataset.minima, list) {
-        return Judged::Declined;
-    }
-    Judged::Approved(widest(distances, list, n))
+    Ok(Some(widest(&proposal.study, list)))
 }

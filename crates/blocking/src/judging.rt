@@ -1,85 +1,67 @@
 // What Judge looks at in a list: its numbers, and the tides under each of them.
-ghost use Rattle.std.specs.Prelude.{◌≡◌, ℕ, ◌≤◌, length, replicate, ◌==◌};
-ghost use Rattle.lists.specs.Lists.{at, bit, between, every};
+ghost use Rattle.std.specs.Prelude.{◌≡◌, ℕ, ◌≤◌, length};
+ghost use Rattle.lists.specs.Lists.{between, every};
 ghost use Rattle.study.specs.Problem.{block, labels};
-ghost use Rattle.study.specs.Study.{meets};
+ghost use Rattle.promise.specs.Met.{met};
 ghost use Rattle.radius_search.specs.Tally.{Tallied};
-ghost use Rattle.blocking.specs.Accepted.{JudgedArrays};
 
-use radius_search::counts::{counts_meet, tally_one};
-use study::Minima;
+use radius_search::counts::Tally;
+use radius_theory::input::Study;
 
-// Whether a number is 1 to 255.
+// Whether a number is 1 to 255; no byte is above. A function of its own, since its parameter is known to be a byte.
 fn valid_number(x: u8) -> bool
     ensures { result ≡ between 1 255 x }
 {
     x >= 1
 }
 
-// Whether every number is 1 to 255.
-pub fn numbers_valid(list: &[u8], n: usize) -> bool
-    requires { n ≤ length list.now }
-    ensures { result ≡ every n (λ (t : ℕ). between 1 255 (labels list.now t)) }
-{
-    let mut t = 0;
-    while t < n {
-        if !valid_number(list[t]) {
-            return false;
+// A list that gives each tide of a study the number of a block, whoever made it.
+#[derive(Clone, Copy)]
+pub struct Proposal<'a> {
+    pub study: Study<'a>,
+    pub list: &'a [u8],
+    pub ghost long: { study.tides.n ≤ length list.now },
+}
+
+impl<'a> Proposal<'a> {
+    // Whether every number is 1 to 255.
+    pub fn numbers_valid(&self) -> bool
+        ensures { result ≡ every self.now.study.tides.n (λ (t : ℕ). between 1 255 (labels self.now.list.now t)) }
+    {
+        self.list[..self.study.tides.n]
+            .iter()
+            .all(|number| valid_number(*number))
+    }
+
+    // Counts the tides under a number.
+    fn tally_block(&self, number: u8) -> Tally
+        ensures { let tides = self.now.study.tides in
+            Tallied tides.settings.now (block (labels self.now.list.now) number) tides.n result.found result.by_setting }
+    {
+        let mut tally = Tally {
+            found: 0,
+            by_setting: [0; 9],
+        };
+        for t in 0..self.study.tides.n {
+            tally.add(self.study.tides.settings[t], self.list[t] == number);
         }
-        t += 1;
+        tally
     }
-    true
-}
 
-// 1 where the two blocks are one, else 0.
-fn same(block: u8, other: u8) -> usize
-    ensures { (result ≡ bit (block == other)) × (result ≤ 1) }
-{
-    if block == other {
-        return 1;
+    // Whether the tides under a number meet the minima.
+    fn block_meets(&self, number: u8) -> bool
+        ensures { result ≡ met self.now.study.tides (block (labels self.now.list.now) number) }
+    {
+        self.tally_block(number).meets(self.study.tides.minima)
     }
-    0
-}
 
-// Counts the tides under a number, and by their settings.
-fn count_block(settings: &[u8], n: usize, list: &[u8], number: u8, counts: &mut [usize; 9]) -> usize
-    requires judged_arrays { JudgedArrays settings.now n list.now }
-    requires counts_value { counts.old ≡ replicate 9 0 }
-    ensures { Tallied settings.now (block (labels list.now) number) n result counts.new }
-{
-    let mut found = 0;
-    let mut t = 0;
-    while t < n {
-        let one = same(list[t], number);
-        found = tally_one(settings, t, one, found, counts);
-        t += 1;
+    // Whether the tides under each number used meet the minima.
+    pub fn blocks_meet(&self) -> bool
+        ensures { let tides = self.now.study.tides in
+            result ≡ every tides.n (λ (u : ℕ). met tides (block (labels self.now.list.now) (labels self.now.list.now u))) }
+    {
+        self.list[..self.study.tides.n]
+            .iter()
+            .all(|number| self.block_meets(*number))
     }
-    found
-}
-
-// Whether the tides under a number meet the minima.
-fn block_meets(settings: &[u8], n: usize, minima: Minima, list: &[u8], number: u8) -> bool
-    requires { JudgedArrays settings.now n list.now }
-    ensures { result ≡ meets minima n (at settings.now) (block (labels list.now) number) }
-{
-    let mut counts: [usize; 9] = [0; 9];
-    let found = count_block(settings, n, list, number, &mut counts);
-    counts_meet(minima, found, &counts)
-}
-
-// Whether the tides under each number used meet the minima.
-pub fn blocks_meet(settings: &[u8], n: usize, minima: Minima, list: &[u8]) -> bool
-    requires { JudgedArrays settings.now n list.now }
-    ensures { result
-        ≡ every n (λ (u : ℕ). meets minima n (at settings.now)
-        (block (labels list.now) (labels list.now u))) }
-{
-    let mut t = 0;
-    while t < n {
-        if !block_meets(settings, n, minima, list, list[t]) {
-            return false;
-        }
-        t += 1;
-    }
-    true
 }

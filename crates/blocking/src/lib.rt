@@ -7,6 +7,7 @@ pub mod block;
 pub mod centres;
 mod computing;
 mod front;
+mod input;
 pub mod judge;
 mod judging;
 pub mod records;

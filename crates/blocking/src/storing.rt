@@ -7,6 +7,13 @@ ghost use Rattle.blocking.specs.Rows.{row_record};
 use crate::block::BlockRows;
 use study::BlockRecord;
 
+// A place with no block in it.
+pub const NO_RECORD: BlockRecord = BlockRecord {
+    centre: 0,
+    tides: 0,
+    diameter: 0,
+};
+
 // The record of one block.
 fn row_at(rows: BlockRows, i: usize) -> BlockRecord
     requires { i < max_tides }
@@ -24,11 +31,7 @@ pub fn put_records(records: &mut [BlockRecord], rows: BlockRows)
     requires { (rows.count ≤ length records.old) × (rows.count ≤ max_tides) }
     ensures { records.new ≡ overwrite rows.count (row_record rows) records.old }
 {
-    let count = rows.count;
-    let mut i: usize = 0;
-    while i < count {
-        let r = row_at(rows, i);
-        records[i] = r;
-        i = i + 1;
+    for i in 0..rows.count {
+        records[i] = row_at(rows, i);
     }
 }

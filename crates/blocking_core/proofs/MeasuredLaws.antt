@@ -27,8 +27,8 @@ pub greatest_none : (f : ℕ → ℕ) → 0 ≡ greatest 0 f
 unfolding greatest
 greatest_none f = refl
 
-pub greatest_more : (f : ℕ → ℕ) {u x best r : ℕ} → best ≡ greatest u f → x ≡ f u → r ≡ max x best → r ≡ greatest (u + 1) f
-greatest_more f {u} e q h = h ∙ ap₂ (λ a b. max a b) q e ∙ sym (greatest_suc u f)
+pub greatest_more : (f : ℕ → ℕ) {u x best r : ℕ} → best ≡ greatest u f → x ≡ f u → r ≡ max best x → r ≡ greatest (u + 1) f
+greatest_more f {u} e q h = h ∙ ap₂ (λ a b. max b a) q e ∙ omega (arith, greatest_suc u f)
 
 pub measured_none : (d : List ℕ) (n : ℕ) (D : ℕ → ℕ) → Measured d n D 0 (replicate max_tides 0) (replicate max_tides 0) 0
 unfolding across_of widest_of greatest
@@ -42,19 +42,16 @@ measured_none d n D =
     }
 
 module _ {d : List ℕ} {n : ℕ} {D : ℕ → ℕ} {t : ℕ} {sizes diameters : List ℕ} {widest : ℕ} (R : Measured d n D t sizes diameters widest) where
-  pub measured_done : {k : ℕ} → t ≡ k → Measured d n D k sizes diameters widest
-  measured_done e = subst (λ z. Measured d n D z sizes diameters widest) e R
-
   -- no block has more tides than there are
   pub measured_small : (i : ℕ) → i < max_tides → get_or sizes i 0 ≤ t
   measured_small i l = omega (arith, R.size i l, count_most t (block D (suc i)))
 
 -- one more tide, which belongs to block m + 1
 module _ {d : List ℕ} {n : ℕ} {D : ℕ → ℕ} {t : ℕ} {sizes diameters : List ℕ} {widest : ℕ} (R : Measured d n D t sizes diameters widest) (m : ℕ)
-    (few : m < max_tides) (own : D t ≡ suc m) where
+    (few : m < max_tides) (own : D t ≡ m + 1) where
   mine : T (block D (suc m) t)
   unfolding block
-  mine = eq→eqb (D t) (suc m) own
+  mine = eq→eqb (D t) (suc m) (omega arith)
 
   other : (i : ℕ) → (i ≡ m → ⊥) → T (block D (suc i) t) → ⊥
   unfolding block
@@ -76,7 +73,7 @@ module _ {d : List ℕ} {n : ℕ} {D : ℕ → ℕ} {t : ℕ} {sizes diameters :
       zero_max : (x : ℕ) → max 0 x ≡ x
       zero_max x = omega arith
 
-  pub measured_more : {x y w : ℕ} → x ≡ farthest_of d n D t t → y ≡ max x (get_or diameters m 0) → w ≡ max x widest
+  pub measured_more : {x y w : ℕ} → x ≡ farthest_of d n D t t → y ≡ max (get_or diameters m 0) x → w ≡ max widest x
       → Measured d n D (t + 1) (set sizes m (get_or sizes m 0 + 1)) (set diameters m y) w
   unfolding widest_of
   measured_more {x} {y} {w} e f h =
@@ -99,7 +96,7 @@ module _ {d : List ℕ} {n : ℕ} {D : ℕ → ℕ} {t : ℕ} {sizes diameters :
       across : (i : ℕ) → i < max_tides → Dec (i ≡ m) → get_or (set diameters m y) i 0 ≡ across_of d n D (suc i) (t + 1)
       across i l (yes q) =
           subst (λ z. get_or (set diameters m y) z 0 ≡ across_of d n D (suc z) (t + 1)) (sym q)
-          (get_or-set_same diameters m y 0 (omega (arith, R.diameters_long)) ∙ f ∙ ap₂ (λ a b. max a b) e (R.across m few) ∙ sym across_mine)
+          (get_or-set_same diameters m y 0 (omega (arith, R.diameters_long)) ∙ f ∙ ap₂ (λ a b. max b a) e (R.across m few) ∙ omega (arith, across_mine))
       across i l (no q) = get_or-set_other diameters m i y 0 q ∙ R.across i l ∙ sym (across_other i q)
 
 -- ---- these are the problem's

@@ -3,24 +3,22 @@ ghost use Rattle.std.specs.Prelude.{◌≡◌, ◌++◌, ℕ, ◌+◌, ◌<◌, 
 ghost use Rattle.lists.specs.Lists.{overwrite};
 ghost use Rattle.study.specs.Limits.{max_tides};
 ghost use Rattle.study.specs.Problem.{labels, blocking};
-ghost use Rattle.promise.specs.Promise.{meeting, Able};
-ghost use Rattle.radius_theory.specs.Arrays.{array_problem, ValidArrays, SizedArrays};
+ghost use Rattle.promise.specs.Met.{met};
+ghost use Rattle.radius_theory.specs.Posed.{posed};
 ghost use Rattle.blocking_core.specs.Core.{Assigns, Blocks};
 
-use crate::measure::measure;
+use crate::measure::{Measures, measure};
 use first_assignment::first::first_assignment;
-use radius_search::{LeastRadius, least_radius};
-use study::{MAX_TIDES, Minima, TABLE_SIZE};
+use radius_search::problem::{LeastRadius, Problem};
+use radius_theory::centres::Centres;
+use study::{MAX_TIDES, TABLE_SIZE};
 
-// The rows of all blocks: centres as tides from 0, numbers of tides, diameters.
+// The radius, and of all blocks the centres and the measures. Of each a column, since a call from C is lent a column for each.
 #[derive(Clone, Copy)]
-pub struct Rows {
-    pub count: usize,
+pub struct Rows<'a> {
     pub radius: u32,
-    pub widest: u32,
-    pub centres: [usize; MAX_TIDES],
-    pub sizes: [u8; MAX_TIDES],
-    pub diameters: [u32; MAX_TIDES],
+    pub centres: Centres<'a>,
+    pub measures: Measures,
 }
 
 // Writes the list: blocks are numbered from 0 in the search, from 1 in the list.
@@ -29,84 +27,39 @@ fn number(blocks: &[u8], list: &mut [u8], n: usize)
     requires by_index { (t : ℕ) → t < n → labels blocks.now t < max_tides }
     ensures { list.new ≡ overwrite n (λ (t : ℕ). labels blocks.now t + 1) list.old }
 {
-    let mut t = 0;
-    while t < n {
+    for t in 0..n {
         list[t] = blocks[t] + 1;
-        t += 1;
     }
 }
 
 // The least radius with an assignment, its centres, and the first assignment there. The search begins from what its list holds, so it gets one
 // of its own: the lent list is only written.
-fn assign(
-    distances: &[u32],
-    settings: &[u8],
-    n: usize,
-    minima: Minima,
-    centres: &mut [usize; MAX_TIDES],
-    list: &mut [u8],
-) -> LeastRadius
-    requires sized_arrays { SizedArrays (Able minima n settings.now) distances.now n }
-    requires valid_arrays { ValidArrays distances.now n (meeting minima n settings.now) }
-    requires n_nonzero { (0 < n) × (length centres.old ≡ max_tides) × (n ≤ length list.old) }
-    ensures { Assigns distances.now n (meeting minima n settings.now) result.radius result.count
-        centres.new list.old list.new }
+fn assign<'a>(problem: &Problem<'a>, list: &mut [u8]) -> LeastRadius<'a>
+    requires { problem.now.study.tides.n ≤ length list.old }
+    ensures { let study = problem.now.study in Assigns study.distances.now study.tides.n (met study.tides) result.radius
+        result.centres.count result.centres.tides list.old list.new }
 {
     let mut allowed: [u8; TABLE_SIZE] = [0; TABLE_SIZE];
     let mut blocks: [u8; MAX_TIDES] = [0; MAX_TIDES];
-    let found = least_radius(
-        distances,
-        settings,
-        n,
-        minima,
-        centres,
-        &mut allowed,
-        &mut blocks,
-    );
-    let count = found.count;
-    first_assignment(
-        distances,
-        n,
-        centres,
-        count,
-        minima,
-        settings,
-        &mut allowed,
-        &mut blocks,
-    );
-    number(&blocks, list, n);
+    let found = problem.least_radius(&mut allowed, &mut blocks);
+    first_assignment(&found.centres, &mut allowed, &mut blocks);
+    number(&blocks, list, problem.study.tides.n);
     found
 }
 
 // The blocking: radius, centres and list, and the blocks' sizes and diameters.
-pub fn block_rows(
-    distances: &[u32],
-    settings: &[u8],
-    n: usize,
-    minima: Minima,
-    list: &mut [u8],
-) -> Rows
-    requires sized_arrays { SizedArrays (Able minima n settings.now) distances.now n }
-    requires valid_arrays { ValidArrays distances.now n (meeting minima n settings.now) }
-    requires n_nonzero { (0 < n) × (n ≤ length list.old) }
-    ensures blocks { Blocks distances.now n (meeting minima n settings.now) result.count result.radius result.widest
-        result.centres result.sizes result.diameters }
-    ensures list_after { list.new ≡ blocking (array_problem distances.now n (meeting minima n settings.now))
-        ++ drop n list.old }
+pub fn block_rows<'a>(problem: &Problem<'a>, list: &mut [u8]) -> Rows<'a>
+    requires { problem.now.study.tides.n ≤ length list.old }
+    ensures blocks { let study = problem.now.study in Blocks study.distances.now study.tides.n (met study.tides)
+        result.centres.count result.radius result.measures.widest result.centres.tides result.measures.sizes result.measures.diameters }
+    ensures list_after { list.new ≡ blocking (posed problem.now.study) ++ drop problem.now.study.tides.n list.old }
 {
-    let mut centres: [usize; MAX_TIDES] = [0; MAX_TIDES];
-    let found = assign(distances, settings, n, minima, &mut centres, list);
-    let mut sizes: [u8; MAX_TIDES] = [0; MAX_TIDES];
-    let mut diameters: [u32; MAX_TIDES] = [0; MAX_TIDES];
-    let widest = measure(distances, list, n, &mut sizes, &mut diameters);
-    let count = found.count;
-    let radius = found.radius;
+    let found = assign(problem, list);
+    let measures = measure(&problem.study, list);
+    let centres = found.centres;
     Rows {
-        count: count,
-        radius: radius,
-        widest: widest,
-        centres: centres,
-        sizes: sizes,
-        diameters: diameters,
+        radius: found.radius,
+        centres,
+        measures,
     }
 }

@@ -11,9 +11,8 @@ use Rattle.lists.proofs.Tables.{length_tabulate, get_d_tabulate, length_overwrit
 use Rattle.study.specs.declared.Refusal.{Refusal}
 use Rattle.study.specs.declared.Dataset.{Dataset}
 use Rattle.study.specs.declared.BlockRecord.{BlockRecord}
-use Rattle.study.specs.declared.Blocked.{Blocked}
-use Rattle.study.specs.declared.Blocked.TheVariants as BlockedCase
-use Rattle.study.specs.Refusals.{Numbered, numbered, accepted, refused}
+use Rattle.study.specs.declared.Figures.{Figures}
+use Rattle.study.specs.Refusals.{Numbered, accepted, refused, Reply, value, refusal}
 use Rattle.study.specs.Calls.{block_reasons, figures}
 use Rattle.study.proofs.CallLaws.{reply_value}
 use Rattle.validity.specs.Memory.{State, study_of, contents_of}
@@ -21,7 +20,7 @@ use Rattle.access.specs.Calls.{Output, first_list, Call, answer, output, reply, 
 use Rattle.access.specs.Calls.{lent as lent_to}
 use Rattle.access.proofs.AccessLaws.{unwritten, reply_tells}
 use Rattle.blocking.specs.declared.block.BlockRows.{BlockRows}
-use Rattle.blocking.specs.Calls.{figure_numbers, makes_blocks, blocked_reply}
+use Rattle.blocking.specs.Calls.{figure_numbers, makes_blocks}
 use Rattle.blocking.specs.Rows.{row_record, no_record, Lending, RowsOf}
 use Rattle.blocking.proofs.BlockLaws.{made_answer}
 use Rattle.blocking.proofs.RowLaws.{rows_count}
@@ -85,7 +84,7 @@ module _ (p : Places) (g : ℕ → BlockRecord) (n : ℕ) (few : n ≤ record_ro
 
 -- ---- Block's reply
 
-module _ (s : State) (list : List ℕ) (room : ℕ) (a : Blocked) (q : Lending room (λ records. blocked_reply a ≡ reply s (makes_blocks list records))) where
+module _ (s : State) (list : List ℕ) (room : ℕ) (v : Reply (List ℕ)) (q : Lending room (λ records. v ≡ reply s (makes_blocks list records))) where
   -- some records of this number
   abbrev some_records : List BlockRecord
   some_records = replicate room no_record
@@ -93,40 +92,36 @@ module _ (s : State) (list : List ℕ) (room : ℕ) (a : Blocked) (q : Lending r
   abbrev as_many : length some_records ≡ room
   as_many = length-replicate room no_record
 
-  pub block_why : {why : Refusal} → a ≡ BlockedCase.Refused why → Lending room (λ records. answer s (makes_blocks list records) ≡ refused (numbered why))
-  block_why e records k = reply_why s (makes_blocks list records) (sym (ap blocked_reply e) ∙ q records k)
+  pub block_why : {y : Numbered} → v ≡ refusal y → Lending room (λ records. answer s (makes_blocks list records) ≡ refused y)
+  block_why e records k = reply_why s (makes_blocks list records) (sym e ∙ q records k)
 
-  pub block_narrow : {why : Refusal} → a ≡ BlockedCase.Refused why → Narrow (refused (numbered why))
+  pub block_narrow : {y : Numbered} → v ≡ refusal y → Narrow (refused y)
   unfolding makes_blocks block_reasons
   block_narrow e = subst Narrow (block_why e some_records as_many) (inquiry_narrow s _ (small tt, (small tt, (small tt, tt))))
 
-  module _ {b r w : ℕ} (e : a ≡ BlockedCase.Done b r w) where
+  module _ {F : Figures} (e : v ≡ value (figure_numbers F)) where
     pub block_value : Lending room (λ records. (answer s (makes_blocks list records) ≡ accepted)
-        × ((output s (makes_blocks list records)).numbers ≡ b ∷ r ∷ w ∷ []))
-    block_value records k = reply_numbers s (makes_blocks list records) (sym (ap blocked_reply e) ∙ q records k)
+        × ((output s (makes_blocks list records)).numbers ≡ figure_numbers F))
+    block_value records k = reply_numbers s (makes_blocks list records) (sym e ∙ q records k)
 
-    blocks_are : b ≡ (figures (study_of s)).blocks
+    blocks_are : F.blocks ≡ (figures (study_of s)).blocks
     unfolding makes_blocks contents_of
     blocks_are =
         ap (λ (l : List ℕ). get_or l 0 0)
         (reply_value (answer s (makes_blocks list some_records)) (figure_numbers (figures (study_of s)))
-        (sym (ap blocked_reply e) ∙ q some_records as_many ∙ reply_tells s _)).1
+        (sym e ∙ q some_records as_many ∙ reply_tells s _)).1
 
     module _ {rows : BlockRows} (R : RowsOf s (makes_blocks list) room rows) where
-      pub count_is : b ≡ rows.count
+      pub count_is : F.blocks ≡ rows.count
       count_is = blocks_are ∙ sym (rows_count list R (made_answer s list some_records as_many ∙ (block_value some_records as_many).0))
 
-      pub blocks_small : b ≤ 120
+      pub blocks_small : F.blocks ≤ 120
       blocks_small = omega (arith, count_is, R.few)
 
-      pub columns_fit : (x y z : List ℕ) → room ≡ min (length x) (min (length y) (length z)) → ColumnRoom b x y z
+      pub columns_fit : (x y z : List ℕ) → room ≡ min (length x) (min (length y) (length z)) → ColumnRoom F.blocks x y z
       columns_fit x y z m =
-          let fits : b ≤ min (length x) (min (length y) (length z)) = omega (arith, count_is, R.fits) in
+          let fits : F.blocks ≤ min (length x) (min (length y) (length z)) = omega (arith, count_is, R.fits) in
           record { few = blocks_small; in_centres = omega arith; in_sizes = omega arith; in_diameters = omega arith }
-
--- its three numbers, written
-pub written_three : {b r w : ℕ} {new : List ℕ} (old : List ℕ) → new ≡ overwrite 3 (λ i. get_or (b ∷ r ∷ w ∷ []) i 0) old → new ≡ over (b ∷ r ∷ w ∷ []) old
-written_three {b} {r} {w} old q = q ∙ front_written (b ∷ r ∷ w ∷ []) old
 
 -- ---- any call that divides into blocks
 

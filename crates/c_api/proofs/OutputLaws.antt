@@ -1,20 +1,18 @@
 -- From what a Rattle call that only reads the dataset answers and writes to what the call for C does. Assumes nothing.
-use Rattle.std.specs.Prelude.{◌≡◌, ℕ, suc, ◌<◌, ◌≤◌, true, ◌||◌, List, [], ◌∷◌, length, get_or, set}
+use Rattle.std.specs.Prelude.{◌≡◌, ℕ, suc, ◌<◌, ◌≤◌, true, ◌||◌, List, [], ◌∷◌, ◌++◌, length, get_or, set, take, drop}
+use Rattle.std.specs.Prelude.{Option, Result, Ok, Err}
+use Rattle.std.proofs.Common.{le_refl}
 use native.Mathlib.Omega.{arith}
 use mathlib.Core.Path.{refl, sym, ap, ◌∙◌, subst}
 use lib.Dec.{lit≤}
 use lib.ListN.{length-map}
-use Rattle.lists.specs.Lists.{overwrite, over}
+use Rattle.lists.specs.Lists.{over}
 use Rattle.lists.proofs.Tests.{true-T}
-use Rattle.study.specs.declared.Answer.{Answer}
-use Rattle.study.specs.declared.Answer.TheVariants.{Done}
 use Rattle.study.specs.declared.Refusal.{Refusal}
 use Rattle.study.specs.declared.Dataset.{Dataset}
-use Rattle.study.specs.declared.Judged.{Judged}
-use Rattle.study.specs.declared.Judged.TheVariants as JudgedCase
 use Rattle.study.specs.Problem.{centres}
 use Rattle.study.specs.Study.{size, distance, problem}
-use Rattle.study.specs.Refusals.{Numbered, numbered, Verdict, accepted, refused, verdict_of, settled, value, refusal}
+use Rattle.study.specs.Refusals.{Numbered, numbered, Verdict, accepted, refused, settled, value, refusal}
 use Rattle.study.specs.Calls.{CentreLists, centres_reasons, centre_numbers, judge_reasons}
 use Rattle.study.specs.Theorems.{ValidContents}
 use Rattle.study.proofs.CallLaws.{reply_refused, reply_value}
@@ -26,18 +24,21 @@ use Rattle.validity.proofs.Proofs.{for_datasets}
 use Rattle.access.specs.Calls.{held, Output, first_list, Call, told, answer, output, reply}
 use Rattle.access.specs.Calls.{lent as lent_to}
 use Rattle.access.proofs.AccessLaws.{output_is, unwritten, inquiry_accepted, inquiry_passed, writes, reply_tells}
-use Rattle.study_file.specs.declared.Written.{Written}
-use Rattle.study_file.specs.declared.Written.TheVariants as WrittenCase
 use Rattle.study_file.specs.Calls.{write_reasons, written_of, writes_file}
 use Rattle.file_fields.proofs.Lengths.{length_sum}
-use Rattle.blocking.specs.Calls.{all_three, finds_centres, centres_front, judges_list, judged_reply}
+use Rattle.blocking.specs.Calls.{all_three, counted_reply, finds_centres, judges_list, judged_reply}
 use Rattle.narrowing.specs.Narrowing.{narrow_dataset}
+use Rattle.storage.proofs.PlaceLaws.{front_copied}
 use Rattle.c_records.specs.Record.{Lent, record_size, dataset_of, state_in, code}
 use Rattle.c_records.specs.Records.{Narrow}
 use Rattle.c_records.proofs.RecordLaws.{with_record, front_written}
 use Rattle.c_records.proofs.CodeLaws.{small, inquiry_narrow}
 use Rattle.c_api.specs.Api.{room_first, lacks, c_verdict, c_output, c_result}
 use Rattle.c_api.proofs.CallLaws.{lacks_no, none_short, same_answer, same_output, too_short}
+
+-- numbers, copied to the front
+pub front_over : (xs old : List ℕ) → take (length xs) xs ++ drop (length xs) old ≡ over xs old
+front_over xs old = front_copied (length xs) xs old (le_refl (length xs)) ∙ front_written xs old
 
 -- one number, written
 pub first_set : (n : ℕ) (old : List ℕ) → 1 ≤ length old → set old 0 n ≡ over (n ∷ []) old
@@ -127,7 +128,7 @@ module _ {A : Type 0} {f : List (List ℕ) → A} {c : Call} {x₀ : A} (L : Len
 abbrev pub nothing : List (List ℕ) → Unit {0}
 nothing ls = tt
 
--- the same of such a call: numbers alone, as `put_numbers` writes them
+-- the same of such a call: numbers alone, copied to the front
 module _ {c : Call} (L : LentLists nothing c tt) (m : ℕ) (l : Lent) (result : List ℕ) where
   abbrev pub NumbersAnswered : ℕ → List ℕ → Type 0
   NumbersAnswered n new = (n ≡ code (c_verdict l (lacks m result) c)) × (new ≡ c_result m l c result)
@@ -140,8 +141,8 @@ module _ {c : Call} (L : LentLists nothing c tt) (m : ℕ) (l : Lent) (result : 
     numbers_refused e q = let a = answered_refused L m l result R refl e q in (a.0, a.1.1)
 
     pub numbers_done : {xs new : List ℕ} → (answer (with_record l r) c ≡ accepted) × ((output (with_record l r) c).numbers ≡ xs)
-        → new ≡ overwrite (length xs) (λ i. get_or xs i 0) result → NumbersAnswered 0 new
-    numbers_done {xs} e q = let a = answered_done L m l result R refl e (q ∙ front_written xs result) in (a.0, a.1.1)
+        → new ≡ take (length xs) xs ++ drop (length xs) result → NumbersAnswered 0 new
+    numbers_done {xs} e q = let a = answered_done L m l result R refl e (q ∙ front_over xs result) in (a.0, a.1.1)
 
 -- ---- Centres
 
@@ -155,33 +156,35 @@ module _ (g : ℕ) (lists : CentreLists) where
     unfolding finds_centres centres_reasons
     centres_narrow = inquiry_narrow s _ (small tt, (small tt, tt))
 
-    module _ (a : Answer) {count : ℕ} (p : verdict_of a ≡ answer s (finds_centres g lists)) (q : a ≡ Done)
-        (e : count ≡ length (centres_front s g lists)) where
-      abbrev done : answer s (finds_centres g lists) ≡ accepted
-      done = sym p ∙ ap verdict_of q
+    module _ (a : Result ℕ Refusal) (p : counted_reply a ≡ reply s (finds_centres g lists)) where
+      pub centres_why : {why : Refusal} → a ≡ Err why → answer s (finds_centres g lists) ≡ refused (numbered why)
+      centres_why e = reply_why s (finds_centres g lists) (sym (ap counted_reply e) ∙ p)
 
-      counted : count ≡ length (centre_numbers (study_of s) g)
-      unfolding centres_front
-      counted = e ∙ ap (λ v. length (settled v (centre_numbers (study_of s) g) [])) done
+      pub centres_why_narrow : {why : Refusal} → a ≡ Err why → Narrow (refused (numbered why))
+      centres_why_narrow e = subst Narrow (centres_why e) centres_narrow
 
-      pub count_told : (answer s (finds_centres g lists) ≡ accepted) × ((output s (finds_centres g lists)).numbers ≡ count ∷ [])
-      unfolding finds_centres contents_of
-      count_told = (
-        done,
-        ap (λ (o : Output). o.numbers) (sym (writes s _ (inquiry_passed s _ done) (sym done))) ∙ ap (λ z. z ∷ []) (sym counted),
-      )
+      module _ {count : ℕ} (e : a ≡ Ok count) where
+        pub count_told : (answer s (finds_centres g lists) ≡ accepted) × ((output s (finds_centres g lists)).numbers ≡ count ∷ [])
+        count_told = reply_numbers s (finds_centres g lists) (sym (ap counted_reply e) ∙ p)
 
-      pub count_fits : count < 65536
-      unfolding finds_centres contents_of centre_numbers centres problem
-      count_fits =
-          let A = inquiry_accepted s _ done in
-          omega (
-            arith,
-            counted,
-            length-map (centres (problem (study_of s)) g) suc,
-            centres_few (distance (study_of s)) g (size (study_of s)),
-            (for_datasets.valid s (true-T (is_dataset s) A.tested)).study.few,
-          )
+        counted : count ≡ length (centre_numbers (study_of s) g)
+        unfolding finds_centres contents_of
+        counted =
+            let done = count_told.0 in
+            ap (λ (l : List ℕ). get_or l 0 0)
+            (sym count_told.1 ∙ ap (λ (o : Output). o.numbers) (sym (writes s _ (inquiry_passed s _ done) (sym done))))
+
+        pub count_fits : count < 65536
+        unfolding finds_centres contents_of centre_numbers centres problem
+        count_fits =
+            let A = inquiry_accepted s _ count_told.0 in
+            omega (
+              arith,
+              counted,
+              length-map (centres (problem (study_of s)) g) suc,
+              centres_few (distance (study_of s)) g (size (study_of s)),
+              (for_datasets.valid s (true-T (is_dataset s) A.tested)).study.few,
+            )
 
 -- ---- Judge
 
@@ -190,15 +193,15 @@ module _ (list : List ℕ) where
   unfolding judges_list lent_to
   judge_lent = record { none = refl; lists = refl }
 
-  module _ (s : State) (j : Judged) (p : judged_reply j ≡ reply s (judges_list list)) where
-    pub judge_why : {why : Refusal} → j ≡ JudgedCase.Refused why → answer s (judges_list list) ≡ refused (numbered why)
+  module _ (s : State) (j : Result (Option ℕ) Refusal) (p : judged_reply j ≡ reply s (judges_list list)) where
+    pub judge_why : {why : Refusal} → j ≡ Err why → answer s (judges_list list) ≡ refused (numbered why)
     judge_why e = reply_why s (judges_list list) (sym (ap judged_reply e) ∙ p)
 
-    pub judge_narrow : {why : Refusal} → j ≡ JudgedCase.Refused why → Narrow (refused (numbered why))
+    pub judge_narrow : {why : Refusal} → j ≡ Err why → Narrow (refused (numbered why))
     unfolding judges_list judge_reasons
     judge_narrow e = subst Narrow (judge_why e) (inquiry_narrow s _ (small tt, (small tt, tt)))
 
-    pub judge_numbers : {k : Judged} {xs : List ℕ} → j ≡ k → judged_reply k ≡ value xs
+    pub judge_numbers : {k : Result (Option ℕ) Refusal} {xs : List ℕ} → j ≡ k → judged_reply k ≡ value xs
         → (answer s (judges_list list) ≡ accepted) × ((output s (judges_list list)).numbers ≡ xs)
     judge_numbers e v = reply_numbers s (judges_list list) (sym v ∙ sym (ap judged_reply e) ∙ p)
 
@@ -218,18 +221,18 @@ module _ (file : List ℕ) where
         let most = (length_sum 4 (contents_of s).study.k (size (contents_of s).study) (lit≤ tt) ok.study.k_high ok.study.few).most in
         omega (arith, files.file_length (contents_of s) ok)
 
-    module _ (w : Written) (p : written_of w ≡ reply s (writes_file file)) where
-      pub write_why : {why : Refusal} → w ≡ WrittenCase.Refused why → answer s (writes_file file) ≡ refused (numbered why)
+    module _ (w : Result ℕ Refusal) (p : written_of w ≡ reply s (writes_file file)) where
+      pub write_why : {why : Refusal} → w ≡ Err why → answer s (writes_file file) ≡ refused (numbered why)
       write_why e = reply_why s (writes_file file) (sym (ap written_of e) ∙ p)
 
-      pub why_narrow : {why : Refusal} → w ≡ WrittenCase.Refused why → Narrow (refused (numbered why))
+      pub why_narrow : {why : Refusal} → w ≡ Err why → Narrow (refused (numbered why))
       unfolding writes_file write_reasons
       why_narrow e = subst Narrow (write_why e) (inquiry_narrow s _ (small tt, tt))
 
-      pub write_numbers : {n : ℕ} → w ≡ WrittenCase.Done n → (answer s (writes_file file) ≡ accepted) × ((output s (writes_file file)).numbers ≡ n ∷ [])
+      pub write_numbers : {n : ℕ} → w ≡ Ok n → (answer s (writes_file file) ≡ accepted) × ((output s (writes_file file)).numbers ≡ n ∷ [])
       write_numbers e = reply_numbers s (writes_file file) (sym (ap written_of e) ∙ p)
 
-      pub size_fits : {n : ℕ} → w ≡ WrittenCase.Done n → n < 4294967296
+      pub size_fits : {n : ℕ} → w ≡ Ok n → n < 4294967296
       unfolding writes_file
       size_fits {n} e =
           let q = reply_value (answer s (writes_file file)) (length (file_of (contents_of s)) ∷ []) (sym (ap written_of e) ∙ p ∙ reply_tells s _) in

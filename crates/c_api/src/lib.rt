@@ -8,12 +8,13 @@
 use blocking::block::block_core;
 use blocking::centres::centres_into;
 use blocking::judge::judge;
-use c_records::code::{answer_code, refusal_code};
-use c_records::numbers::{RECORD_SIZE, dataset_of, minima_of, store_outcome};
-use c_records::rows::{least, put_columns, put_numbers};
+use c_records::code::refusal_code;
+use c_records::numbers::{RECORD_SIZE, dataset_of, minima_of, store_answer};
+use c_records::rows::{least, put_columns};
 use narrowing::narrow;
-use study::{Answer, Blocked, Judged};
-use study_file::Written;
+use storage::copy_front;
+use study::Figures;
+use validity::view::View;
 
 pub mod mend;
 pub mod merging;
@@ -36,8 +37,9 @@ pub fn tides_open(numbers: &mut [u16], distances: &mut [u32], settings: &mut [u8
     if numbers.len() < RECORD_SIZE {
         return 1;
     }
-    let outcome = dataset::open(dataset_of(numbers), distances, settings, narrow(k));
-    store_outcome(numbers, outcome)
+    let mut dataset = dataset_of(numbers);
+    let answer = dataset::open(&mut dataset, distances, settings, narrow(k));
+    store_answer(numbers, dataset, answer)
 }
 
 // Minima: they are 9 bytes: b0, b1 .. b8.
@@ -53,8 +55,9 @@ pub fn tides_minima(numbers: &mut [u16], distances: &[u32], settings: &[u8], min
     if minima.len() < 9 {
         return 1;
     }
-    let outcome = dataset::set_minima(dataset_of(numbers), distances, settings, minima_of(minima));
-    store_outcome(numbers, outcome)
+    let mut dataset = dataset_of(numbers);
+    let answer = dataset::set_minima(&mut dataset, distances, settings, minima_of(minima));
+    store_answer(numbers, dataset, answer)
 }
 
 // Enter: a tide with its setting, and its distances to the tides already there.
@@ -73,14 +76,9 @@ pub fn tides_enter(
     if numbers.len() < RECORD_SIZE {
         return 1;
     }
-    let outcome = dataset::enter(
-        dataset_of(numbers),
-        distances,
-        settings,
-        narrow(setting),
-        row,
-    );
-    store_outcome(numbers, outcome)
+    let mut dataset = dataset_of(numbers);
+    let answer = dataset::enter(&mut dataset, distances, settings, narrow(setting), row);
+    store_answer(numbers, dataset, answer)
 }
 
 // Withdraw: the tide of this number goes, and is counted for this user.
@@ -98,14 +96,15 @@ pub fn tides_withdraw(
     if numbers.len() < RECORD_SIZE {
         return 1;
     }
-    let outcome = dataset::withdraw(
-        dataset_of(numbers),
+    let mut dataset = dataset_of(numbers);
+    let answer = dataset::withdraw(
+        &mut dataset,
         distances,
         settings,
         narrow(user),
         narrow(tide),
     );
-    store_outcome(numbers, outcome)
+    store_answer(numbers, dataset, answer)
 }
 
 // Read: the dataset of a study file.
@@ -123,8 +122,9 @@ pub fn tides_read(
     if numbers.len() < RECORD_SIZE {
         return 1;
     }
-    let outcome = study_file::read(dataset_of(numbers), distances, settings, file);
-    store_outcome(numbers, outcome)
+    let mut dataset = dataset_of(numbers);
+    let answer = study_file::read(&mut dataset, distances, settings, file);
+    store_answer(numbers, dataset, answer)
 }
 
 // Centres at g: their number goes into `count`, their tide numbers into `list`; for each tide the nearest centre's block number goes into
@@ -152,21 +152,18 @@ pub fn tides_centres(
     if count.len() < 1 {
         return 1;
     }
-    let found = centres_into(
-        dataset_of(numbers),
+    let view = View {
+        dataset: dataset_of(numbers),
         distances,
         settings,
-        g,
-        list,
-        nearest,
-        away,
-    );
-    let answer = found.answer;
-    let Answer::Done = answer else {
-        return answer_code(answer);
     };
-    count[0] = found.count as u16;
-    0
+    match centres_into(view, g, list, nearest, away) {
+        Err(why) => refusal_code(why),
+        Ok(found) => {
+            count[0] = found as u16;
+            0
+        }
+    }
 }
 
 // Block: the result is 3 numbers: how many blocks, the radius, the greatest diameter.
@@ -191,17 +188,22 @@ pub fn tides_block(
     if res.len() < 3 {
         return 1;
     }
+    let view = View {
+        dataset: dataset_of(numbers),
+        distances,
+        settings,
+    };
     let room = least(centres.len(), sizes.len(), diameters.len());
-    let computed = block_core(dataset_of(numbers), distances, settings, list, room);
-    let answer = computed.answer;
-    let rows = computed.rows;
-    match answer {
-        Blocked::Refused(why) => refusal_code(why),
-        Blocked::Done(blocks, radius, widest) => {
-            put_columns(rows, blocks, centres, sizes, diameters);
-            let count = blocks as u32;
-            let figures = [count, radius, widest];
-            put_numbers(&figures, 3, res);
+    match block_core(view, list, room) {
+        Err(why) => refusal_code(why),
+        Ok(computed) => {
+            let Figures {
+                blocks,
+                radius,
+                widest,
+            } = computed.figures;
+            put_columns(&computed.rows, blocks, centres, sizes, diameters);
+            copy_front(res, &[blocks as u32, radius, widest], 3);
             0
         }
     }
@@ -226,17 +228,19 @@ pub fn tides_judge(
     if res.len() < 2 {
         return 1;
     }
-    let judged = judge(dataset_of(numbers), distances, settings, list);
-    match judged {
-        Judged::Refused(why) => refusal_code(why),
-        Judged::Declined => {
-            let no = [0, 0];
-            put_numbers(&no, 2, res);
+    let view = View {
+        dataset: dataset_of(numbers),
+        distances,
+        settings,
+    };
+    match judge(view, list) {
+        Err(why) => refusal_code(why),
+        Ok(None) => {
+            copy_front(res, &[0, 0], 2);
             0
         }
-        Judged::Approved(widest) => {
-            let yes = [1, widest];
-            put_numbers(&yes, 2, res);
+        Ok(Some(widest)) => {
+            copy_front(res, &[1, widest], 2);
             0
         }
     }
@@ -263,10 +267,14 @@ pub fn tides_write(
     if res.len() < 1 {
         return 1;
     }
-    let written = study_file::write(dataset_of(numbers), distances, settings, file);
-    match written {
-        Written::Refused(why) => refusal_code(why),
-        Written::Done(size) => {
+    let view = View {
+        dataset: dataset_of(numbers),
+        distances,
+        settings,
+    };
+    match study_file::write(view, file) {
+        Err(why) => refusal_code(why),
+        Ok(size) => {
             res[0] = size as u32;
             0
         }

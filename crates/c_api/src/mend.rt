@@ -4,7 +4,7 @@ ghost use Rattle.c_records.specs.Record.{code};
 ghost use Rattle.c_api.specs.Api.{mend_verdict, mend_table, mend_result};
 
 use c_records::code::refusal_code;
-use metric_closure::{Closed, close};
+use metric_closure::close;
 
 // Lowers each distance of n rows of n to the least sum over any chain of tides: how many pairs were lowered goes into `res`.
 pub fn tides_mend(table: &mut [u32], n: usize, res: &mut [u32]) -> u32
@@ -15,10 +15,9 @@ pub fn tides_mend(table: &mut [u32], n: usize, res: &mut [u32]) -> u32
     if res.len() < 1 {
         return 1;
     }
-    let closed = close(table, n);
-    match closed {
-        Closed::Refused(why) => refusal_code(why),
-        Closed::Done(lowered) => {
+    match close(table, n) {
+        Err(why) => refusal_code(why),
+        Ok(lowered) => {
             res[0] = lowered as u32;
             0
         }

@@ -3,7 +3,9 @@ ghost use Rattle.std.specs.Prelude.{◌≡◌};
 ghost use Rattle.c_records.specs.Record.{lent, code};
 ghost use Rattle.c_api.specs.Api.{c_verdict, c_left, lacks_either, merge_of};
 
-use c_records::numbers::{RECORD_SIZE, dataset_of, store_outcome};
+use c_records::numbers::{RECORD_SIZE, dataset_of, store_answer};
+use merge::source::Sources;
+use validity::view::View;
 
 // A merge: the third dataset becomes the first and the second merged. Pair q is tide firsts[q] of the first and tide seconds[q] of the second.
 pub fn tides_merge(
@@ -35,11 +37,21 @@ pub fn tides_merge(
     if n2.len() < RECORD_SIZE {
         return 1;
     }
-    let first = dataset_of(n1);
-    let second = dataset_of(n2);
-    let into = dataset_of(numbers);
-    let outcome = merge::merge(
-        first, d1, s1, second, d2, s2, into, distances, settings, firsts, seconds,
-    );
-    store_outcome(numbers, outcome)
+    let sources = Sources {
+        first: View {
+            dataset: dataset_of(n1),
+            distances: d1,
+            settings: s1,
+        },
+        second: View {
+            dataset: dataset_of(n2),
+            distances: d2,
+            settings: s2,
+        },
+        firsts,
+        seconds,
+    };
+    let mut dataset = dataset_of(numbers);
+    let answer = merge::merge(&sources, &mut dataset, distances, settings);
+    store_answer(numbers, dataset, answer)
 }

@@ -1,22 +1,30 @@
 // Block with what its blocks cost, for C (document 02, 2.3: tariff for a trial).
-ghost use Rattle.std.specs.Prelude.{◌≡◌, ◌∷◌};
+ghost use Rattle.std.specs.Prelude.{◌≡◌, ◌<◌, ◌∷◌};
 ghost use Rattle.priced_blocks.specs.Calls.{prices_blocks};
 ghost use Rattle.c_records.specs.Record.{lent, code};
 ghost use Rattle.c_api.specs.Api.{places, blocks_verdict, blocks_left};
 
 use c_records::code::refusal_code;
 use c_records::numbers::{RECORD_SIZE, dataset_of};
-use c_records::rows::{least, put_columns, put_numbers};
+use c_records::rows::{least, put_columns};
 use priced_blocks::kernel::{Priced, price_core};
-use study::Blocked;
+use storage::copy_front;
+use study::Figures;
+use validity::view::View;
 
 // The numbers of an accepted tariff in one row.
-fn bill_row(blocks: u32, radius: u32, widest: u32, priced: Priced) -> [u32; 12]
-    ensures { result ≡ blocks ∷ radius ∷ widest ∷ priced.total ∷ priced.shares }
+fn bill_row(priced: Priced) -> [u32; 12]
+    requires { priced.figures.blocks < 4294967296 }
+    ensures { result ≡ priced.figures.blocks ∷ priced.figures.radius ∷ priced.figures.widest ∷ priced.total ∷ priced.shares }
 {
+    let Figures {
+        blocks,
+        radius,
+        widest,
+    } = priced.figures;
     let s = priced.shares;
     [
-        blocks,
+        blocks as u32,
         radius,
         widest,
         priced.total,
@@ -53,18 +61,24 @@ pub fn tides_tariff(
     if res.len() < 12 {
         return 1;
     }
+    let view = View {
+        dataset: dataset_of(numbers),
+        distances,
+        settings,
+    };
     let room = least(centres.len(), sizes.len(), diameters.len());
-    let computed = price_core(dataset_of(numbers), distances, settings, list, room);
-    let priced = computed.priced;
-    let answer = priced.answer;
-    let rows = computed.rows;
-    match answer {
-        Blocked::Refused(why) => refusal_code(why),
-        Blocked::Done(blocks, radius, widest) => {
-            put_columns(rows, blocks, centres, sizes, diameters);
-            let count = blocks as u32;
-            let bill = bill_row(count, radius, widest, priced);
-            put_numbers(&bill, 12, res);
+    match price_core(view, list, room) {
+        Err(why) => refusal_code(why),
+        Ok(computed) => {
+            let priced = computed.priced;
+            put_columns(
+                &computed.rows,
+                priced.figures.blocks,
+                centres,
+                sizes,
+                diameters,
+            );
+            copy_front(res, &bill_row(priced), 12);
             0
         }
     }

@@ -7,7 +7,8 @@ ghost use Rattle.dataset.specs.Calls.{opens_dataset, sets_minima, enters_tide, w
 ghost use Rattle.study_file.specs.Calls.{reads_file, writes_file};
 ghost use Rattle.blocking.specs.Calls.{centre_lists, all_three, finds_centres, makes_blocks, judges_list};
 ghost use Rattle.c_records.specs.Record.{lent, minima_at, code};
-ghost use Rattle.c_api.specs.Api.{lacks, c_verdict, c_left, c_output, c_result, places, blocks_verdict, blocks_left, mend_verdict, mend_table, mend_result, lacks_either, merge_of};
+ghost use Rattle.c_api.specs.Api.{lacks, c_verdict, c_left, c_output, c_result, places, blocks_verdict, blocks_left};
+ghost use Rattle.c_api.specs.Api.{mend_verdict, mend_table, mend_result, lacks_either, merge_of};
 ghost use Rattle.priced_blocks.specs.Calls.{prices_blocks};
 
 // Open: an empty dataset with k settings.

@@ -5,7 +5,7 @@ use Rattle.std.proofs.Math.Option.{some}
 use Rattle.lists.specs.Lists.{over}
 use Rattle.study.specs.Study.{Study}
 use Rattle.study.specs.Refusals.{number, accepted, refused}
-use Rattle.study.specs.Calls.{Figures}
+use Rattle.study.specs.declared.Figures.{Figures}
 use Rattle.access.specs.Calls.{Call, answer, output, after}
 use Rattle.access.specs.Calls.{lent as lent_to}
 use Rattle.blocking.specs.Calls.{figure_numbers, makes_blocks}

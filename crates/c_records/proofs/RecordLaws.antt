@@ -16,12 +16,12 @@ use Rattle.c_records.specs.Record.{Lent, record_size, minima_at, dataset_of, num
 -- ---- read
 
 -- as the code puts it together
-pub narrow_read : (l : List ℕ) {k : ℕ} {bytes : List ℕ} {M : Minima} {counts : List ℕ}
-    → k ≡ narrowed (get_or l 0 0) → bytes ≡ tabulate 9 (λ i. narrowed (get_or l (2 + i) 0))
+pub narrow_read : (l : List ℕ) {k n : ℕ} {bytes : List ℕ} {M : Minima} {counts : List ℕ}
+    → k ≡ narrowed (get_or l 0 0) → n ≡ get_or l 1 0 → bytes ≡ tabulate 9 (λ i. narrowed (get_or l (2 + i) 0))
     → M ≡ minima_at 0 bytes → counts ≡ tabulate 4 (λ i. get_or l (11 + i) 0)
-    → record { k = k; n = get_or l 1 0; minima = M; withdrawn = counts } ≡ narrow_dataset (dataset_of l)
+    → record { k = k; n = n; minima = M; withdrawn = counts } ≡ narrow_dataset (dataset_of l)
 unfolding narrow_dataset narrow_minima dataset_of minima_at tabulate
-narrow_read l p q e w = λ i. record { k = p i; n = get_or l 1 0; minima = (e ∙ ap (minima_at 0) q) i; withdrawn = w i }
+narrow_read l p z q e w = λ i. record { k = p i; n = z i; minima = (e ∙ ap (minima_at 0) q) i; withdrawn = w i }
 
 pub bytes_read : (f : ℕ → ℕ) {m : List ℕ} → m ≡ overwrite 9 f (replicate 9 0) → m ≡ tabulate 9 f
 unfolding overwrite

@@ -7,9 +7,9 @@ ghost use Rattle.narrowing.specs.Narrowing.{narrowed, narrow_dataset};
 ghost use Rattle.c_records.specs.Record.{record_size, minima_at, dataset_of, numbers_of, code};
 ghost use Rattle.c_records.specs.Records.{Storable};
 
-use crate::code::answer_code;
+use crate::code::refusal_code;
 use narrowing::narrow;
-use study::{Answer, Dataset, MAX_USERS, Minima, Outcome};
+use study::{Dataset, MAX_USERS, Minima, Refusal};
 
 // The numbers of a record: k, n, b0, b1 .. b8, and each user's withdrawals.
 pub const RECORD_SIZE: usize = 15;
@@ -20,10 +20,8 @@ fn minima_bytes(numbers: &[u16]) -> [u8; 9]
     ensures { result ≡ tabulate 9 (λ (i : ℕ). narrowed (get_or numbers.now (2 + i) 0)) }
 {
     let mut bytes = [0u8; 9];
-    let mut i: usize = 0;
-    while i < 9 {
-        bytes[i] = narrow(numbers[2 + i] as u32);
-        i += 1;
+    for i in 0..9 {
+        bytes[i] = narrow(u32::from(numbers[2 + i]));
     }
     bytes
 }
@@ -56,18 +54,11 @@ pub fn dataset_of(numbers: &[u16]) -> Dataset
     let minima = minima_of(&bytes);
     let withdrawn = counts_of(numbers);
     Dataset {
-        k: narrow(numbers[0] as u32),
-        n: numbers[1] as usize,
+        k: narrow(u32::from(numbers[0])),
+        n: usize::from(numbers[1]),
         minima,
         withdrawn,
     }
-}
-
-// A byte as a number of the record.
-fn wide(x: u8) -> u16
-    ensures { result ≡ x }
-{
-    x as u16
 }
 
 // The number at place i of a dataset's record.
@@ -76,21 +67,21 @@ fn number_at(dataset: Dataset, i: usize) -> u16
     ensures { result ≡ get_or (numbers_of dataset) i 0 }
 {
     if i == 0 {
-        return wide(dataset.k);
+        return u16::from(dataset.k);
     }
     if i == 1 {
         return dataset.n as u16;
     }
     let minima = dataset.minima;
     if i == 2 {
-        return wide(minima.b0);
+        return u16::from(minima.b0);
     }
     if 11 <= i {
         let counts = dataset.withdrawn;
         return counts[i - 11];
     }
     let b = minima.b;
-    wide(b[i - 3])
+    u16::from(b[i - 3])
 }
 
 // A record into the front of the numbers.
@@ -98,25 +89,20 @@ fn put_dataset(numbers: &mut [u16], dataset: Dataset)
     requires { (record_size ≤ length numbers.old) × (dataset.n < 65536) }
     ensures { numbers.new ≡ over (numbers_of dataset) numbers.old }
 {
-    let mut i: usize = 0;
-    while i < RECORD_SIZE {
+    for i in 0..RECORD_SIZE {
         numbers[i] = number_at(dataset, i);
-        i += 1;
     }
 }
 
 // The number that a call answers. An accepted call's record is written; a refused one writes nothing.
-pub fn store_outcome(numbers: &mut [u16], outcome: Outcome) -> u32
-    requires { Storable numbers.old (verdict_of outcome.answer) outcome.dataset }
-    ensures code { result ≡ code (verdict_of outcome.answer) }
-    ensures numbers { numbers.new
-        ≡ settled (verdict_of outcome.answer) (over (numbers_of outcome.dataset) numbers.old) numbers.old }
+pub fn store_answer(numbers: &mut [u16], dataset: Dataset, answer: Result<(), Refusal>) -> u32
+    requires { Storable numbers.old (verdict_of answer) dataset }
+    ensures code { result ≡ code (verdict_of answer) }
+    ensures numbers { numbers.new ≡ settled (verdict_of answer) (over (numbers_of dataset) numbers.old) numbers.old }
 {
-    let answer = outcome.answer;
-    let Answer::Done = answer else {
-        return answer_code(answer);
-    };
-    let dataset = outcome.dataset;
+    if let Err(why) = answer {
+        return refusal_code(why);
+    }
     put_dataset(numbers, dataset);
     0
 }

@@ -10,10 +10,10 @@ use Rattle.lists.specs.Lists.{tabulate, overwrite, over}
 use Rattle.lists.proofs.Tests.{split}
 use Rattle.lists.proofs.Tables.{get_d_tabulate, tabulate_ext, length_overwrite}
 use Rattle.study.specs.declared.Dataset.{Dataset}
-use Rattle.study.specs.Study.{Tide, Study, Contents, size, tide, distance}
+use Rattle.study.specs.Study.{Tide, Study, size, tide, distance}
 use Rattle.study.specs.Refusals.{number}
 use Rattle.study.proofs.StudyLaws.{distance_both_ways, distance_itself}
-use Rattle.validity.specs.Memory.{State, state_of, study_of, contents_of, tide_of}
+use Rattle.validity.specs.Memory.{State, study_of, contents_of, tide_of}
 use Rattle.validity.proofs.ValidityLaws.{study_size, study_tide, study_setting}
 use Rattle.metric_closure.specs.Closure.{closure, lowered_pairs}
 use Rattle.metric_closure.specs.Call.{entry, closed_table}
@@ -25,10 +25,8 @@ use Rattle.metric_closure.proofs.CallLaws.{closed_at, closed_fits}
 use Rattle.sheet_text.specs.Putting.{PutText}
 use Rattle.sheet_text.proofs.PuttingLaws.{puts_then, puts_as}
 use Rattle.study_text.specs.declared.Rule.TheVariants as RuleCase
-use Rattle.study_text.specs.declared.calls.Over.TheVariants as OverCase
-use Rattle.study_text.specs.declared.calls.Finished.{Finished}
-use Rattle.study_text.specs.Packing.{Report, done, refused_at, too_long, ended, text_of}
-use Rattle.study_text.specs.Reached.{Measuring, over_is, finished_of, Finishes}
+use Rattle.study_text.specs.Packing.{Report, done, refused_at, too_long, Turn, ended, text_of}
+use Rattle.study_text.specs.Reached.{Measuring}
 use Rattle.text_words.specs.Words.{newlines}
 use Rattle.closure_text.specs.Text.{lowered, closed_tide, closed_study, number_line, tide_line, study_text, lowered_line, closure_text}
 use Rattle.closure_text.specs.Text.{reported, printed, mend_answer, mend_leaves}
@@ -151,35 +149,23 @@ study_put pairs r settings table u v w = puts_then u (puts_then v w)
 
 -- ---- a text that came to its end on line l
 
-module _ (end : Finished) (d s : List ℕ) {l : ℕ} (e : end.over ≡ OverCase.End l) where
-  abbrev contents : Contents
-  contents = contents_of (state_of end.dataset d s)
-
-  at_end : ended contents l ≡ finished_of end d s
-  at_end = sym (ap (λ o. over_is o contents) e)
-
+module _ (s : State) (l : ℕ) where
   -- without room
   pub roomless : (bytes : List ℕ) → length bytes < 131072
-      → (refused_at l (number 1) ≡ reported (finished_of end d s) (length bytes)) × (bytes ≡ printed (finished_of end d s) bytes)
-  roomless bytes h =
-      let few = lt-ltb (length bytes) 131072 h in
-      let said : refused_at l (number 1) ≡ reported (ended contents l) (length bytes) = rw few in
-      let kept : bytes ≡ printed (ended contents l) bytes = rw few in
-      (said ∙ ap (λ t. reported t (length bytes)) at_end, kept ∙ ap (λ t. printed t bytes) at_end)
+      → (refused_at l (number 1) ≡ reported (ended (contents_of s) l) (length bytes)) × (bytes ≡ printed (ended (contents_of s) l) bytes)
+  roomless bytes h = let few = lt-ltb (length bytes) 131072 h in (rw few, rw few)
 
   -- the closure's text is put
-  pub put_ends : {m : ℕ} {new : List ℕ} (bytes : List ℕ) → 131072 ≤ length bytes → PutText bytes 0 (closure_text (study_of (state_of end.dataset d s))) m new
-      → (done m ≡ reported (finished_of end d s) (length bytes)) × (new ≡ printed (finished_of end d s) bytes)
+  pub put_ends : {m : ℕ} {new : List ℕ} (bytes : List ℕ) → 131072 ≤ length bytes → PutText bytes 0 (closure_text (study_of s)) m new
+      → (done m ≡ reported (ended (contents_of s) l) (length bytes)) × (new ≡ printed (ended (contents_of s) l) bytes)
   unfolding contents_of
   put_ends {m} {new} bytes h p =
-      let text = closure_text (study_of (state_of end.dataset d s)) in
+      let text = closure_text (study_of s) in
       let enough = le-ltb (length bytes) 131072 h in
       let ends : m ≡ length text = omega (arith, p.ends) in
-      let said : done (length text) ≡ reported (ended contents l) (length bytes) = rw enough in
-      let laid : over text bytes ≡ printed (ended contents l) bytes = rw enough in (
-        ap done ends ∙ said ∙ ap (λ t. reported t (length bytes)) at_end,
-        p.is ∙ ap (λ (k : ℕ). text ++ drop k bytes) ends ∙ laid ∙ ap (λ t. printed t bytes) at_end,
-      )
+      let said : done (length text) ≡ reported (ended (contents_of s) l) (length bytes) = rw enough in
+      let laid : over text bytes ≡ printed (ended (contents_of s) l) bytes = rw enough in
+      (ap done ends ∙ said, p.is ∙ ap (λ (k : ℕ). text ++ drop k bytes) ends ∙ laid)
 
 -- ---- any text
 
@@ -189,10 +175,9 @@ module _ (text : List ℕ) where
   unfolding mend_answer mend_leaves
   mend_long bytes h e = let long = lt-ltb 131072 (length text) h in (rw long (ap too_long e), rw long)
 
-  pub mend_read : {end : Finished} {d s : List ℕ} → Finishes RuleCase.Measured end d s (text_of RuleCase.Measured text) → length text ≤ 131072
-      → {t : Report} {new : List ℕ} (bytes : List ℕ) → (t ≡ reported (finished_of end d s) (length bytes)) × (new ≡ printed (finished_of end d s) bytes)
-      → (t ≡ mend_answer text (length bytes)) × (new ≡ mend_leaves text bytes)
+  pub mend_read : {u : Turn} → text_of RuleCase.Measured text ≡ u → length text ≤ 131072 → {t : Report} {new : List ℕ} (bytes : List ℕ)
+      → (t ≡ reported u (length bytes)) × (new ≡ printed u bytes) → (t ≡ mend_answer text (length bytes)) × (new ≡ mend_leaves text bytes)
   unfolding mend_answer mend_leaves
-  mend_read F h bytes (told, left) =
+  mend_read f h bytes (told, left) =
       let short = le-ltb 131072 (length text) h in
-      (rw short (told ∙ ap (λ u. reported u (length bytes)) F.is), rw short (left ∙ ap (λ u. printed u bytes) F.is))
+      (rw short (told ∙ ap (λ u. reported u (length bytes)) (sym f)), rw short (left ∙ ap (λ u. printed u bytes) (sym f)))

@@ -2,13 +2,11 @@
 use Prim.Native.Nat.{ℕ, ◌+◌, ◌-◌, ◌*◌, ◌≤◌, ◌<◌}
 use native.Mathlib.Omega.{arith}
 use native.Mathlib.Numerals.{add-one}
-use mathlib.Core.Path.{◌≡◌, refl, sym, ap, ap₂, ◌∙◌, subst}
-use mathlib.Core.Logic.{⊎_elim}
-use mathlib.Core.List.{List, [], ◌∷◌, ◌++◌, flat_map, append-nil, append_assoc}
-use lib.ListN.{length, take, drop, get_or, replicate, length-take}
+use mathlib.Core.Path.{◌≡◌, refl, sym, ap, ap₂, ◌∙◌}
+use mathlib.Core.List.{List, [], ◌∷◌, ◌++◌, flat_map, append_assoc}
+use lib.ListN.{length, take, drop, get_or, length-take}
 use lib.Seq.{get_or-take}
-use Rattle.lists.specs.Lists.{tabulate, overwrite}
-use Rattle.lists.proofs.Tests.{split}
+use Rattle.lists.specs.Lists.{tabulate}
 use Rattle.lists.proofs.Members.{flat_map_append, flat_map_one}
 use Rattle.lists.proofs.Tables.{tabulate_suc, tabulate_is}
 use Rattle.sheet_text.specs.Text.{ascii, decimal, spaced}
@@ -38,21 +36,9 @@ pub line_put : (x : ℕ) (rest : List ℕ) {l a b c : List ℕ} {at p q end : �
 unfolding number_line
 line_put x rest u v w = puts_then (puts_then u v) w
 
--- eight places written over zeros
-pub all_eight : {b row : List ℕ} → length b ≡ 8 → row ≡ overwrite 8 (λ i. get_or b i 0) (replicate 8 0) → row ≡ b
-unfolding overwrite
-all_eight {b} long e =
-    e ∙ append-nil (tabulate 8 (λ i. get_or b i 0)) ∙ tabulate_is 8 (λ i. get_or b i 0) 0 b long (λ i h. refl)
-
--- a list in range, place by place
+-- a list in range
 pub range_none : (l : List ℕ) → InRange 0 l
 range_none l = record { near = λ p h. absurd (omega arith) }
-
-pub range_more : {i : ℕ} {l : List ℕ} → InRange i l → get_or l i 0 ≤ 1048575 → InRange (i + 1) l
-range_more {i} {l} R h =
-    record {
-      near = λ p k. ⊎_elim (R.near p) (λ j. let e : i ≡ p = omega arith in subst (λ q. get_or l q 0 ≤ 1048575) e h) (split p i);
-    }
 
 -- the front of one
 pub range_front : {n : ℕ} {l : List ℕ} (k : ℕ) → InRange n l → k ≤ n → InRange (length (take k l)) (take k l)

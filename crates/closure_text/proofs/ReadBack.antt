@@ -18,7 +18,6 @@ use Rattle.lists.proofs.Scans.{between_in}
 use Rattle.lists.proofs.Tables.{tabulate_is}
 use Rattle.study.specs.Minima.{MinimaFit}
 use Rattle.study.specs.Study.{Tide, Study, Contents, with_tides, size, no_tide, tide, distance, Valid}
-use Rattle.study.specs.declared.Refusal.TheVariants as RefusalCase
 use Rattle.study.specs.Refusals.{number, Verdict, accepted, refused, first_of}
 use Rattle.study.specs.Calls.{open_reasons, opened, opening, with_minima, setting_minima, violations, duplicated, holds_duplicate, enter_reasons, entering}
 use Rattle.study.specs.Calls.{entered as with_tide}
@@ -33,12 +32,8 @@ use Rattle.sheet_text.specs.Text.{decimal, spaced}
 use Rattle.text_words.specs.declared.Cursor.{Cursor}
 use Rattle.text_words.specs.Words.{ends_word, word_of}
 use Rattle.study_text.specs.declared.Rule.TheVariants as RuleCase
-use Rattle.study_text.specs.declared.Packed.TheVariants as PackedCase
-use Rattle.study_text.specs.declared.calls.Over.{Over}
-use Rattle.study_text.specs.declared.calls.Over.TheVariants as OverCase
 use Rattle.study_text.specs.Packing.{refused_at, stop, numbers_of, called, minima_from, opening_of, minima_of, head_of, tide_of, going, ended, stopped, entered}
-use Rattle.study_text.specs.Packing.{turn_from, turn_of, further, turns_of, text_of}
-use Rattle.study_text.specs.Reached.{over_is}
+use Rattle.study_text.specs.Packing.{Turn, turn_from, turn_of, further, turns_of, text_of}
 use Rattle.study_text.proofs.Turns.{turns_over}
 use Rattle.closure_text.specs.Text.{number_line, tide_line, study_text, lowered_line}
 use Rattle.closure_text.specs.Theorems.{fresh}
@@ -259,21 +254,21 @@ after_turn {text} {t} {H} A word tide =
     }
 
 -- a turn that ends the text, or stops it; no turn comes after it
-after_last : {text : List ℕ} {t : ℕ} {H : Contents} {rest : List ℕ} (A : After text t H rest) (o : Over) → t ≤ 120
-    → turn_of RuleCase.Entered text H A.to ≡ over_is o H → text_of RuleCase.Entered text ≡ over_is o H
+after_last : {text : List ℕ} {t : ℕ} {H : Contents} {rest : List ℕ} (A : After text t H rest) {u : Turn} → t ≤ 120
+    → further u (turn_of RuleCase.Entered text) ≡ u → turn_of RuleCase.Entered text H A.to ≡ u → text_of RuleCase.Entered text ≡ u
 unfolding text_of turns_of
-after_last {text} {t} {H} A o h e =
+after_last {text} {t} A h still e =
     let all : 120 - t + suc t ≡ 121 = omega arith in
     let last = ap (λ u. further u (turn_of RuleCase.Entered text)) A.is ∙ e in
-    sym (turns_over RuleCase.Entered text (entered (head_of text)) o H (suc t) (120 - t) (sym last)
-    ∙ ap (λ k. turns_of RuleCase.Entered text k (entered (head_of text))) all)
+    sym (ap (λ k. turns_of RuleCase.Entered text k (entered (head_of text))) all)
+    ∙ turns_over RuleCase.Entered text (entered (head_of text)) (suc t) (120 - t) still last
 
 -- the text's end
 after_end : {text : List ℕ} {t : ℕ} {H : Contents} → After text t H ((10 ∷ []) ++ []) → t ≤ 120 → (l : ℕ) × (text_of RuleCase.Entered text ≡ ended H l)
 unfolding turn_of
 after_end {text} {t} {H} A h =
     let l = (moved A.to (10 ∷ [])).line in
-    (l, after_last A (OverCase.End l) h (ap (turn_from RuleCase.Entered text H) (next_none newline_gap A.left)))
+    (l, after_last A {u = ended H l} h refl (ap (turn_from RuleCase.Entered text H) (next_none newline_gap A.left)))
 
 -- what is said of a duplicate
 abbrev Refused15 : List ℕ → Type 0
@@ -288,7 +283,7 @@ after_refused {text} {H = H} A h word tide =
     let N = word A.to A.left in
     let R = tide N.to N.left in (
       R.0,
-      after_last A (OverCase.Stopped (PackedCase.Refused R.0 RefusalCase.Duplicate)) h
+      after_last A {u = stopped (refused_at R.0 (number 15))} h refl
           (ap (turn_from RuleCase.Entered text H) N.is ∙ ap entered R.1),
     )
 

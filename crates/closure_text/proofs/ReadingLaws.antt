@@ -10,6 +10,7 @@ use lib.Dec.{T, eqb}
 use lib.ListN.{length, drop, length-append}
 use lib.Seq.{drop-drop, drop-append_seam, append_snoc}
 use borrow.Author.Tests.{le-leb, ne_eqb}
+use Rattle.std.specs.Prelude.{Ok}
 use Rattle.lists.specs.Lists.{all_of}
 use Rattle.lists.proofs.Tests.{split, between-T, and_T, T-left, T-right, T_true, T_false}
 use Rattle.lists.proofs.Members.{all_at, all_of_lem, all_append}
@@ -18,7 +19,6 @@ use Rattle.sheet_text.specs.Text.{ascii, digit as byte_of, decimal, spaced}
 use Rattle.sheet_text.proofs.NumberLaws.{decimal_one, decimal_more}
 use Rattle.text_words.specs.declared.Cursor.{Cursor}
 use Rattle.text_words.specs.declared.Word.TheVariants as WordCase
-use Rattle.text_words.specs.declared.Numeral.TheVariants as NumeralCase
 use Rattle.text_words.specs.Words.{ends_word, begins, comment_after, past, start_of, word_of, digit, with_digit, value_from, numeral_of, word_at, next_of}
 use Rattle.study_text.specs.Packing.{Got, got, number_of, numbers_of, onward}
 use Rattle.closure_text.specs.Text.{lowered_line}
@@ -70,7 +70,7 @@ spells_to (suc n) x h k =
 pub decimal_spells : (x : ℕ) → x < 4294967296 → Spells x (decimal x)
 decimal_spells x h = spells_to 9 x (omega arith) h
 
-numeral_is : {x : ℕ} {bs : List ℕ} → x < 4294967296 → Spells x bs → numeral_of bs ≡ NumeralCase.Number x
+numeral_is : {x : ℕ} {bs : List ℕ} → x < 4294967296 → Spells x bs → numeral_of bs ≡ Ok x
 unfolding numeral_of
 numeral_is {x} {bs} h s = rw (T_true (all_of digit bs) s.digits, s.value, le-leb x 4294967295 (omega arith))
 
@@ -95,7 +95,7 @@ start_digits c [] rest t h = absurd (omega arith)
 start_digits c (b ∷ bs) rest t h = rw (digit_goes b (T-left (digit b) (all_of digit bs) t))
 
 word_at_lem : (text : List ℕ) (c : Cursor) {x : ℕ} (bs : List ℕ) → word_of (drop c.at text) ≡ bs → x < 4294967296 → Spells x bs
-    → word_at text c ≡ WordCase.Number x (record { at = c.at + length bs; line = c.line })
+    → word_at text c ≡ Ok (WordCase.Number x (record { at = c.at + length bs; line = c.line }))
 unfolding word_at
 word_at_lem text c bs e h s = let some_byte = s.nonempty in rw (e, ne_eqb (length bs) 0 (λ z. omega arith), numeral_is h s)
 
@@ -168,7 +168,7 @@ left_past text n bs rest e = sym (drop-drop (length bs) n text) ∙ ap (drop (le
 -- x stands next, and this is left after it
 pub record NextIs (text : List ℕ) (c : Cursor) (x : ℕ) (rest : List ℕ) : Type 0 where
   pub to : Cursor
-  pub is : next_of text c ≡ WordCase.Number x to
+  pub is : next_of text c ≡ Ok (WordCase.Number x to)
   pub left : Left text to rest
 
 module _ {gap : List ℕ} (G : Gap gap) {text : List ℕ} {c : Cursor} where
@@ -190,7 +190,7 @@ module _ {gap : List ℕ} (G : Gap gap) {text : List ℕ} {c : Cursor} where
       }
 
   -- no word is left
-  pub next_none : Left text c (gap ++ []) → next_of text c ≡ WordCase.End (moved c gap).line
+  pub next_none : Left text c (gap ++ []) → next_of text c ≡ Ok (WordCase.End (moved c gap).line)
   unfolding next_of word_at start_of word_of
   next_none L =
       let starts : start_of false c (drop c.at text) ≡ moved c gap = ap (start_of false c) L.bytes ∙ G.passed c [] in

@@ -4,10 +4,9 @@ use native.Mathlib.Omega.{arith}
 use mathlib.Core.Path.{◌≡◌, ◌∙◌}
 use mathlib.Core.List.{List}
 use borrow.Author.Tests.{lt-ltb, le-ltb}
+use Rattle.std.specs.Prelude.{Result, Ok, Err}
 use Rattle.study.specs.Limits.{cell}
 use Rattle.study.specs.Refusals.{value}
-use Rattle.metric_closure.specs.declared.Closed.{Closed}
-use Rattle.metric_closure.specs.declared.Closed.TheVariants as ClosedCase
 use Rattle.metric_closure.specs.Closure.{lowered_pairs}
 use Rattle.metric_closure.specs.Call.{entry, closed_table, close_answer, close_leaves, closed_of}
 use Rattle.metric_closure.specs.Theorems.{Closable}
@@ -34,19 +33,19 @@ module _ (d : List ℕ) (i j : ℕ) where
 
 -- ---- the closure of a table that no reason refuses
 
-module _ {n : ℕ} {l : List ℕ} (a : Closed) (C : Closable n l) (e : closed_of a ≡ close_answer n l) where
+module _ {n : ℕ} {l : List ℕ} (a : Result ℕ Refusal) (C : Closable n l) (e : closed_of a ≡ close_answer n l) where
   -- it answers a number
   told : closed_of a ≡ value (lowered_pairs n (entry n l))
   told = e ∙ (for_call n l).answer C
 
-  pub told_pairs : {m : ℕ} → a ≡ ClosedCase.Done m → m ≡ lowered_pairs n (entry n l)
+  pub told_pairs : {m : ℕ} → a ≡ Ok m → m ≡ lowered_pairs n (entry n l)
   told_pairs h = let t = told in cc
 
   -- of 32 bits
-  pub pairs_few : {m : ℕ} → a ≡ ClosedCase.Done m → m < 4294967296
+  pub pairs_few : {m : ℕ} → a ≡ Ok m → m < 4294967296
   pairs_few h = omega (arith, told_pairs h, lowered_few n (entry n l), few_places n C.few)
 
-  pub never_refused : {A : Type 0} {r : Refusal} → a ≡ ClosedCase.Refused r → A
+  pub never_refused : {A : Type 0} {r : Refusal} → a ≡ Err r → A
   never_refused h = let t = told in absurd (let z : ◌≡◌ {A = ℕ} 0 1 = cc in omega arith)
 
   pub closed_left : {new : List ℕ} → new ≡ close_leaves n l → new ≡ closed_table n l

@@ -2,6 +2,7 @@
 use Prim.Native.Nat.{ℕ, zero, suc}
 use mathlib.Core.Path.{◌≡◌, refl, subst}
 use mathlib.Core.List.{List}
+use Rattle.std.specs.Prelude.{Result, Ok, Err}
 use Rattle.study.specs.Study.{Contents, size, MeasuredStudy}
 use Rattle.study.specs.Refusals.{Verdict, accepted, refused, first_of}
 use Rattle.study.specs.Theorems.{ValidContents}
@@ -10,6 +11,7 @@ use Rattle.study.proofs.CallLaws.{opening_valid, minima_valid, valid_measured, m
 use Rattle.text_words.specs.declared.Cursor.{Cursor}
 use Rattle.text_words.specs.declared.Word.{Word}
 use Rattle.text_words.specs.declared.Word.TheVariants as WordCase
+use Rattle.text_words.specs.declared.WordError.{WordError}
 use Rattle.text_words.specs.Words.{next_of}
 use Rattle.study_text.specs.declared.Rule.TheVariants as RuleCase
 use Rattle.study_text.specs.Packing.{Got, got, stop, onward, called, number_of, numbers_of, minima_from, opening_of, minima_of, head_of, tide_of}
@@ -81,11 +83,10 @@ turn_holds : (text : List ℕ) (H : Contents) (c : Cursor) → Measured H → Ho
 unfolding turn_of
 turn_holds text H c ok = by (next_of text c)
   where
-    by : (w : Word) → Holds (turn_from RuleCase.Measured text H w)
-    by (WordCase.Number x d) = holds_entered (tide_of RuleCase.Measured text H x d) (tide_measured text H x d ok)
-    by (WordCase.End l) = ok
-    by (WordCase.Bad l) = tt
-    by (WordCase.TooLarge l) = tt
+    by : (w : Result Word WordError) → Holds (turn_from RuleCase.Measured text H w)
+    by (Ok (WordCase.Number x d)) = holds_entered (tide_of RuleCase.Measured text H x d) (tide_measured text H x d ok)
+    by (Ok (WordCase.End l)) = ok
+    by (Err e) = tt
 
 further_holds : (text : List ℕ) (t : Turn) → Holds t → Holds (further t (turn_of RuleCase.Measured text))
 further_holds text (going H c) m = turn_holds text H c m

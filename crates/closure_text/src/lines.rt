@@ -12,13 +12,6 @@ ghost use Rattle.closure_text.specs.Rows.{tide_at, Printable, PrintableTable};
 use sheet_text::putting::{put_byte, put_bytes, put_named, put_number};
 use study::{MAX_SETTINGS, Minima};
 
-// A byte as a number of a line.
-fn wide(x: u8) -> u32
-    ensures { (result ≡ x) × (result < 256) }
-{
-    x as u32
-}
-
 // Numbers, a blank before each.
 fn put_rest(out: &mut [u8], at: usize, rest: &[u32]) -> usize
     requires { Printable rest.now at out.old }
@@ -26,11 +19,9 @@ fn put_rest(out: &mut [u8], at: usize, rest: &[u32]) -> usize
         × PutText out.old at (flat_map spaced rest.now) result out.new }
 {
     let mut end = at;
-    let mut i: usize = 0;
-    while i < rest.len() {
+    for i in 0..rest.len() {
         let after_blank = put_byte(out, end, b' ');
         end = put_number(out, after_blank, rest[i]);
-        i += 1;
     }
     end
 }
@@ -59,13 +50,7 @@ pub fn put_lowered(out: &mut [u8], pairs: u32) -> usize
 fn wide_minima(b: [u8; MAX_SETTINGS]) -> [u32; MAX_SETTINGS]
     ensures { (result ≡ b) × InRange max_settings result }
 {
-    let mut row = [0u32; MAX_SETTINGS];
-    let mut i: usize = 0;
-    while i < MAX_SETTINGS {
-        row[i] = wide(b[i]);
-        i += 1;
-    }
-    row
+    b.map(u32::from)
 }
 
 // k, and the minima of as many settings.
@@ -76,9 +61,9 @@ pub fn put_head(out: &mut [u8], at: usize, k: u8, minima: Minima) -> usize
 {
     let b = minima.b;
     let row = wide_minima(b);
-    let settings = k as usize;
-    let after_k = put_line(out, at, wide(k), &row[..0]);
-    put_line(out, after_k, wide(minima.b0), &row[..settings])
+    let settings = usize::from(k);
+    let after_k = put_line(out, at, u32::from(k), &row[..0]);
+    put_line(out, after_k, u32::from(minima.b0), &row[..settings])
 }
 
 // The line of tide t.
@@ -89,7 +74,7 @@ fn put_tide(out: &mut [u8], at: usize, settings: &[u8], table: &[u32], n: usize,
         × PutText out.old at (tide_line (tide_at n settings.now table.now t)) result out.new }
 {
     let start = t * n;
-    put_line(out, at, wide(settings[t]), &table[start..start + t])
+    put_line(out, at, u32::from(settings[t]), &table[start..start + t])
 }
 
 // A line for each tide.
@@ -100,10 +85,8 @@ pub fn put_tides(out: &mut [u8], at: usize, settings: &[u8], table: &[u32], n: u
         (flat_map tide_line (tabulate n (tide_at n settings.now table.now))) result out.new }
 {
     let mut end = at;
-    let mut t: usize = 0;
-    while t < n {
+    for t in 0..n {
         end = put_tide(out, end, settings, table, n, t);
-        t += 1;
     }
     end
 }

@@ -7,7 +7,7 @@ ghost use Rattle.metric_closure.specs.Call.{entry, closed_table};
 ghost use Rattle.metric_closure.specs.Theorems.{Closable};
 ghost use Rattle.closure_text.specs.Rows.{lower_cell};
 
-use metric_closure::{Closed, close};
+use metric_closure::close;
 use study::MAX_TIDES;
 
 // The distance of two tides, from the later one's row.
@@ -30,11 +30,8 @@ pub fn fill_table(table: &mut [u32], distances: &[u32], n: usize)
     ensures { table.new
         ≡ overwrite (n * n) (λ p. lower_cell distances.now (p / n) (p % n)) table.old }
 {
-    let size = n * n;
-    let mut p: usize = 0;
-    while p < size {
+    for p in 0..n * n {
         table[p] = stored_distance(distances, p / n, p % n);
-        p += 1;
     }
 }
 
@@ -43,9 +40,8 @@ pub fn close_table(table: &mut [u32], n: usize) -> u32
     requires { Closable n table.old }
     ensures { (result ≡ lowered_pairs n (entry n table.old)) × (table.new ≡ closed_table n table.old) }
 {
-    let closed = close(table, n);
-    match closed {
-        Closed::Done(lowered) => lowered as u32,
-        Closed::Refused(_) => 0,
+    match close(table, n) {
+        Ok(lowered) => lowered as u32,
+        Err(_) => 0,
     }
 }

@@ -14,8 +14,8 @@ use Rattle.lists.proofs.Tests.{split}
 use Rattle.study.specs.Limits.{cell}
 use Rattle.study.specs.declared.Minima.{Minima}
 use Rattle.study.specs.declared.Dataset.{Dataset}
-use Rattle.study.specs.declared.Answer.{Answer}
-use Rattle.study.specs.declared.Answer.TheVariants.{Done}
+use Rattle.std.specs.Prelude.{Option, Some, None, Result, Ok}
+use Rattle.study.specs.declared.Refusal.{Refusal}
 use Rattle.study.specs.Study.{Study, size, tide, distance, valid_minima}
 use Rattle.study.specs.Refusals.{Numbered, number, seven, Verdict, accepted, refused, verdict_of, first_of}
 use Rattle.study.specs.Refusals.{is_user}
@@ -32,8 +32,6 @@ use Rattle.triangle.specs.Pairs.{violation_of}
 use Rattle.triangle.proofs.PairLaws.{found_nothing, found_pair, violations_same}
 use Rattle.storage.proofs.PlaceLaws.{cleared_distances, cleared_settings, entered_distances, entered_settings, withdrawn_distances, withdrawn_settings}
 use Rattle.storage.specs.Places.{with_row, moved_distance, moved_setting}
-use Rattle.triangle.specs.declared.Violation.{Violation}
-use Rattle.triangle.specs.declared.Violation.TheVariants as ViolationCase
 use Rattle.access.specs.Calls.{answer, made, after}
 use Rattle.access.specs.Passed.{Passed}
 use Rattle.access.proofs.AccessLaws.{one_user, user_known, user_place, passed_by, unmoved, leaves, source_short, source_own, update_own, update_accepted}
@@ -184,7 +182,7 @@ module _ (s : State) (setting : ℕ) (row : List ℕ) where
           enter_6 f = enter_own (refused (number 6)) (rw (past_22, past_4, kind, f))
 
   -- past 22, 4, 5 and 6
-  module _ (A : EnterTested s setting row) {r : Violation} (e : r ≡ violation_of (violations (cell s.distances) (length row) new)) where
+  module _ (A : EnterTested s setting row) {r : Option (ℕ × ℕ)} (e : r ≡ violation_of (violations (cell s.distances) (length row) new)) where
     abbrev broken : List Pair
     broken = violations (distance S) (size S) new
 
@@ -205,21 +203,21 @@ module _ (s : State) (setting : ℕ) (row : List ℕ) where
         ∙ duplicated_same (length row) setting (λ i. (tide S i).setting) (λ i. get_or s.settings i 0) new new
         (λ i l. study_setting s i (omega arith)) (λ i l. refl)
 
-    pub enter_7 : (i j : ℕ) → r ≡ ViolationCase.Pair i j → refused (seven i j) ≡ answer s (enters_tide setting row)
+    pub enter_7 : (i j : ℕ) → r ≡ Some (i, j) → refused (seven i j) ≡ answer s (enters_tide setting row)
     unfolding enter_reasons first_of study_of
     enter_7 i j q =
         let f = found_pair broken i j (same ∙ q) in
         enter_own A.passed (refused (seven i j))
         (rw (past_22 A.passed A.room, past_4 A.passed A.room A.long, A.kind, A.row_fits, f.0) (ap refused f.1))
 
-    pub enter_15 : {v : Verdict} → r ≡ ViolationCase.Nothing → v ≡ duplicate_answer s.settings setting row → v ≡ answer s (enters_tide setting row)
+    pub enter_15 : {v : Verdict} → r ≡ None → v ≡ duplicate_answer s.settings setting row → v ≡ answer s (enters_tide setting row)
     unfolding enter_reasons first_of study_of duplicate_answer
     enter_15 q p =
         let none = found_nothing broken (same ∙ q) in
         p ∙ enter_own A.passed _
         (rw (past_22 A.passed A.room, past_4 A.passed A.room A.long, A.kind, A.row_fits, none, same_duplicate))
 
-  pub enter_accepted : {a : Answer} → a ≡ Done → verdict_of a ≡ answer s (enters_tide setting row) → EnterAccepted s setting row
+  pub enter_accepted : {a : Result Unit Refusal} {done : Unit} → a ≡ Ok done → verdict_of a ≡ answer s (enters_tide setting row) → EnterAccepted s setting row
   unfolding enters_tide made contents_of
   enter_accepted e f =
       let q : accepted ≡ answer s (enters_tide setting row) = sym (ap verdict_of e) ∙ f in
@@ -274,7 +272,7 @@ module _ (s : State) (u t : ℕ) where
       unfolding withdraw_reasons first_of contents_of
       withdraw_done h = withdraw_own accepted (rw (numbers true held, lt-leb 65535 (count_of s.dataset.withdrawn u) h))
 
-  pub withdraw_accepted : {a : Answer} → a ≡ Done → verdict_of a ≡ answer s (withdraws_tide u t) → WithdrawAccepted s u t
+  pub withdraw_accepted : {a : Result Unit Refusal} {done : Unit} → a ≡ Ok done → verdict_of a ≡ answer s (withdraws_tide u t) → WithdrawAccepted s u t
   unfolding withdraws_tide made contents_of
   withdraw_accepted e f =
       let q : accepted ≡ answer s (withdraws_tide u t) = sym (ap verdict_of e) ∙ f in

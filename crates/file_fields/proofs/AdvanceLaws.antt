@@ -1,23 +1,22 @@
--- What a caller knows of a progress. Assumes nothing.
+-- What the answers of Read's steps are and are not. Assumes nothing.
 use Prim.Native.Nat.{ℕ}
 use native.Mathlib.Omega.{arith}
-use mathlib.Core.Path.{◌≡◌, sym, ◌∙◌, subst}
+use mathlib.Core.Path.{◌≡◌, sym, ◌∙◌}
+use Rattle.std.specs.Prelude.{Result, Ok, Err}
 use Rattle.study.specs.declared.Refusal.{Refusal}
 use Rattle.bit_reader.specs.declared.Place.{Place}
-use Rattle.bit_reader.specs.Fields.{BitsRead}
-use Rattle.file_fields.specs.declared.progress.Progress.{Progress}
-use Rattle.file_fields.specs.declared.progress.Progress.TheVariants as ProgressCase
 use Rattle.file_fields.specs.Advance.{ReadTo}
 
-pub same_place : {p q : Place} → ProgressCase.To p ≡ ProgressCase.To q → p ≡ q
-same_place e = cc
+module _ {A : Type 0} where
+  pub never_err : {x : A} {why : Refusal} → Ok x ≡ Err why → ⊥
+  never_err e = let z : ◌≡◌ {A = ℕ} 0 1 = cc in omega arith
 
-pub never_refused : {p : Place} {why : Refusal} → ProgressCase.To p ≡ ProgressCase.Refused why → ⊥
-never_refused e = let z : ◌≡◌ {A = ℕ} 0 1 = cc in omega arith
+  pub same_ok : {x y : A} → ◌≡◌ {A = Result A Refusal} (Ok x) (Ok y) → x ≡ y
+  same_ok e = cc
 
-module _ {n : ℕ} {r : Progress} (R : ReadTo n r) where
-  pub read_at : {p : Place} → r ≡ ProgressCase.To p → BitsRead p n
-  read_at e = subst (λ q. BitsRead q n) (same_place (sym R.is ∙ e)) R.here
+  pub same_err : {why other : Refusal} → ◌≡◌ {A = Result A Refusal} (Err why) (Err other) → why ≡ other
+  same_err e = cc
 
-  pub read_on : {why : Refusal} → r ≡ ProgressCase.Refused why → ⊥
-  read_on e = never_refused (sym R.is ∙ e)
+-- what was read is no refusal
+pub read_on : {n : ℕ} {r : Result Unit Refusal} {p : Place} {why : Refusal} → ReadTo n r p → r ≡ Err why → ⊥
+read_on R e = never_err (sym R.is ∙ e)

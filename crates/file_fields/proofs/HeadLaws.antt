@@ -5,19 +5,18 @@ use mathlib.Core.Path.{◌≡◌, refl, sym, ap, ap₂, ◌∙◌, subst}
 use mathlib.Core.Logic.{inl, inr}
 use mathlib.Core.Bool.{Bool, true, false, cond, not, ◌&&◌, ◌||◌}
 use mathlib.Core.List.{List, ◌++◌}
-use lib.Dec.{ltb, eqb, lt→ltb, lit<}
+use lib.Dec.{ltb, eqb, lt→ltb}
 use lib.Arith.{le→nltb}
 use lib.ListN.{length, drop, replicate}
 use borrow.Author.Tests.{eq-eqb, ne_eqb, eqb-true, not-true, not-false}
+use Rattle.std.specs.Prelude.{Result, Ok, Err}
 use Rattle.lists.specs.Lists.{between, tabulate, overwrite}
 use Rattle.lists.proofs.Tests.{T_true, T_false}
 use Rattle.study.specs.declared.Minima.{Minima}
 use Rattle.study.specs.declared.Dataset.{Dataset}
 use Rattle.study.specs.declared.Refusal.{Refusal}
-use Rattle.study.specs.declared.Refusal.TheVariants as RefusalCase
-use Rattle.study.specs.declared.Answer.TheVariants.{Done, Refused}
 use Rattle.study.specs.Study.{size, valid_minima}
-use Rattle.study.specs.Refusals.{number, Verdict, accepted, refused, verdict_of, numbered, first_of}
+use Rattle.study.specs.Refusals.{number, Verdict, accepted, refused, numbered, first_of}
 use Rattle.file_format.specs.Bits.{bits_at}
 use Rattle.file_format.specs.File.{new_mark, old_mark, counts_end, bit_length, byte_length, counts_under, mark_of, counts_in, counts_at}
 use Rattle.file_format.specs.File.{minima_at, decoded, head_reasons}
@@ -29,9 +28,9 @@ use Rattle.bit_reader.proofs.FieldLaws.{bits_same}
 use Rattle.validity.specs.Memory.{set_k, set_size, set_minima, set_counts, record_of}
 use Rattle.lists.proofs.Scans.{between_in}
 use Rattle.file_fields.proofs.Lengths.{length_sum}
-use Rattle.file_fields.specs.declared.head.Start.TheVariants as StartCase
-use Rattle.file_fields.specs.declared.head.HeadRead.{HeadRead}
-use Rattle.file_fields.specs.Heading.{MarkRead, Marked, Begun, StartGot, count_at, minimum_at, RecordBegins, HeadRecord, HeadGot}
+use Rattle.file_fields.specs.declared.head.Start.{Start}
+use Rattle.file_fields.proofs.AdvanceLaws.{never_err, same_ok, same_err}
+use Rattle.file_fields.specs.Heading.{MarkRead, Marked, Begun, StartGot, count_at, minimum_at, RecordBegins, RecordRead, HeadRecord, HeadGot}
 
 -- ---- the minima and the record
 
@@ -51,18 +50,25 @@ unfolding counts_at overwrite
 counts_read s {c} e f =
     f ∙ ap (λ ys. tabulate c (count_at s) ++ ys) (drop_replicate 0 c 4) ∙ ap (λ x. tabulate x (count_at s) ++ replicate (4 - x) 0) e
 
-pub record_read : {s : List ℕ} {c k n : ℕ} {p : Place} → RecordBegins s c k n p → (r : Dataset) {ws : List ℕ} {M : Minima} {q : Place}
-    → ws ≡ counts_at s → M ≡ minima_at s k → BitsRead q (counts_end (counts_in s) + 7 * k)
-    → HeadRecord s r (set_k k (set_size n (set_minima M (set_counts ws r)))) q
+pub record_read : {s : List ℕ} {c k n : ℕ} {p : Place} → RecordBegins s c k n p → {ws : List ℕ} {M : Minima} {q : Place} → ws ≡ counts_at s
+    → M ≡ minima_at s k → BitsRead q (counts_end (counts_in s) + 7 * k) → RecordRead s (Ok (record { k = k; n = n; minima = M; withdrawn = ws })) q
 unfolding record_of decoded bit_length
-record_read {s} {c} {k} {n} R r {ws} {M} counts e here =
+record_read {s} {c} {k} {n} R {ws} {M} counts e here =
     let B = R.begun in
     let f : M ≡ minima_at s (bits_at s 15 4) = e ∙ ap (minima_at s) B.k_is in
     let tides : n ≡ size (decoded s).study = B.tides ∙ sym (decoded_size s) in
     record {
-      is = λ i. set_k (B.k_is i) (set_size (tides i) (set_minima (f i) (set_counts (counts i) r)));
-      first = bits_same here (omega (arith, B.k_is));
+      dataset = record { k = k; n = n; minima = M; withdrawn = ws };
+      is = refl;
+      gives = record {
+        is = λ r i. set_k (B.k_is i) (set_size (tides i) (set_minima (f i) (set_counts (counts i) r)));
+        first = bits_same here (omega (arith, B.k_is));
+      };
     }
+
+-- the record that was read
+pub record_got : {s : List ℕ} {r : Result Dataset Refusal} {p : Place} {next : Dataset} → RecordRead s r p → r ≡ Ok next → HeadRecord s next p
+record_got {s} {p = p} R e = subst (λ (x : Dataset). HeadRecord s x p) (same_ok (sym R.is ∙ e)) R.gives
 
 -- ---- the reasons, in order
 
@@ -79,88 +85,67 @@ past_12 {s} M = T_false _ ((unless-T (mark_of s) new_mark (length s) 12).1 M.twe
 past_10 : (s : List ℕ) {n : ℕ} → n ≡ bits_at s 8 7 → n ≤ 120 → ltb 120 (bits_at s 8 7) ≡ false
 past_10 s e h = T_false (ltb 120 (bits_at s 8 7)) (le→nltb 120 (bits_at s 8 7) (subst (λ z. z ≤ 120) e h))
 
--- before the first bit none is read
-pub first_place : BitsRead (record { byte = 0; bit = 0 }) 0
-first_place = record { below = lit< tt; count = refl }
-
 -- the start is refused, or read
-module _ {s : List ℕ} where
-  start_stops : {why : Refusal} → refused (numbered why) ≡ first_of (head_reasons s) → StartGot s (StartCase.Refused why)
-  start_stops {why} e = record { goes = λ q. absurd (never q); stops = λ q. same q }
-    where
-      never : {c n k : ℕ} {p : Place} → StartCase.Refused why ≡ StartCase.Fields c n k p → ⊥
-      never q = let z : ◌≡◌ {A = ℕ} 0 1 = cc in omega arith
+module _ {s : List ℕ} {p : Place} where
+  pub start_stops : {why : Refusal} → refused (numbered why) ≡ first_of (head_reasons s) → StartGot s (Err why) p
+  start_stops e =
+      record { goes = λ q. absurd (never_err (sym q)); stops = λ q. ap (λ x. refused (numbered x)) (sym (same_err {A = Start} q)) ∙ e }
 
-      same : {x : Refusal} → StartCase.Refused why ≡ StartCase.Refused x → refused (numbered x) ≡ first_of (head_reasons s)
-      same {x} q = let i : x ≡ why = cc in ap (λ r. refused (numbered r)) i ∙ e
+  pub start_goes : {start : Start} → Begun s start.counts start.k start.n → BitsRead p 19 → StartGot s (Ok start) p
+  start_goes B here =
+      record {
+        goes = λ q. (subst (λ (x : Start). Begun s x.counts x.k x.n) (same_ok q) B, here);
+        stops = λ q. absurd (never_err q);
+      }
 
-  start_goes : {c n k : ℕ} {p : Place} → Begun s c k n → BitsRead p 19 → StartGot s (StartCase.Fields c n k p)
-  start_goes {c} {n} {k} {p} B here = record { goes = λ q. same q; stops = λ q. absurd (never q) }
-    where
-      never : {why : Refusal} → StartCase.Fields c n k p ≡ StartCase.Refused why → ⊥
-      never q = let z : ◌≡◌ {A = ℕ} 0 1 = cc in omega arith
-
-      same : {d m j : ℕ} {x : Place} → StartCase.Fields c n k p ≡ StartCase.Fields d m j x → Begun s d j m × BitsRead x 19
-      same {d} {m} {j} {x} q =
-          let counts : c ≡ d = cc in
-          let tides : n ≡ m = cc in
-          let settings : k ≡ j = cc in
-          let place : p ≡ x = cc in (
-            subst (λ i. Begun s i j m) counts (subst (λ i. Begun s c i m) settings (subst (Begun s c k) tides B)),
-            subst (λ y. BitsRead y 19) place here,
-          )
-
-pub start_short : (s : List ℕ) → length s < 6 → StartGot s (StartCase.Refused RefusalCase.FileLength)
+pub start_short : (s : List ℕ) → length s < 6 → refused (number 8) ≡ first_of (head_reasons s)
 unfolding head_reasons first_of
-start_short s l = start_stops (rw (T_true (ltb (length s) 6) (lt→ltb (length s) 6 l)))
+start_short s l = rw (T_true (ltb (length s) 6) (lt→ltb (length s) 6 l)) refl
 
-module _ {s : List ℕ} {m : ℕ} {p : Place} (six : 6 ≤ length s) (g : FieldGot s 0 8 m p) where
+module _ {s : List ℕ} {m : ℕ} (six : 6 ≤ length s) (g : FieldGot s 0 8 m) where
   -- one count
-  pub marked_old : m ≡ old_mark → Marked s 1 p
+  pub marked_old : {p : Place} → BitsRead p 8 → m ≡ old_mark → Marked s 1 p
   unfolding counts_under
-  marked_old e =
+  marked_old here e =
       let old : mark_of s ≡ old_mark = sym g.is ∙ e in
       record {
         marked = record { six = six; mark = inr old; twelve = λ new. omega arith; counts = sym (ap counts_under old) };
-        here = g.past;
+        here = here;
       }
 
-  pub start_mark : (m ≡ old_mark → ⊥) → (m ≡ new_mark → ⊥) → StartGot s (StartCase.Refused RefusalCase.Mark)
+  pub start_mark : (m ≡ old_mark → ⊥) → (m ≡ new_mark → ⊥) → refused (number 9) ≡ first_of (head_reasons s)
   unfolding head_reasons first_of
   start_mark f h =
-      start_stops (rw (past_8 s six, ne_eqb (mark_of s) new_mark (λ e. h (g.is ∙ e)), ne_eqb (mark_of s) old_mark (λ e. f (g.is ∙ e))))
+      rw (past_8 s six, ne_eqb (mark_of s) new_mark (λ e. h (g.is ∙ e)), ne_eqb (mark_of s) old_mark (λ e. f (g.is ∙ e))) refl
 
   module _ (e : m ≡ new_mark) where
     new : mark_of s ≡ new_mark
     new = sym g.is ∙ e
 
-    pub start_twelve : length s < 12 → StartGot s (StartCase.Refused RefusalCase.FileLength)
+    pub start_twelve : length s < 12 → refused (number 8) ≡ first_of (head_reasons s)
     unfolding head_reasons first_of
-    start_twelve l = start_stops (rw (past_8 s six, eq-eqb (mark_of s) new_mark new, T_true (ltb (length s) 12) (lt→ltb (length s) 12 l)))
+    start_twelve l = rw (past_8 s six, eq-eqb (mark_of s) new_mark new, T_true (ltb (length s) 12) (lt→ltb (length s) 12 l)) refl
 
     -- a count for each user
-    pub marked_new : 12 ≤ length s → Marked s 4 p
+    pub marked_new : {p : Place} → BitsRead p 8 → 12 ≤ length s → Marked s 4 p
     unfolding counts_under
-    marked_new l =
-        record { marked = record { six = six; mark = inl new; twelve = λ _. l; counts = sym (ap counts_under new) }; here = g.past }
+    marked_new here l =
+        record { marked = record { six = six; mark = inl new; twelve = λ _. l; counts = sym (ap counts_under new) }; here = here }
 
-module _ {s : List ℕ} {c : ℕ} {p : Place} (M : Marked s c p) {n : ℕ} {q : Place} (g : FieldGot s 8 7 n q) where
-  abbrev R : MarkRead s c
-  R = M.marked
-
-  pub start_count : 120 < n → StartGot s (StartCase.Refused RefusalCase.TideCount)
+module _ {s : List ℕ} {c : ℕ} (M : MarkRead s c) {n : ℕ} (g : FieldGot s 8 7 n) where
+  pub start_count : 120 < n → refused (number 10) ≡ first_of (head_reasons s)
   unfolding head_reasons first_of
   start_count l =
       let many : ltb 120 (bits_at s 8 7) ≡ true = T_true _ (lt→ltb 120 (bits_at s 8 7) (subst (λ z. 120 < z) g.is l)) in
-      start_stops (rw (past_8 s R.six, past_9 R, past_12 R, many))
+      rw (past_8 s M.six, past_9 M, past_12 M, many) refl
 
-  module _ (few : n ≤ 120) {k : ℕ} {r : Place} (h : FieldGot s 15 4 k r) where
-    pub start_k : between 1 8 k ≡ false → StartGot s (StartCase.Refused RefusalCase.SettingCount)
+  module _ (few : n ≤ 120) {k : ℕ} (h : FieldGot s 15 4 k) where
+    pub start_k : between 1 8 k ≡ false → refused (number 2) ≡ first_of (head_reasons s)
     unfolding head_reasons first_of
-    start_k f = start_stops (rw (past_8 s R.six, past_9 R, past_12 R, past_10 s g.is few, ap (between 1 8) (sym h.is) ∙ f))
+    start_k f = rw (past_8 s M.six, past_9 M, past_12 M, past_10 s g.is few, ap (between 1 8) (sym h.is) ∙ f) refl
 
-    pub begun : 1 ≤ k → k ≤ 8 → StartGot s (StartCase.Fields c n k r)
-    begun l u = start_goes record { marked = R; tides = g.is; few = few; k_is = h.is; low = l; high = u } h.past
+    pub begun : 1 ≤ k → k ≤ 8 → Begun s c k n
+    begun l u = record { marked = M; tides = g.is; few = few; k_is = h.is; low = l; high = u }
 
 -- ---- the length, the minima and the last byte
 
@@ -234,12 +219,12 @@ module _ {s : List ℕ} {c k n : ℕ} where
         let t = length_sum c k n (few_counts B.marked) B.high B.few in
         (omega (arith, W.long), omega (arith, W.long), omega (arith, t.most))
 
-    module _ {old next : Dataset} {p : Place} (H : HeadRecord s old next p) {v : Bool} (tested : v ≡ valid_minima next.k next.minima) where
+    module _ {next : Dataset} {p : Place} (H : HeadRecord s next p) {v : Bool} (tested : v ≡ valid_minima next.k next.minima) where
       good : {b : Bool} → v ≡ b → valid_minima k (minima_at s k) ≡ b
       unfolding record_of decoded
       good q =
           ap (λ x. valid_minima x (minima_at s x)) B.k_is
-          ∙ sym (ap (λ (r : Dataset). valid_minima r.k r.minima) H.is)
+          ∙ sym (ap (λ (r : Dataset). valid_minima r.k r.minima) (H.is next))
           ∙ sym tested ∙ q
 
       pub head_minima : not v ≡ true → refused (number 3) ≡ first_of (head_reasons s)
@@ -260,12 +245,10 @@ module _ {s : List ℕ} {c k n : ℕ} where
 
 -- ---- what the code answers
 
-module _ {s : List ℕ} {old : Dataset} {r : HeadRead} where
-  pub head_stops : {why : Refusal} → r.answer ≡ Refused why → refused (numbered why) ≡ first_of (head_reasons s) → HeadGot s old r
-  head_stops {why} e f = record { verdict = ap verdict_of e ∙ f; goes = λ q. absurd (never (sym q ∙ e)) }
-    where
-      never : Done ≡ Refused why → ⊥
-      never q = let z : ◌≡◌ {A = ℕ} 0 1 = cc in omega arith
+module _ {s : List ℕ} {p : Place} where
+  pub head_stops : {why : Refusal} → refused (numbered why) ≡ first_of (head_reasons s) → HeadGot s (Err why) p
+  head_stops e =
+      record { goes = λ q. absurd (never_err (sym q)); stops = λ q. ap (λ x. refused (numbered x)) (sym (same_err {A = Dataset} q)) ∙ e }
 
-  pub head_goes : r.answer ≡ Done → accepted ≡ first_of (head_reasons s) → HeadRecord s old r.dataset r.place → HeadGot s old r
-  head_goes e f H = record { verdict = ap verdict_of e ∙ f; goes = λ _. H }
+  pub head_goes : {next : Dataset} → accepted ≡ first_of (head_reasons s) → HeadRecord s next p → HeadGot s (Ok next) p
+  head_goes e H = record { goes = λ q. (e, subst (λ x. HeadRecord s x p) (same_ok q) H); stops = λ q. absurd (never_err q) }

@@ -8,14 +8,13 @@ use mathlib.Core.Bool.{cond, not}
 use mathlib.Core.List.{List, [], ◌∷◌, ◌++◌}
 use lib.Dec.{T, ltb}
 use lib.ListN.{length, get_or, set, length-set}
+use Rattle.std.specs.Prelude.{Result, Ok, Err}
 use Rattle.lists.specs.Lists.{tabulate, overwrite, is_empty}
 use Rattle.lists.proofs.Tables.{length_tabulate, get_d_tabulate, tabulate_suc, length_overwrite, getD_overwrite, drop_overwrite, overwrite_same, overwrite_ext}
 use Rattle.study.specs.Limits.{cell}
 use Rattle.study.specs.declared.Refusal.{Refusal}
-use Rattle.study.specs.declared.Answer.{Answer}
-use Rattle.study.specs.declared.Answer.TheVariants.{Done, Refused}
 use Rattle.study.specs.Study.{Tide, Study, Contents, size, no_tide, tide, distance}
-use Rattle.study.specs.Refusals.{number, accepted, refused, verdict_of, numbered, first_of}
+use Rattle.study.specs.Refusals.{number, accepted, refused, numbered, verdict_of, first_of}
 use Rattle.study.specs.Calls.{Pair, violations, first_violation, entered}
 use Rattle.file_format.specs.Bits.{bits_at}
 use Rattle.file_format.specs.File.{bit_length, counts_in, tide_at, minima_at, decoded, head_reasons, read_reasons}
@@ -28,31 +27,25 @@ use Rattle.triangle.proofs.PairLaws.{violations_same}
 use Rattle.storage.specs.Places.{with_row}
 use Rattle.storage.proofs.PlaceLaws.{more_distances, more_settings}
 use Rattle.file_fields.specs.Loading.{part, Loaded, Reading, violation_verdict}
+use Rattle.file_fields.proofs.AdvanceLaws.{never_err, same_err}
 
 -- ---- answers
 
-not_refused : {why : Refusal} → Done ≡ Refused why → ⊥
-not_refused e = let z : ◌≡◌ {A = ℕ} 0 1 = cc in omega arith
+pub reached : {s : List ℕ} {t : ℕ} {matrix vector : List ℕ} → Loaded s t matrix vector → Reading s t (Ok tt) matrix vector
+reached L = record { goes = λ _. L; stops = λ why e. absurd (never_err e) }
 
-pub reached : {s : List ℕ} {t : ℕ} {matrix vector : List ℕ} → Loaded s t matrix vector → Reading s t Done matrix vector
-reached L = record { goes = λ _. L; stops = λ why e. absurd (not_refused e) }
+pub stopped : {s : List ℕ} {t : ℕ} {matrix vector : List ℕ} {why : Refusal} → first_of (read_reasons s) ≡ refused (numbered why)
+    → Reading s t (Err why) matrix vector
+stopped f = record { goes = λ q. absurd (never_err (sym q)); stops = λ x q. f ∙ ap refused (ap numbered (same_err {A = Unit {0}} q)) }
 
-pub stopped : {s : List ℕ} {t : ℕ} {matrix vector : List ℕ} {a : Answer} {why : Refusal} → a ≡ Refused why
-    → first_of (read_reasons s) ≡ refused (numbered why) → Reading s t a matrix vector
-stopped {why = why} e f =
-    record { goes = λ q. absurd (not_refused (sym q ∙ e)); stops = λ x q. f ∙ ap refused (ap numbered (same x (sym e ∙ q))) }
-  where
-    same : (x : Refusal) → Refused why ≡ Refused x → why ≡ x
-    same x q = cc
-
-told_none : (ps : List Pair) {a : Answer} → verdict_of a ≡ violation_verdict ps → a ≡ Done → T (is_empty ps)
+told_none : (ps : List Pair) {a : Result Unit Refusal} → verdict_of a ≡ violation_verdict ps → a ≡ Ok tt → T (is_empty ps)
 told_none [] e q = tt
 told_none (p ∷ ps) {a} e q = absurd (never (sym (ap verdict_of q) ∙ e))
   where
     never : accepted ≡ refused (first_violation (p ∷ ps)) → ⊥
     never z = let z : ◌≡◌ {A = ℕ} 0 1 = cc in omega arith
 
-told_pair : (ps : List Pair) {a : Answer} {why : Refusal} → verdict_of a ≡ violation_verdict ps → a ≡ Refused why
+told_pair : (ps : List Pair) {a : Result Unit Refusal} {why : Refusal} → verdict_of a ≡ violation_verdict ps → a ≡ Err why
     → T (not (is_empty ps)) × (first_violation ps ≡ numbered why)
 told_pair [] {a} {why} e q = absurd (never (sym (ap verdict_of q) ∙ e))
   where
@@ -182,19 +175,19 @@ module _ (s : List ℕ) where
       turn_five h = refused_five s t L.clear in_file (omega (arith, decoded_setting s t in_file, decoded_k))
 
       module _ (fits : less < bits_at s 15 4) (new : List ℕ) (e : new ≡ with_row (tide_at s (bits_at s 15 4) t).row t matrix)
-          (a : Answer) (found : verdict_of a ≡ violation_verdict (violations (cell new) t (cell new t))) where
+          (a : Result Unit Refusal) (found : verdict_of a ≡ violation_verdict (violations (cell new) t (cell new t))) where
         fits_setting : (tide S t).setting ≤ S.k
         fits_setting = omega (arith, decoded_setting s t in_file, decoded_k)
 
         verdict : verdict_of a ≡ violation_verdict (violations_at S t)
         verdict = found ∙ ap violation_verdict (pairs_laid new e)
 
-        pub turn_seven : {why : Refusal} → a ≡ Refused why → first_of (read_reasons s) ≡ refused (numbered why)
+        pub turn_seven : {why : Refusal} → a ≡ Err why → first_of (read_reasons s) ≡ refused (numbered why)
         turn_seven q =
             let w = told_pair (violations_at S t) verdict q in
             refused_seven s t L.clear in_file fits_setting w.0 ∙ ap refused w.1
 
-        pub turn_next : a ≡ Done → Loaded s (t + 1) new (set vector t (less + 1))
+        pub turn_next : a ≡ Ok tt → Loaded s (t + 1) new (set vector t (less + 1))
         turn_next q =
             record {
               head = L.head;

@@ -5,8 +5,8 @@ use native.Mathlib.Numerals.{add-one}
 use mathlib.Core.Path.{◌≡◌, refl, sym, ap, ◌∙◌, subst}
 use mathlib.Core.List.{List, [], ◌∷◌, ◌++◌, map, flat_map, map-append}
 use lib.Dec.{lit≤}
-use lib.ListN.{length, get_or, take}
-use lib.Seq.{length-take-le, get_or-take}
+use lib.ListN.{length, get_or, take, drop, length-take, length-drop}
+use lib.Seq.{length-take-le, get_or-take, get_or-drop}
 use Rattle.lists.specs.Lists.{tabulate, over}
 use Rattle.lists.proofs.Tables.{length_tabulate, get_d_tabulate, tabulate_suc, tabulate_is}
 use Rattle.lists.proofs.Members.{flat_map_append, flat_map_one}
@@ -18,11 +18,12 @@ use Rattle.file_format.specs.File.{new_mark, tide_fields, fields, file_with, fil
 use Rattle.file_format.proofs.BitLaws.{total, length_all_bits}
 use Rattle.file_format.proofs.RunLaws.{runs_total, values_total}
 use Rattle.file_format.proofs.FileLaws.{bit_length_suc}
+use Rattle.triangle.proofs.PairLaws.{row_in}
 use Rattle.validity.specs.Memory.{State, tide_of, contents_of, study_of}
 use Rattle.file_fields.proofs.Lengths.{Sum, length_sum, bit_length_up}
 use Rattle.file_fields.specs.Writing.{Adds}
 use Rattle.file_fields.proofs.WritingLaws.{adds_none, adds_then}
-use Rattle.file_fields.specs.Putting.{Writable, TideInside, PutFields, head_fields, file_fields}
+use Rattle.file_fields.specs.Putting.{Writable, TideInside, RunInside, PutFields, head_fields, file_fields}
 
 -- ---- room
 
@@ -33,13 +34,19 @@ module _ {σ : State} {file : List ℕ} (W : Writable σ file) where
   pub head_room : (12 ≤ length file) × (σ.dataset.n ≤ 120)
   head_room = let s = sum σ.dataset.n W.study.few in (omega (arith, s.first, W.room, W.study.k_low), W.study.few)
 
+  -- k of the minima are kept
+  pub kept_minima : length (take σ.dataset.k σ.dataset.minima.b) ≡ σ.dataset.k
+  kept_minima = length-take-le σ.dataset.k σ.dataset.minima.b (omega (arith, W.study.minima.eight, W.study.k_high))
+
   -- in what the file has become
   module _ {at : ℕ} {bs new : List ℕ} (a : Adds file at bs new) where
-    pub counts_room : 12 ≤ length new
-    counts_room = omega (arith, head_room.0, a.same)
+    pub counts_room : (n : ℕ) → n ≡ 4 → RunInside new 26 16 n
+    counts_room n e = record { narrow = omega arith; inside = omega (arith, head_room.0, a.same); low = omega arith }
 
-    pub minima_room : {p : ℕ} {cs next : List ℕ} → Adds new p cs next → (σ.dataset.k ≤ 8) × (90 + 7 * σ.dataset.k ≤ 8 * length next)
-    minima_room b = let s = sum σ.dataset.n W.study.few in (W.study.k_high, omega (arith, s.first, W.room, a.same, b.same))
+    pub minima_room : {p : ℕ} {cs next : List ℕ} → Adds new p cs next → (n : ℕ) → n ≡ σ.dataset.k → RunInside next 90 7 n
+    minima_room b n e =
+        let s = sum σ.dataset.n W.study.few in
+        record { narrow = omega arith; inside = omega (arith, s.first, W.room, a.same, b.same); low = omega (arith, W.study.k_high) }
 
     pub tide_room : (t : ℕ) {start : ℕ} → t < σ.dataset.n → start ≡ bit_length 4 σ.dataset.k t
         → TideInside new σ.distances σ.settings start t
@@ -94,20 +101,31 @@ run_more {s} {at} w f i {v} {t} {u} a e b =
         ∙ sym (map-append (field w) (tabulate i f) (f i ∷ []))
         ∙ ap (map (field w)) (sym (tabulate_suc i f) ∙ ap (λ n. tabulate n f) (sym (add-one i)))
 
-pub run_done : {s : List ℕ} {at : ℕ} (w : ℕ) (f : ℕ → ℕ) {i n : ℕ} {t : List ℕ} → i ≡ n → PutFields s at (map (field w) (tabulate i f)) t
-    → PutFields s at (map (field w) (tabulate n f)) t
-run_done {s} {at} w f {t = t} e a = subst (λ k. PutFields s at (map (field w) (tabulate k f)) t) e a
+-- of all numbers of a list
+pub run_done : {s : List ℕ} {at : ℕ} (w : ℕ) (xs : List ℕ) {i : ℕ} {t : List ℕ} → length xs ≡ i
+    → PutFields s at (map (field w) (tabulate i (λ j. get_or xs j 0))) t → PutFields s at (map (field w) xs) t
+run_done {s} {at} w xs {i} {t} e a = subst (λ ys. PutFields s at (map (field w) ys) t) (tabulate_is i (λ j. get_or xs j 0) 0 xs e (λ j l. refl)) a
+
+-- tide t's row as a part of the memory
+row_is : (d : List ℕ) (t : ℕ) → 14400 ≤ length d → t < 120 → tabulate t (cell d t) ≡ row_in d t
+row_is d t long few =
+    let n : length (row_in d t) ≡ t = simp (length-take, length-drop) (omega arith) in
+    tabulate_is t (cell d t) 0 (row_in d t) n (λ i l.
+    let k : i < t * 120 + t - t * 120 = omega arith in
+    sym (get_or-take (t * 120 + t - t * 120) (drop (t * 120) d) i 0 k ∙ get_or-drop (t * 120) d i 0))
 
 -- ---- the tides of a dataset
 
 module _ (σ : State) where
   -- a setting and a row
-  pub tide_put : {s : List ℕ} {p : ℕ} (t : ℕ) {v : ℕ} {u w : List ℕ} → v ≡ get_or σ.settings t 0 → PutFields s p (field 3 (v - 1) ∷ []) u
-      → PutFields u (p + 3) (map (field 20) (tabulate t (cell σ.distances t))) w → PutFields s p (tide_fields (tide_of σ t)) w
+  pub tide_put : {s f : List ℕ} {p : ℕ} (t : ℕ) {v : ℕ} {u w : List ℕ} → TideInside f σ.distances σ.settings p t → v ≡ get_or σ.settings t 0
+      → PutFields s p (field 3 (v - 1) ∷ []) u → PutFields u (p + 3) (map (field 20) (row_in σ.distances t)) w
+      → PutFields s p (tide_fields (tide_of σ t)) w
   unfolding tide_fields tide_of
-  tide_put {s} {p} t {v} {u} {w} e a b =
+  tide_put {s} {p = p} t {v} {u} {w} T e a b =
       subst (λ x. PutFields s p (field 3 (x - 1) ∷ map (field 20) (tabulate t (cell σ.distances t))) w) e
-      (puts_then (field 3 (v - 1) ∷ []) (map (field 20) (tabulate t (cell σ.distances t))) a refl b)
+      (puts_then (field 3 (v - 1) ∷ []) (map (field 20) (tabulate t (cell σ.distances t))) a refl
+      (subst (λ xs. PutFields u (p + 3) (map (field 20) xs) w) (sym (row_is σ.distances t T.long T.few)) b))
 
   -- the fields of the first t tides
   abbrev up_to : ℕ → List Field
@@ -139,10 +157,6 @@ module _ (σ : State) where
           ∙ sym (flat_map_append tide_fields (tabulate t (tide_of σ)) (tide_of σ t ∷ []))
           ∙ ap (flat_map tide_fields) (sym (tabulate_suc t (tide_of σ)) ∙ ap (λ n. tabulate n (tide_of σ)) (sym (add-one t)))
 
-  pub tides_done : {s : List ℕ} {p t n : ℕ} {u : List ℕ} → t ≡ n → PutFields s p (flat_map tide_fields (tabulate t (tide_of σ))) u
-      → PutFields s p (flat_map tide_fields (tabulate n (tide_of σ))) u
-  tides_done {s} {p} {u = u} e a = subst (λ k. PutFields s p (up_to k) u) e a
-
 -- ---- the whole file
 
 pub head_put : (r : Dataset) {s a b c d : List ℕ} → PutFields s 0 (field 8 new_mark ∷ []) a → PutFields a 8 (field 7 r.n ∷ []) b
@@ -155,8 +169,7 @@ head_put r p q u v =
 
 -- head, counts, minima and tides, one after the other
 pub parts_put : {σ : State} {s t u v w : List ℕ} → Writable σ s → length σ.dataset.withdrawn ≡ 4 → PutFields s 0 (head_fields σ.dataset) t
-    → PutFields t 26 (map (field 16) (tabulate 4 (λ i. get_or σ.dataset.withdrawn i 0))) u
-    → PutFields u 90 (map (field 7) (tabulate σ.dataset.k (λ j. get_or σ.dataset.minima.b j 0))) v
+    → PutFields t 26 (map (field 16) σ.dataset.withdrawn) u → PutFields u 90 (map (field 7) (take σ.dataset.k σ.dataset.minima.b)) v
     → PutFields v (bit_length 4 σ.dataset.k 0) (flat_map tide_fields (tabulate σ.dataset.n (tide_of σ))) w → PutFields s 0 (file_fields (contents_of σ)) w
 unfolding fields contents_of study_of head_fields bit_length
 parts_put {σ} {s} {w = w} W four a b c d =
@@ -168,34 +181,22 @@ parts_put {σ} {s} {w = w} W four a b c d =
     r = σ.dataset
 
     counts : List Field
-    counts = map (field 16) (tabulate 4 (λ i. get_or σ.dataset.withdrawn i 0))
+    counts = map (field 16) σ.dataset.withdrawn
 
     small : List Field
-    small = map (field 7) (tabulate σ.dataset.k (λ j. get_or σ.dataset.minima.b j 0))
+    small = map (field 7) (take σ.dataset.k σ.dataset.minima.b)
 
     tides : List Field
     tides = flat_map tide_fields (tabulate σ.dataset.n (tide_of σ))
 
     minima_place : 90 ≡ 26 + total counts
-    minima_place =
-        omega (arith, values_total 16 (tabulate 4 (λ i. get_or r.withdrawn i 0)), length_tabulate 4 (λ i. get_or r.withdrawn i 0))
+    minima_place = omega (arith, values_total 16 r.withdrawn)
 
     tides_place : bit_length 4 r.k 0 ≡ 90 + total small
-    tides_place = omega (arith, values_total 7 (tabulate r.k (λ j. get_or r.minima.b j 0)), length_tabulate r.k (λ j. get_or r.minima.b j 0))
-
-    each_count : tabulate 4 (λ i. get_or r.withdrawn i 0) ≡ r.withdrawn
-    each_count = tabulate_is 4 (λ i. get_or r.withdrawn i 0) 0 r.withdrawn four (λ i l. refl)
-
-    held : tabulate r.k (λ j. get_or r.minima.b j 0) ≡ take r.k r.minima.b
-    held =
-        let eight : r.k ≤ length r.minima.b = omega (arith, W.study.minima.eight, W.study.k_high) in
-        tabulate_is r.k (λ j. get_or r.minima.b j 0) 0 (take r.k r.minima.b) (length-take-le r.k r.minima.b eight)
-        (λ j m. sym (get_or-take r.k r.minima.b j 0 m))
+    tides_place = omega (arith, values_total 7 (take r.k r.minima.b), kept_minima W)
 
     all : head_fields r ++ (counts ++ (small ++ tides)) ≡ file_fields (contents_of σ)
-    all = λ i.
-        field 8 new_mark ∷ field 7 (sym (length_tabulate r.n (tide_of σ)) i) ∷ field 4 r.k ∷ field 7 r.minima.b0
-        ∷ (map (field 16) (each_count i) ++ (map (field 7) (held i) ++ tides))
+    all = λ i. field 8 new_mark ∷ field 7 (sym (length_tabulate r.n (tide_of σ)) i) ∷ field 4 r.k ∷ field 7 r.minima.b0 ∷ (counts ++ (small ++ tides))
 
 over_none : (s : List ℕ) → s ≡ over (packed []) s
 unfolding packed pack tabulate

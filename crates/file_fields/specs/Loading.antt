@@ -1,5 +1,5 @@
 -- Read's tides, one by one: the first t tides of a file, laid out in memory, and what the next tide makes of it. Assumes nothing.
-use Rattle.std.specs.Prelude.{ℕ, ◌≤◌, ◌≡◌, List, [], ◌∷◌, length}
+use Rattle.std.specs.Prelude.{ℕ, ◌≤◌, ◌≡◌, List, [], ◌∷◌, length, Result, Ok, Err}
 use Rattle.lists.specs.Lists.{tabulate}
 use Rattle.study.specs.Limits.{max_tides, table_size}
 use Rattle.study.specs.Study.{Contents}
@@ -9,14 +9,9 @@ use Rattle.file_format.specs.File.{bit_length, counts_in, counts_at, minima_at, 
 use Rattle.file_format.specs.Head.{Head, Clear}
 use Rattle.validity.specs.Memory.{distances_of, settings_of}
 use Rattle.study.specs.declared.Refusal.{Refusal}
-use Rattle.study.specs.declared.Answer.{Answer}
-use Rattle.study.specs.declared.Answer.TheVariants.{Done, Refused}
 use Rattle.study.specs.Calls.{Pair, first_violation}
 use Rattle.bit_reader.specs.declared.Place.{Place}
 use Rattle.bit_reader.specs.Fields.{BitsRead}
-use Rattle.file_fields.specs.declared.progress.Progress.{Progress}
-use Rattle.file_fields.specs.declared.progress.Progress.TheVariants as ProgressCase
-use Rattle.file_fields.specs.Advance.{answer_of}
 
 -- the file's contents with its first t tides
 unfoldable pub part : List ℕ → ℕ → Contents
@@ -34,19 +29,19 @@ pub record Loaded (s : List ℕ) (t : ℕ) (matrix vector : List ℕ) : Type 0 w
   pub enough : max_tides ≤ length vector
 
 -- an answer on the way: t tides are loaded, or the reading ends with Read's own refusal
-pub record Reading (s : List ℕ) (t : ℕ) (a : Answer) (matrix vector : List ℕ) : Type 0 where
-  pub goes : a ≡ Done → Loaded s t matrix vector
-  pub stops : (why : Refusal) → a ≡ Refused why → first_of (read_reasons s) ≡ refused (numbered why)
+pub record Reading (s : List ℕ) (t : ℕ) (a : Result Unit Refusal) (matrix vector : List ℕ) : Type 0 where
+  pub goes : a ≡ Ok tt → Loaded s t matrix vector
+  pub stops : (why : Refusal) → a ≡ Err why → first_of (read_reasons s) ≡ refused (numbered why)
 
 -- the first t tides are read: memory holds them, and tide t would begin at p
 pub record TidesRead (s : List ℕ) (t : ℕ) (p : Place) (matrix vector : List ℕ) : Type 0 where
   pub loaded : Loaded s t matrix vector
   pub here : BitsRead p (bit_length (counts_in s) (bits_at s 15 4) t)
 
--- the progress of a tide: an answer on the way, and the place past the first t tides
-pub record TideRead (s : List ℕ) (t : ℕ) (r : Progress) (matrix vector : List ℕ) : Type 0 where
-  pub reading : Reading s t (answer_of r) matrix vector
-  pub past : {p : Place} → r ≡ ProgressCase.To p → BitsRead p (bit_length (counts_in s) (bits_at s 15 4) t)
+-- what a tide makes of the reading: an answer on the way, and the place past the first t tides
+pub record TideRead (s : List ℕ) (t : ℕ) (r : Result Unit Refusal) (p : Place) (matrix vector : List ℕ) : Type 0 where
+  pub reading : Reading s t r matrix vector
+  pub past : r ≡ Ok tt → BitsRead p (bit_length (counts_in s) (bits_at s 15 4) t)
 
 -- the answer of a row, by the pairs that violate the triangle inequality with it
 abbrev pub violation_verdict : List Pair → Verdict

@@ -25,6 +25,12 @@ pub record TideInside (s distances settings : List ℕ) (start t : ℕ) : Type 0
   pub inside : start + (3 + 20 * t) ≤ 8 * length s
   pub low : start < 2 ^ 61
 
+-- n fields of w bits from a position on are inside the file s
+pub record RunInside (s : List ℕ) (start w n : ℕ) : Type 0 where
+  pub narrow : w ≤ 20
+  pub inside : start + w * n ≤ 8 * length s
+  pub low : start + w * n < 2 ^ 63
+
 -- s' is s with the fields fs written at a position
 abbrev pub PutFields : List ℕ → ℕ → List Field → List ℕ → Type 0
 PutFields s at fs s' = Adds s at (all_bits fs) s'

@@ -1,17 +1,11 @@
 -- Inner promises of Read and Write: the distances of one tide, in a file and in memory. Assumes nothing.
-use Rattle.std.specs.Prelude.{ℕ, ◌+◌, ◌*◌, ◌^◌, ◌≤◌, ◌<◌, ◌≡◌, List, length}
+use Rattle.std.specs.Prelude.{ℕ, ◌+◌, ◌*◌, ◌^◌, ◌≤◌, ◌<◌, List, length}
 use Rattle.lists.specs.Lists.{tabulate}
-use Rattle.study.specs.Limits.{cell, max_tides, table_size}
-use Rattle.study.specs.Refusals.{verdict_of}
-use Rattle.study.specs.Calls.{violations}
+use Rattle.study.specs.Limits.{max_tides, table_size}
 use Rattle.file_format.specs.Bits.{bits_at}
 use Rattle.file_format.specs.File.{bit_length, counts_in}
 use Rattle.bit_reader.specs.declared.Place.{Place}
 use Rattle.bit_reader.specs.Fields.{BitsRead}
-use Rattle.file_fields.specs.declared.progress.Progress.{Progress}
-use Rattle.file_fields.specs.declared.progress.Progress.TheVariants as ProgressCase
-use Rattle.file_fields.specs.Advance.{answer_of}
-use Rattle.file_fields.specs.Loading.{violation_verdict}
 
 -- the row of tide t from a position on is inside the file s, and the table d has all its places
 pub record RowInside (s d : List ℕ) (start t : ℕ) : Type 0 where
@@ -32,8 +26,3 @@ row_start s t = bit_length (counts_in s) (bits_at s 15 4) t + 3
 pub record RowBegins (s d : List ℕ) (t : ℕ) (p : Place) : Type 0 where
   pub here : BitsRead p (row_start s t)
   pub inside : RowInside s d (row_start s t) t
-
--- tide t's row, as the table d holds it, is tested: on to p, or the first pair that violates the triangle inequality with it
-pub record RowChecked (d : List ℕ) (t : ℕ) (p : Place) (r : Progress) : Type 0 where
-  pub verdict : verdict_of (answer_of r) ≡ violation_verdict (violations (cell d) t (cell d t))
-  pub on : {q : Place} → r ≡ ProgressCase.To q → q ≡ p

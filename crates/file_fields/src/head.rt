@@ -1,168 +1,116 @@
 // What stands in a file before its tides, field after field, and what Read tests before any tide.
-ghost use Rattle.std.specs.Prelude.{◌≡◌, ◌+◌, ◌-◌, ◌*◌, ◌≤◌, ◌<◌, eqb, length};
-ghost use Rattle.lists.specs.Lists.{overwrite};
-ghost use Rattle.study.specs.declared.Answer.TheVariants.{Done, Refused};
+ghost use Rattle.std.specs.Prelude.{◌≡◌, ℕ, ◌+◌, ◌-◌, ◌*◌, ◌≤◌, ◌<◌, eqb, length};
 ghost use Rattle.file_format.specs.Bits.{bits_at};
-ghost use Rattle.file_format.specs.File.{counts_end};
 ghost use Rattle.bit_reader.specs.Fields.{BitsRead};
-ghost use Rattle.file_fields.specs.Advance.{ReadTo};
-ghost use Rattle.file_fields.specs.Heading.{Marked, Begun, StartGot, CountsBegin, count_at, minima_start, MinimaBegin, minimum_at, RecordBegins};
-ghost use Rattle.file_fields.specs.Heading.{HeadRecord, HeadGot};
+ghost use Rattle.file_fields.specs.Heading.{Marked, Begun, StartGot, RunBegins, RunRead, RecordBegins, RecordRead, HeadGot, HeadRead};
 
 use crate::length::{bit_length, has_length};
-use crate::progress::Progress;
-use bit_reader::{FieldValue, Place, ends_in_zeros, read_field, read_two};
-use study::{Answer, Dataset, MAX_SETTINGS, MAX_TIDES, MAX_USERS, Minima, Refusal};
+use bit_reader::{BitReader, Place, ends_in_zeros};
+use std::array;
+use study::{Dataset, MAX_SETTINGS, MAX_TIDES, MAX_USERS, Minima, Refusal};
 use validity::valid_minima;
 
-// How many counts of withdrawals the file carries, the number of tides, k and the place past them, or why Read refuses them.
+// How many counts of withdrawals the file carries, the number of its tides and k.
 #[derive(Clone, Copy)]
-pub enum Start {
-    Fields(usize, usize, usize, Place),
-    Refused(Refusal),
-}
-
-// The answer before any tide; where it is Done, the record that the file gives and the place of its first tide.
-#[derive(Clone, Copy)]
-pub struct HeadRead {
-    pub answer: Answer,
-    pub dataset: Dataset,
-    pub place: Place,
+pub struct Start {
+    pub counts: usize,
+    pub n: usize,
+    pub k: usize,
 }
 
 // The number of tides and k: reasons 10, 2.
-fn read_counts(file: &[u8], place: Place, counts: usize) -> Start
-    requires { Marked file.now counts place }
-    ensures { StartGot file.now result }
+fn read_counts(reader: &mut BitReader, counts: usize) -> Result<Start, Refusal>
+    requires { Marked reader.old.bytes.now counts reader.old.place }
+    ensures same { reader.new.bytes ≡ reader.old.bytes }
+    ensures got { StartGot reader.old.bytes.now result reader.new.place }
 {
-    let fields = read_two(file, place, 7, 4);
-    let first = fields.first;
-    let FieldValue::Value(tides, _) = first else {
-        return Start::Refused(Refusal::FileLength);
+    let Some(tides) = reader.take(7) else {
+        return Err(Refusal::FileLength);
     };
     let n = tides as usize;
     if MAX_TIDES < n {
-        return Start::Refused(Refusal::TideCount);
+        return Err(Refusal::TideCount);
     }
-    let second = fields.second;
-    let FieldValue::Value(settings, past_settings) = second else {
-        return Start::Refused(Refusal::FileLength);
+    let Some(settings) = reader.take(4) else {
+        return Err(Refusal::FileLength);
     };
     let k = settings as usize;
-    if k < 1 {
-        return Start::Refused(Refusal::SettingCount);
+    if k < 1 || MAX_SETTINGS < k {
+        return Err(Refusal::SettingCount);
     }
-    if MAX_SETTINGS < k {
-        return Start::Refused(Refusal::SettingCount);
-    }
-    Start::Fields(counts, n, k, past_settings)
+    Ok(Start { counts, n, k })
 }
 
 // The mark, the number of tides and k: reasons 8, 9, 8 again of a file that carries a count for each user, 10, 2.
-fn read_start(file: &[u8]) -> Start
-    ensures { StartGot file.now result }
+fn read_start(reader: &mut BitReader) -> Result<Start, Refusal>
+    requires { BitsRead reader.old.place 0 }
+    ensures same { reader.new.bytes ≡ reader.old.bytes }
+    ensures got { StartGot reader.old.bytes.now result reader.new.place }
 {
-    if file.len() < 6 {
-        return Start::Refused(Refusal::FileLength);
+    if reader.bytes.len() < 6 {
+        return Err(Refusal::FileLength);
     }
-    let first = Place { byte: 0, bit: 0 };
-    let FieldValue::Value(mark, past_mark) = read_field(file, first, 8) else {
-        return Start::Refused(Refusal::FileLength);
+    let Some(mark) = reader.take(8) else {
+        return Err(Refusal::FileLength);
     };
     if mark == 0x54 {
-        return read_counts(file, past_mark, 1);
+        return read_counts(reader, 1);
     }
     if mark != 0x55 {
-        return Start::Refused(Refusal::Mark);
+        return Err(Refusal::Mark);
     }
-    if file.len() < 12 {
-        return Start::Refused(Refusal::FileLength);
+    if reader.bytes.len() < 12 {
+        return Err(Refusal::FileLength);
     }
-    read_counts(file, past_mark, MAX_USERS)
+    read_counts(reader, MAX_USERS)
 }
 
-// The counts of withdrawals, into memory of their own.
-fn take_counts(file: &[u8], place: Place, withdrawn: &mut [u16], counts: usize) -> Progress
-    requires { CountsBegin file.now withdrawn.old counts place }
-    ensures { ReadTo (counts_end counts) result × (withdrawn.new ≡ overwrite counts (count_at file.now) withdrawn.old) }
+// The numbers in `count` fields of `width` bits, one after the other; the other places are 0.
+fn take_numbers<const N: usize>(
+    reader: &mut BitReader,
+    width: usize,
+    count: usize,
+) -> Result<[u32; N], Refusal>
+    requires { RunBegins reader.old.bytes.now width count N reader.old.place }
+    ensures same { reader.new.bytes ≡ reader.old.bytes }
+    ensures run { (start : ℕ) → BitsRead reader.old.place start
+        → RunRead reader.old.bytes.now start width count N result reader.new.place }
 {
-    let mut next = place;
-    let mut i: usize = 0;
-    while i < counts {
-        let FieldValue::Value(count, past) = read_field(file, next, 16) else {
-            return Progress::Refused(Refusal::FileLength);
+    let mut numbers = [0; N];
+    for i in 0..count {
+        let Some(number) = reader.take(width) else {
+            return Err(Refusal::FileLength);
         };
-        withdrawn[i] = count as u16;
-        next = past;
-        i += 1;
+        numbers[i] = number;
     }
-    Progress::To(next)
+    Ok(numbers)
 }
 
-// The k minima, into memory of their own.
-fn take_minima(file: &[u8], place: Place, b: &mut [u8], k: usize) -> Progress
-    requires { MinimaBegin file.now b.old k place }
-    ensures { ReadTo (minima_start file.now + 7 * k) result × (b.new ≡ overwrite k (minimum_at file.now) b.old) }
+// The record that the file gives: beside n and k, b0, the withdrawals, those of users that the file does not count being 0, and the minima, those
+// above k being 0.
+fn read_record(reader: &mut BitReader, start: Start) -> Result<Dataset, Refusal>
+    requires { RecordBegins reader.old.bytes.now start.counts start.k start.n reader.old.place }
+    ensures same { reader.new.bytes ≡ reader.old.bytes }
+    ensures read { RecordRead reader.old.bytes.now result reader.new.place }
 {
-    let mut next = place;
-    let mut j: usize = 0;
-    while j < k {
-        let FieldValue::Value(minimum, past) = read_field(file, next, 7) else {
-            return Progress::Refused(Refusal::FileLength);
-        };
-        b[j] = minimum as u8;
-        next = past;
-        j += 1;
-    }
-    Progress::To(next)
-}
-
-// A refusal; whoever gets it looks at neither record nor place.
-fn refused(why: Refusal, dataset: Dataset) -> HeadRead
-    ensures { result.answer ≡ Refused why }
-{
-    HeadRead {
-        answer: Answer::Refused(why),
-        dataset,
-        place: Place { byte: 0, bit: 0 },
-    }
-}
-
-// The record with what the file gives: beside n and k, b0, the withdrawals, those of users that the file does not count being 0, and the
-// minima, those above k being 0.
-fn read_record(
-    dataset: Dataset,
-    file: &[u8],
-    counts: usize,
-    n: usize,
-    k: usize,
-    place: Place,
-) -> HeadRead
-    requires { RecordBegins file.now counts k n place }
-    ensures { (result.answer ≡ Done) × HeadRecord file.now dataset result.dataset result.place }
-{
-    let FieldValue::Value(b0, past_b0) = read_field(file, place, 7) else {
-        return refused(Refusal::FileLength, dataset);
+    let Some(b0) = reader.take(7) else {
+        return Err(Refusal::FileLength);
     };
-    let mut withdrawn = [0u16; MAX_USERS];
-    let Progress::To(past_counts) = take_counts(file, past_b0, &mut withdrawn, counts) else {
-        return refused(Refusal::FileLength, dataset);
+    let Ok(counts) = take_numbers::<MAX_USERS>(reader, 16, start.counts) else {
+        return Err(Refusal::FileLength);
     };
-    let mut b = [0u8; MAX_SETTINGS];
-    let Progress::To(first_tide) = take_minima(file, past_counts, &mut b, k) else {
-        return refused(Refusal::FileLength, dataset);
+    let Ok(minima) = take_numbers::<MAX_SETTINGS>(reader, 7, start.k) else {
+        return Err(Refusal::FileLength);
     };
-    let minima = Minima { b0: b0 as u8, b };
-    let mut next = dataset;
-    next.k = k as u8;
-    next.n = n;
-    next.minima = minima;
-    next.withdrawn = withdrawn;
-    HeadRead {
-        answer: Answer::Done,
-        dataset: next,
-        place: first_tide,
-    }
+    Ok(Dataset {
+        k: start.k as u8,
+        n: start.n,
+        minima: Minima {
+            b0: b0 as u8,
+            b: array::from_fn(|j| minima[j] as u8),
+        },
+        withdrawn: array::from_fn(|i| counts[i] as u16),
+    })
 }
 
 // Whether the bits from `end` on, which fill the last byte, are zero.
@@ -174,43 +122,31 @@ fn filled(file: &[u8], end: usize) -> bool
 }
 
 // The length, the minima and the last byte: reasons 8, 3, 11.
-fn read_rest(
-    dataset: Dataset,
-    file: &[u8],
-    counts: usize,
-    n: usize,
-    k: usize,
-    place: Place,
-) -> HeadRead
-    requires { Begun file.now counts k n × BitsRead place 19 }
-    ensures { HeadGot file.now dataset result }
+fn read_rest(reader: &mut BitReader, start: Start) -> Result<Dataset, Refusal>
+    requires { Begun reader.old.bytes.now start.counts start.k start.n × BitsRead reader.old.place 19 }
+    ensures same { reader.new.bytes ≡ reader.old.bytes }
+    ensures got { HeadGot reader.old.bytes.now result reader.new.place }
 {
-    let bits = bit_length(counts, k, n);
-    if !has_length(file.len(), bits) {
-        return refused(Refusal::FileLength, dataset);
+    let bits = bit_length(start.counts, start.k, start.n);
+    if !has_length(reader.bytes.len(), bits) {
+        return Err(Refusal::FileLength);
     }
-    let head = read_record(dataset, file, counts, n, k, place);
-    let answer = head.answer;
-    let Answer::Done = answer else {
-        return head;
-    };
-    let next = head.dataset;
-    if !valid_minima(next.minima, next.k) {
-        return refused(Refusal::Minima, dataset);
+    let dataset = read_record(reader, start)?;
+    if !valid_minima(dataset.minima, dataset.k) {
+        return Err(Refusal::Minima);
     }
-    if !filled(file, bits) {
-        return refused(Refusal::FillBits, dataset);
+    if !filled(reader.bytes, bits) {
+        return Err(Refusal::FillBits);
     }
-    head
+    Ok(dataset)
 }
 
-// What stands before the tides.
-pub fn read_head(dataset: Dataset, file: &[u8]) -> HeadRead
-    ensures { HeadGot file.now dataset result }
+// What stands before the tides: the record that the file gives, and the place of its first tide.
+pub fn read_head(file: &[u8]) -> Result<(Dataset, Place), Refusal>
+    ensures { HeadRead file.now result }
 {
-    let start = read_start(file);
-    match start {
-        Start::Refused(why) => refused(why, dataset),
-        Start::Fields(counts, n, k, place) => read_rest(dataset, file, counts, n, k, place),
-    }
+    let mut reader = BitReader::new(file);
+    let start = read_start(&mut reader)?;
+    let dataset = read_rest(&mut reader, start)?;
+    Ok((dataset, reader.place))
 }

@@ -19,14 +19,5 @@ pub fn has_length(bytes: usize, bits: usize) -> bool
     requires { bits ≤ 143306 }
     ensures { result ≡ eqb bytes ((bits + 7) / 8) }
 {
-    if MAX_FILE < bytes {
-        return false;
-    }
-    if 8 * bytes < bits {
-        return false;
-    }
-    if bits + 8 <= 8 * bytes {
-        return false;
-    }
-    true
+    bytes <= MAX_FILE && bits <= 8 * bytes && 8 * bytes < bits + 8
 }

@@ -4,7 +4,5 @@
 
 pub mod head;
 mod length;
-pub mod memory;
-mod progress;
 pub mod tides;
 pub mod writing;

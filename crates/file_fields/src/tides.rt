@@ -1,102 +1,96 @@
 // The tides of a file, one by one, into memory of Read's own: for each its setting (5) and its row (7). A refusal met there ends the reading.
 ghost use Rattle.std.specs.Prelude.{◌≡◌, ◌+◌, ◌*◌, ◌≤◌, ◌<◌, length};
-ghost use Rattle.study.specs.Limits.{max_tides, table_size};
+ghost use Rattle.study.specs.Limits.{cell, max_tides, table_size};
+ghost use Rattle.study.specs.Calls.{violations};
 ghost use Rattle.file_format.specs.Bits.{bits_at};
 ghost use Rattle.storage.specs.Places.{with_row};
+ghost use Rattle.study.specs.Refusals.{verdict_of};
 ghost use Rattle.file_fields.specs.Advance.{ReadTo};
-ghost use Rattle.file_fields.specs.Loading.{TidesRead, TideRead, Reading};
-ghost use Rattle.file_fields.specs.Rows.{row_record, row_start, RowBegins, RowChecked};
+ghost use Rattle.file_fields.specs.Loading.{TidesRead, TideRead, Reading, violation_verdict};
+ghost use Rattle.file_fields.specs.Rows.{row_record, row_start, RowBegins};
 
-use crate::progress::{Progress, answer_of};
-use bit_reader::{FieldValue, Place, read_field};
-use study::{Answer, MAX_TIDES, Refusal};
-use triangle::{Violation, first_violation};
+use bit_reader::BitReader;
+use study::{MAX_TIDES, Refusal};
+use triangle::first_violation;
 
 // The distances of tide t to the earlier tides: into its row and its column.
-fn take_row(file: &[u8], place: Place, matrix: &mut [u32], t: usize) -> Progress
-    requires { RowBegins file.now matrix.old t place }
-    ensures reads { ReadTo (row_start file.now t + 20 * t) result }
-    ensures row { matrix.new ≡ with_row (row_record file.now (row_start file.now t) t) t matrix.old }
+fn take_row(reader: &mut BitReader, matrix: &mut [u32], t: usize) -> Result<(), Refusal>
+    requires { RowBegins reader.old.bytes.now matrix.old t reader.old.place }
+    ensures same { reader.new.bytes ≡ reader.old.bytes }
+    ensures reads { ReadTo (row_start reader.old.bytes.now t + 20 * t) result reader.new.place }
+    ensures row { matrix.new ≡ with_row (row_record reader.old.bytes.now (row_start reader.old.bytes.now t) t) t matrix.old }
 {
-    let mut next = place;
-    let mut i: usize = 0;
-    while i < t {
-        let FieldValue::Value(x, past) = read_field(file, next, 20) else {
-            return Progress::Refused(Refusal::FileLength);
+    for i in 0..t {
+        let Some(distance) = reader.take(20) else {
+            return Err(Refusal::FileLength);
         };
-        matrix[t * MAX_TIDES + i] = x;
-        matrix[i * MAX_TIDES + t] = x;
-        next = past;
-        i += 1;
+        matrix[t * MAX_TIDES + i] = distance;
+        matrix[i * MAX_TIDES + t] = distance;
     }
-    Progress::To(next)
+    Ok(())
 }
 
-// Tide t's row in memory: on to `past` where it obeys the triangle inequality with every pair of earlier tides, else the first pair with which
-// it does not.
-fn check_row(matrix: &[u32], t: usize, past: Place) -> Progress
+// Whether tide t's row, as memory holds it, obeys the triangle inequality with every pair of earlier tides; else the first pair with which it
+// does not.
+fn check_row(matrix: &[u32], t: usize) -> Result<(), Refusal>
     requires { (t < max_tides) × (table_size ≤ length matrix.now) }
-    ensures { RowChecked matrix.now t past result }
+    ensures { verdict_of result ≡ violation_verdict (violations (cell matrix.now) t (cell matrix.now t)) }
 {
     let line = t * MAX_TIDES;
-    let found = first_violation(matrix, &matrix[line..line + t]);
-    match found {
-        Violation::Pair(i, j) => Progress::Refused(Refusal::TriangleInequality(i, j)),
-        Violation::Nothing => Progress::To(past),
+    match first_violation(matrix, &matrix[line..line + t]) {
+        Some((i, j)) => Err(Refusal::TriangleInequality(i, j)),
+        None => Ok(()),
     }
 }
 
 // Tide t: its setting (5) and its row (7) into memory.
 fn read_tide(
-    file: &[u8],
-    place: Place,
+    reader: &mut BitReader,
     k: usize,
     matrix: &mut [u32],
     vector: &mut [u8],
     t: usize,
-) -> Progress
-    requires { (k ≡ bits_at file.now 15 4) × (t < bits_at file.now 8 7) × TidesRead file.now t place matrix.old vector.old }
-    ensures { TideRead file.now (t + 1) result matrix.new vector.new }
+) -> Result<(), Refusal>
+    requires { (k ≡ bits_at reader.old.bytes.now 15 4) × (t < bits_at reader.old.bytes.now 8 7)
+        × TidesRead reader.old.bytes.now t reader.old.place matrix.old vector.old }
+    ensures same { reader.new.bytes ≡ reader.old.bytes }
+    ensures read { TideRead reader.old.bytes.now (t + 1) result reader.new.place matrix.new vector.new }
 {
-    let FieldValue::Value(less, past_setting) = read_field(file, place, 3) else {
-        return Progress::Refused(Refusal::FileLength);
+    let Some(less) = reader.take(3) else {
+        return Err(Refusal::FileLength);
     };
     if k <= less as usize {
-        return Progress::Refused(Refusal::Setting);
+        return Err(Refusal::Setting);
     }
-    let taken = take_row(file, past_setting, matrix, t);
-    let Progress::To(past_row) = taken else {
+    let taken = take_row(reader, matrix, t);
+    let Ok(()) = taken else {
         return taken;
     };
-    let checked = check_row(matrix, t, past_row);
-    let Progress::To(next) = checked else {
+    let checked = check_row(matrix, t);
+    let Ok(()) = checked else {
         return checked;
     };
     vector[t] = (less + 1) as u8;
-    Progress::To(next)
+    Ok(())
 }
 
 // All n tides, into memory that is blank.
 pub fn read_tides(
-    file: &[u8],
-    place: Place,
+    reader: &mut BitReader,
     k: usize,
     n: usize,
     matrix: &mut [u32],
     vector: &mut [u8],
-) -> Answer
-    requires { (k ≡ bits_at file.now 15 4) × (n ≡ bits_at file.now 8 7) × TidesRead file.now 0 place matrix.old vector.old }
-    ensures { Reading file.now n result matrix.new vector.new }
+) -> Result<(), Refusal>
+    requires { (k ≡ bits_at reader.old.bytes.now 15 4) × (n ≡ bits_at reader.old.bytes.now 8 7)
+        × TidesRead reader.old.bytes.now 0 reader.old.place matrix.old vector.old }
+    ensures { Reading reader.old.bytes.now n result matrix.new vector.new }
 {
-    let mut next = place;
-    let mut t: usize = 0;
-    while t < n {
-        let tide = read_tide(file, next, k, matrix, vector, t);
-        let Progress::To(past) = tide else {
-            return answer_of(tide);
+    for t in 0..n {
+        let tide = read_tide(reader, k, matrix, vector, t);
+        let Ok(()) = tide else {
+            return tide;
         };
-        next = past;
-        t += 1;
     }
-    Answer::Done
+    Ok(())
 }

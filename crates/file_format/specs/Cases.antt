@@ -6,10 +6,11 @@ use mathlib.Core.List.{List, [], ◌∷◌, ◌++◌, map, flat_map}
 use Rattle.lists.specs.Lists.{◌among◌, tabulate}
 use Rattle.study.specs.Limits.{max_users}
 use Rattle.study.specs.declared.BlockRecord.{BlockRecord}
+use Rattle.study.specs.declared.Figures.{Figures}
 use Rattle.study.specs.Problem.{assignable, blocking}
 use Rattle.study.specs.Study.{Tide, Study, Contents, size, problem, Valid}
 use Rattle.study.specs.Refusals.{number, seven, Reply, value, refusal, replied, first_of}
-use Rattle.study.specs.Calls.{opened, opening, enter_reasons, entering, block_reasons, Figures, figures, block_record}
+use Rattle.study.specs.Calls.{opened, opening, enter_reasons, entering, block_reasons, figures, block_record}
 use Rattle.study.specs.Calls.{judge_reasons, Judgement, approval, judgement}
 use Rattle.file_format.specs.File.{file_of, decoded, read_reasons}
 

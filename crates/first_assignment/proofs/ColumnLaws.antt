@@ -2,14 +2,14 @@
 use Prim.Native.Nat.{ℕ, ◌+◌, ◌*◌, ◌≤◌, ◌<◌}
 use native.Mathlib.Omega.{arith}
 use native.Mathlib.Decide.{ℕ_discrete}
-use mathlib.Core.Path.{◌≡◌, refl, sym, ◌∙◌, subst}
+use mathlib.Core.Path.{◌≡◌, refl, sym, ap, ◌∙◌, subst}
 use mathlib.Core.Logic.{⊎_elim, ◌↔◌}
-use mathlib.Core.Bool.{Bool, true, false, not, cond}
+use mathlib.Core.Bool.{Bool, true, false, not}
 use mathlib.Core.List.{List}
 use lib.Dec.{T, eqb, ltb, eqb→eq, ltb→lt, lt→ltb}
 use lib.ListN.{length, set, length-set}
 use lib.Seq.{get_or-set_same, get_or-set_other}
-use Rattle.lists.specs.Lists.{bit}
+use mir.Val.{bool_byte}
 use Rattle.lists.proofs.Tests.{split, eq→eqb}
 use Rattle.study.specs.Limits.{max_tides, table_size, cell}
 use Rattle.promise.specs.Promise.{Test, allows, Assigned}
@@ -67,32 +67,42 @@ column_again C D =
 
 -- ---- the two ways in which it is rewritten
 
-kept_or_none : (b : Bool) (x : ℕ) → Allowing (cond b x 0) ↔ (Allowing x × T b)
-kept_or_none true x = (λ h. (h, tt), λ h. h.0)
-kept_or_none false x = (λ h. absurd h, λ h. absurd h.1)
+kept_or_none : (b : Bool) (x : ℕ) → Allowing (x * bool_byte b) ↔ (Allowing x × T b)
+kept_or_none true x =
+    let same : x ≡ x * bool_byte true = omega arith in (λ h. (subst Allowing (sym same) h, tt), λ h. subst Allowing same h.0)
+kept_or_none false x = let gone : 0 ≡ x * bool_byte false = omega arith in (λ h. absurd (subst Allowing (sym gone) h), λ h. absurd h.1)
+
+-- it is no greater a number
+pub kept_most : (b : Bool) {kept : ℕ} (x : ℕ) → kept ≡ bool_byte b → x * kept ≤ x
+kept_most b x e = subst (λ z. x * z ≤ x) (sym e) (most b)
+  where
+    most : (b : Bool) → x * bool_byte b ≤ x
+    most true = omega arith
+    most false = omega arith
 
 -- an entry stays where the block's rank is below a limit, and goes otherwise
-pub restrict_more : {i t limit : ℕ} {rank : ℕ → ℕ} {old new : List ℕ} (v : ℕ) → t < max_tides → i < max_tides → table_size ≤ length old
-    → Narrowed i t (λ m. rank m < limit) old new → v ≡ cond (ltb (rank i) limit) (cell new i t) 0
-    → Narrowed (i + 1) t (λ m. rank m < limit) old (set new (i * max_tides + t) v)
+pub restrict_more : {i t limit : ℕ} {rank : ℕ → ℕ} {old new : List ℕ} (kept : ℕ) → t < max_tides → i < max_tides → table_size ≤ length old
+    → Narrowed i t (λ m. rank m < limit) old new → kept ≡ bool_byte (ltb (rank i) limit)
+    → Narrowed (i + 1) t (λ m. rank m < limit) old (set new (i * max_tides + t) (cell new i t * kept))
 unfolding allows
-restrict_more {i} {t} {limit} {rank} {new = new} v tl il long C e =
+restrict_more {i} {t} {limit} {rank} {new = new} kept tl il long C e =
     let o = C.other t i tl (λ q. omega arith) in
+    let same = ap (λ z. cell new i t * z) e in
     let k = kept_or_none (ltb (rank i) limit) (cell new i t) in
-    column_more v tl il long C (
-      λ h. let q = k.0 (subst Allowing e h) in (o.0 q.0, ltb→lt (rank i) limit q.1),
-      λ h. subst Allowing (sym e) (k.1 (o.1 h.0, lt→ltb (rank i) limit h.1)),
+    column_more (cell new i t * kept) tl il long C (
+      λ h. let q = k.0 (subst Allowing same h) in (o.0 q.0, ltb→lt (rank i) limit q.1),
+      λ h. subst Allowing (sym same) (k.1 (o.1 h.0, lt→ltb (rank i) limit h.1)),
     )
 
-allowing_bit : (b : Bool) → Allowing (bit b) ↔ T b
-allowing_bit true = (λ h. h, λ h. h)
-allowing_bit false = (λ h. h, λ h. h)
+allowing_byte : (b : Bool) → Allowing (bool_byte b) ↔ T b
+allowing_byte true = (λ h. h, λ h. h)
+allowing_byte false = (λ h. h, λ h. h)
 
 -- no entry is left but v's
 pub fix_more : {i t v : ℕ} {old new : List ℕ} (w : ℕ) → t < max_tides → i < max_tides → table_size ≤ length old
-    → Column i t (λ m. m ≡ v) old new → w ≡ bit (eqb i v) → Column (i + 1) t (λ m. m ≡ v) old (set new (i * max_tides + t) w)
+    → Column i t (λ m. m ≡ v) old new → w ≡ bool_byte (eqb i v) → Column (i + 1) t (λ m. m ≡ v) old (set new (i * max_tides + t) w)
 fix_more {i} {v = v} w tl il long C e =
-    let k = allowing_bit (eqb i v) in
+    let k = allowing_byte (eqb i v) in
     column_more w tl il long C (λ h. eqb→eq i v (k.0 (subst Allowing e h)), λ h. subst Allowing (sym e) (k.1 (eq→eqb i v h)))
 
 -- ---- the assignments of such a table

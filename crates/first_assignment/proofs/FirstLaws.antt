@@ -5,12 +5,14 @@ use native.Mathlib.Omega.{arith}
 use mathlib.Core.Path.{◌≡◌, refl, sym, ap, ◌∙◌, subst}
 use mathlib.Core.Logic.{⊎_elim, ◌↔◌}
 use mathlib.Core.Bool.{Bool, true, false, true≢false, false≢true}
-use mathlib.Core.List.{List}
+use mathlib.Core.List.{List, ◌++◌}
 use lib.Dec.{T}
-use lib.ListN.{length, get_or, drop}
-use Rattle.lists.specs.Lists.{at, overwrite, TailKept}
+use lib.ListN.{length, get_or, take, drop, length-append, length-drop, get_or-append}
+use lib.Seq.{drop_at}
+use Rattle.std.proofs.lemmas.List.{length-take-le, get_or-take}
+use Rattle.lists.specs.Lists.{at, TailKept}
 use Rattle.lists.proofs.Tests.{split}
-use Rattle.lists.proofs.Tables.{getD_overwrite, length_overwrite, drop_overwrite, tail_same, tail_trans}
+use Rattle.lists.proofs.Tables.{tail_same, tail_trans}
 use Rattle.study.specs.Limits.{max_tides}
 use Rattle.study.specs.Problem.{labels}
 use Rattle.promise.specs.Promise.{Test, allows, Nowhere, Assigned, Promise, Upward}
@@ -21,21 +23,25 @@ use Rattle.first_assignment.specs.First.{Agree, First, SearchTried, Chosen}
 
 -- ---- a search that keeps the list on no
 
--- from the search on a copy, which is then copied back
-pub tried_found : {n blocks : ℕ} {E : Test} {allowed old new trial copy : List ℕ} {r : Bool} → Upward n E → n ≤ length old
-    → Promise n blocks E allowed copy trial r → r ≡ true → new ≡ overwrite n (labels trial) old → SearchTried n blocks E allowed old new true
+-- from the search on a copy, whose front is then copied back
+pub tried_found : {n blocks : ℕ} {E : Test} {allowed old trial copy front : List ℕ} {r : Bool} → Upward n E → n ≤ length old → n ≤ length trial
+    → Promise n blocks E allowed copy trial r → r ≡ true → front ≡ take n trial
+    → SearchTried n blocks E allowed old (front ++ drop n old) true
 unfolding labels
-tried_found {n} {old = old} {new = new} {trial = trial} up long P e q =
+tried_found {n} {old = old} {trial = trial} {front = front} up long roomy P e q =
+    let size : length front ≡ n = ap length q ∙ length-take-le n trial roomy in
     record {
       found = λ _.
-          assigning_same up (labels trial) (labels new)
-          (λ t l. sym (ap (λ x. get_or x t 0) q ∙ getD_overwrite (labels trial) old n t 0 l))
+          assigning_same up (labels trial) (labels (front ++ drop n old))
+          (λ t l.
+          let inside : t < length front = omega arith in
+          sym (get_or-append front (drop n old) 0 t inside ∙ ap (λ x. get_or x t 0) q ∙ get_or-take n trial t 0 l))
           (P.found e);
       none = λ f. absurd (true≢false f);
       same = λ f. absurd (true≢false f);
       kept = record {
-        same_length = ap length q ∙ length_overwrite (labels trial) old n long;
-        rest = ap (drop n) q ∙ drop_overwrite (labels trial) old n;
+        same_length = simp (length-append, length-drop) (omega arith);
+        rest = drop_at front (drop n old) n size;
       };
     }
 
@@ -135,21 +141,19 @@ module _ {rank : ℕ → ℕ} {n blocks : ℕ} {E : Test} {t v : ℕ} {old new l
       pub choosing_kept : TailKept n list₀ tried
       choosing_kept = tail_trans S.kept A.kept
 
--- the ranks stand in a list
-pub chosen_ranked : {rank : ℕ → ℕ} {n blocks : ℕ} {E : Test} {t : ℕ} {old new list ranks : List ℕ} (ranks₀ : List ℕ) → t < n
-    → ranks ≡ overwrite blocks rank ranks₀ → Chosen (at ranks) n blocks E t old new list → Chosen rank n blocks E t old new list
-chosen_ranked {rank} {blocks = blocks} {t = t} {list = list} {ranks = ranks} ranks₀ tl made S =
+-- the ranks of the blocks stand in a list
+pub chosen_ranked : {rank : ℕ → ℕ} {n blocks ranked : ℕ} {E : Test} {t : ℕ} {old new list : List ℕ} (ranks : List ℕ) → t < n → ranked ≡ blocks
+    → ((m : ℕ) → m < blocks → at ranks m ≡ rank m) → Chosen (at ranks) n ranked E t old new list → Chosen rank n blocks E t old new list
+chosen_ranked {rank} {n} {E = E} {t = t} {old = old} {new = new} {list = list} ranks tl e here C =
+    let S = subst (λ z. Chosen (at ranks) n z E t old new list) e C in
     record {
       same_length = S.same_length;
       assigned = S.assigned;
       sound = S.sound;
       fixed = S.fixed;
       complete = S.complete;
-      least = λ G B. omega (arith, ranked (labels list t) (S.assigned.below t tl), ranked (G t) (B.below t tl), S.least G B);
+      least = λ G B. omega (arith, here (labels list t) (S.assigned.below t tl), here (G t) (B.below t tl), S.least G B);
     }
-  where
-    ranked : (m : ℕ) → m < blocks → at ranks m ≡ rank m
-    ranked m l = ap (λ z. at z m) made ∙ getD_overwrite rank ranks₀ blocks m 0 l
 
 -- ---- the tides below t
 

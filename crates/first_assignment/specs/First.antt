@@ -5,7 +5,6 @@ use Rattle.lists.specs.Lists.{at, TailKept}
 use Rattle.study.specs.Limits.{max_tides, cell}
 use Rattle.study.specs.Problem.{labels}
 use Rattle.promise.specs.Promise.{Test, Assigned}
-use Rattle.radius_theory.specs.Arrays.{DistanceRows, TidesIn}
 
 -- D and G agree on the tides below t
 abbrev pub Agree : ℕ → (ℕ → ℕ) → (ℕ → ℕ) → Type 0
@@ -14,11 +13,6 @@ Agree t D G = (x : ℕ) → x < t → D x ≡ G x
 -- what tide t ranks the blocks by, the one of least rank first: how far their centres are, equally far ones by number (document 02, 2.6)
 unfoldable pub rank : (d cs : List ℕ) → ℕ → ℕ → ℕ
 rank d cs t m = cell d (at cs m) t * max_tides + m
-
--- what ranks are made of: the distances of n tides, and the tides that are the blocks' centres
-pub record Ranking (d cs : List ℕ) (n blocks : ℕ) : Type 0 where
-  pub rows : DistanceRows d n
-  pub centres : TidesIn cs blocks n
 
 -- list is an assignment, and the first tide where another one differs ranks its block in list no higher
 pub record First (rank : ℕ → ℕ → ℕ) (n blocks : ℕ) (E : Test) (allowed list : List ℕ) : Type 0 where

@@ -1,53 +1,32 @@
 // The blocks that one tide may go to: its column of the table of allowed pairs, which has a row for each block.
-ghost use Rattle.std.specs.Prelude.{◌≡◌, cond, ℕ, ◌<◌, ◌≤◌, eqb, ltb, length};
-ghost use Rattle.lists.specs.Lists.{bit};
-ghost use Rattle.study.specs.Limits.{max_tides, table_size};
+ghost use Rattle.std.specs.Prelude.{◌≡◌, ℕ, ◌<◌, ◌≤◌};
+ghost use Rattle.study.specs.Limits.{max_tides};
 ghost use Rattle.first_assignment.specs.Column.{Column, Restricted};
 
-use study::MAX_TIDES;
-
-// An entry x of the table, which stays where the block's rank is below the limit.
-fn entry_kept(x: u8, rank: u64, limit: u64) -> u8
-    ensures { result ≡ cond (ltb rank limit) x 0 }
-{
-    if rank < limit {
-        return x;
-    }
-    0
-}
+use crate::rank::Ranks;
+use study::{MAX_TIDES, TABLE_SIZE};
 
 // Leaves tide t those of its blocks that rank before block v.
-pub fn restrict(allowed: &mut [u8], blocks: usize, ranks: &[u64; MAX_TIDES], t: usize, v: usize)
-    requires blocks_le_max_tides { (blocks ≤ max_tides) × (t < max_tides) × (table_size ≤ length allowed.old) }
-    requires v_lt_blocks { v < blocks }
-    ensures { Restricted ranks.now blocks t v allowed.old allowed.new }
+pub fn restrict(allowed: &mut [u8; TABLE_SIZE], ranks: &Ranks, t: usize, v: usize)
+    requires t_lt_max_tides { t < max_tides }
+    requires v_lt_blocks { v < ranks.now.blocks }
+    ensures { Restricted ranks.now.by_block ranks.now.blocks t v allowed.old allowed.new }
 {
-    let limit = ranks[v];
-    let mut m = 0;
-    while m < blocks {
-        allowed[m * MAX_TIDES + t] = entry_kept(allowed[m * MAX_TIDES + t], ranks[m], limit);
-        m += 1;
+    let limit = ranks.by_block[v];
+    for m in 0..ranks.blocks {
+        // a product and no branch: which of the blocks rank before v follows no pattern
+        let kept = u8::from(ranks.by_block[m] < limit);
+        let place = m * MAX_TIDES + t;
+        allowed[place] *= kept;
     }
-}
-
-// The entry for block m of a tide that is left block v alone.
-fn entry_fixed(m: usize, v: usize) -> u8
-    ensures { result ≡ bit (eqb m v) }
-{
-    if m == v {
-        return 1;
-    }
-    0
 }
 
 // Leaves tide t block v alone, whether it might go there or not.
-pub fn fix(allowed: &mut [u8], blocks: usize, t: usize, v: usize)
-    requires { (blocks ≤ max_tides) × (t < max_tides) × (table_size ≤ length allowed.old) }
+pub fn fix(allowed: &mut [u8; TABLE_SIZE], blocks: usize, t: usize, v: usize)
+    requires { (blocks ≤ max_tides) × (t < max_tides) }
     ensures { Column blocks t (λ (m : ℕ). m ≡ v) allowed.old allowed.new }
 {
-    let mut m = 0;
-    while m < blocks {
-        allowed[m * MAX_TIDES + t] = entry_fixed(m, v);
-        m += 1;
+    for m in 0..blocks {
+        allowed[m * MAX_TIDES + t] = u8::from(m == v);
     }
 }

@@ -1,179 +1,122 @@
 // The first assignment by the order in which each tide ranks the blocks, through the promise of the matching search alone.
-ghost use Rattle.std.specs.Prelude.{◌≡◌, ◌<◌, ◌≤◌, length};
-ghost use Rattle.lists.specs.Lists.{at, overwrite, TailKept};
-ghost use Rattle.study.specs.Limits.{max_tides, table_size};
+ghost use Rattle.std.specs.Prelude.{◌≡◌, ◌<◌, ◌≤◌};
+ghost use Rattle.lists.specs.Lists.{at, TailKept};
+ghost use Rattle.study.specs.Limits.{max_tides};
 ghost use Rattle.study.specs.Problem.{labels};
-ghost use Rattle.promise.specs.Promise.{Assigned, Asked, meeting, Able};
+ghost use Rattle.promise.specs.Promise.{Assigned};
+ghost use Rattle.promise.specs.Met.{met};
 ghost use Rattle.first_assignment.specs.Column.{Restricted};
-ghost use Rattle.first_assignment.specs.First.{rank, Ranking, First, SearchTried, Chosen};
+ghost use Rattle.first_assignment.specs.First.{rank, First, SearchTried, Chosen};
 
 use crate::column::{fix, restrict};
-use crate::rank::{least_ranked, rank_blocks};
+use crate::rank::Ranks;
 use matching::search;
 use promise::table::first_allowed;
-use study::{MAX_TIDES, Minima, wide};
-
-// Copies the first n places.
-fn copy(from: &[u8], to: &mut [u8], n: usize)
-    requires { (n ≤ length from.now) × (n ≤ length to.old) }
-    ensures { to.new ≡ overwrite n (labels from.now) to.old }
-{
-    let mut t = 0;
-    while t < n {
-        to[t] = from[t];
-        t += 1;
-    }
-}
+use promise::tides::Tides;
+use radius_theory::centres::Centres;
+use study::{MAX_TIDES, TABLE_SIZE};
 
 // Whether the table has an assignment, which is then written to list. On no, list stays. The search begins at list, with tide t at
 // block v.
 fn try_search(
-    n: usize,
+    tides: Tides,
     blocks: usize,
-    minima: Minima,
-    settings: &[u8],
-    allowed: &[u8],
-    list: &mut [u8],
+    allowed: &[u8; TABLE_SIZE],
+    list: &mut [u8; MAX_TIDES],
     t: usize,
     v: usize,
 ) -> bool
-    requires asked { Asked (Able minima n settings.now) n blocks allowed.now list.old }
-    requires t_lt_n { (t < n) × (v < max_tides) }
-    ensures { SearchTried n blocks (meeting minima n settings.now) allowed.now
-        list.old list.new result }
+    requires blocks_le_max_tides { blocks ≤ max_tides }
+    requires t_lt_n { (t < tides.n) × (v < max_tides) }
+    ensures { SearchTried tides.entry.n blocks (met tides.entry) allowed.now list.old list.new result }
 {
+    let n = tides.n;
     let mut trial: [u8; MAX_TIDES] = [0; MAX_TIDES];
-    copy(list, &mut trial, n);
+    trial[..n].copy_from_slice(&list[..n]);
     trial[t] = v as u8;
-    if !search(n, blocks, minima, settings, allowed, &mut trial) {
+    if !search(tides, blocks, allowed, &mut trial) {
         return false;
     }
-    copy(&trial, list, n);
+    list[..n].copy_from_slice(&trial[..n]);
     true
 }
 
 // Where a search that takes tide t away from block v begins. With tides to spare, at the block that t ranks first: a tide that no
 // block needs stays where the search begins. Otherwise at v. It is a hint, and any block would do.
-fn begin_at(
-    n: usize,
-    blocks: usize,
-    b0: u8,
-    ranks: &[u64; MAX_TIDES],
-    allowed: &[u8],
-    t: usize,
-    v: usize,
-) -> usize
-    requires blocks_le_max_tides { (blocks ≤ max_tides) × (t < max_tides) × (table_size ≤ length allowed.now) }
-    requires v_lt_max_tides { v < max_tides }
+fn begin_at(tides: Tides, ranks: &Ranks, allowed: &[u8; TABLE_SIZE], t: usize, v: usize) -> usize
+    requires t_lt_max_tides { (t < max_tides) × (v < max_tides) }
     ensures { result < max_tides }
 {
-    if n <= blocks * wide(b0) {
+    if tides.n <= ranks.blocks * usize::from(tides.minima.b0) {
         return v;
     }
-    least_ranked(allowed, blocks, ranks, t, v)
+    ranks.least(allowed, t, v)
 }
 
 // Whether there is an assignment that gives tide t a block that ranks before v, which is then written to list. The other blocks
 // are taken away from t.
 fn lower(
-    n: usize,
-    blocks: usize,
-    minima: Minima,
-    settings: &[u8],
-    ranks: &[u64; MAX_TIDES],
-    allowed: &mut [u8],
-    list: &mut [u8],
+    tides: Tides,
+    ranks: &Ranks,
+    allowed: &mut [u8; TABLE_SIZE],
+    list: &mut [u8; MAX_TIDES],
     t: usize,
     v: usize,
 ) -> bool
-    requires asked { Asked (Able minima n settings.now) n blocks allowed.old list.old }
-    requires t_lt_n { (t < n) × (v < blocks) }
-    ensures restricted { Restricted ranks.now blocks t v allowed.old allowed.new }
-    ensures search_tried { SearchTried n blocks (meeting minima n settings.now) allowed.new
+    requires t_lt_n { (t < tides.n) × (v < ranks.now.blocks) }
+    ensures restricted { Restricted ranks.now.by_block ranks.now.blocks t v allowed.old allowed.new }
+    ensures search_tried { SearchTried tides.entry.n ranks.now.blocks (met tides.entry) allowed.new
         list.old list.new result }
 {
-    restrict(allowed, blocks, ranks, t, v);
-    if first_allowed(allowed, t, blocks) >= blocks {
+    restrict(allowed, ranks, t, v);
+    let Some(_) = first_allowed(allowed, t, ranks.blocks) else {
         return false;
-    }
-    let hint = begin_at(n, blocks, minima.b0, ranks, allowed, t, v);
-    try_search(n, blocks, minima, settings, allowed, list, t, hint)
+    };
+    let hint = begin_at(tides, ranks, allowed, t, v);
+    try_search(tides, ranks.blocks, allowed, list, t, hint)
 }
 
 // Gives tide t the block of least rank that an assignment with the tides before it as they are gives it, and leaves it that block
 // alone.
 fn choose(
-    n: usize,
-    blocks: usize,
-    minima: Minima,
-    settings: &[u8],
-    ranks: &[u64; MAX_TIDES],
-    allowed: &mut [u8],
-    list: &mut [u8],
+    tides: Tides,
+    ranks: &Ranks,
+    allowed: &mut [u8; TABLE_SIZE],
+    list: &mut [u8; MAX_TIDES],
     t: usize,
 )
-    requires asked { Asked (Able minima n settings.now) n blocks allowed.old list.old }
-    requires assigned { Assigned n blocks (meeting minima n settings.now) allowed.old (labels list.old) }
-    requires t_lt_n { t < n }
-    ensures chosen { Chosen (at ranks.now) n blocks (meeting minima n settings.now) t
+    requires assigned { Assigned tides.n ranks.now.blocks (met tides) allowed.old (labels list.old) }
+    requires t_lt_n { t < tides.n }
+    ensures chosen { Chosen (at ranks.now.by_block) tides.entry.n ranks.now.blocks (met tides.entry) t
         allowed.old allowed.new list.new }
-    ensures tail_kept { TailKept n list.old list.new }
+    ensures tail_kept { TailKept tides.entry.n list.old list.new }
 {
-    let mut v = wide(list[t]);
-    while lower(n, blocks, minima, settings, ranks, allowed, list, t, v) {
-        v = wide(list[t]);
+    let mut v = usize::from(list[t]);
+    while lower(tides, ranks, allowed, list, t, v) {
+        v = usize::from(list[t]);
     }
-    fix(allowed, blocks, t, v);
+    fix(allowed, ranks.blocks, t, v);
 }
 
-// Chooses the block of tide t by its ranks of the blocks.
-fn choose_block(
-    distances: &[u32],
-    n: usize,
-    centres: &[usize; MAX_TIDES],
-    blocks: usize,
-    minima: Minima,
-    settings: &[u8],
-    allowed: &mut [u8],
-    list: &mut [u8],
-    t: usize,
-)
-    requires asked { Asked (Able minima n settings.now) n blocks allowed.old list.old }
-    requires assigned { Assigned n blocks (meeting minima n settings.now) allowed.old (labels list.old) }
-    requires ranking { Ranking distances.now centres.now n blocks }
-    requires t_lt_n { t < n }
-    ensures chosen { Chosen (rank distances.now centres.now t) n blocks (meeting minima n settings.now) t
-        allowed.old allowed.new list.new }
-    ensures tail_kept { TailKept n list.old list.new }
-{
-    let mut ranks: [u64; MAX_TIDES] = [0; MAX_TIDES];
-    rank_blocks(distances, n, centres, blocks, t, &mut ranks);
-    choose(n, blocks, minima, settings, &ranks, allowed, list, t);
-}
-
-// Turns an assignment into the first one in dictionary order of the tides' ranks. The table is used up.
+// Turns an assignment to the blocks around these centres into the first one in dictionary order of the tides' ranks. The table is used up.
 pub fn first_assignment(
-    distances: &[u32],
-    n: usize,
-    centres: &[usize; MAX_TIDES],
-    blocks: usize,
-    minima: Minima,
-    settings: &[u8],
-    allowed: &mut [u8],
-    list: &mut [u8],
+    centres: &Centres,
+    allowed: &mut [u8; TABLE_SIZE],
+    list: &mut [u8; MAX_TIDES],
 )
-    requires asked { Asked (Able minima n settings.now) n blocks allowed.old list.old }
-    requires assigned { Assigned n blocks (meeting minima n settings.now) allowed.old (labels list.old) }
-    requires ranking { Ranking distances.now centres.now n blocks }
-    ensures first { First (rank distances.now centres.now) n blocks (meeting minima n settings.now)
-        allowed.old list.new }
-    ensures tail_kept { TailKept n list.old list.new }
+    requires { let study = centres.now.study in
+        Assigned study.tides.n centres.now.count (met study.tides) allowed.old (labels list.old) }
+    ensures first { let study = centres.now.study in First (rank study.distances.now centres.now.tides)
+        study.tides.n centres.now.count (met study.tides) allowed.old list.new }
+    ensures tail_kept { TailKept centres.now.study.tides.n list.old list.new }
 {
-    let mut t = 0;
-    while t < n {
-        choose_block(
-            distances, n, centres, blocks, minima, settings, allowed, list, t,
-        );
-        t += 1;
+    let tides = centres.study.tides;
+    let mut ranks = Ranks {
+        blocks: centres.count,
+        by_block: [0; MAX_TIDES],
+    };
+    for t in 0..tides.n {
+        ranks.rank_blocks(centres, t);
+        choose(tides, &ranks, allowed, list, t);
     }
 }

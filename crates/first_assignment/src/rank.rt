@@ -1,70 +1,53 @@
 // What a tide ranks the blocks by, the one of least rank first.
-ghost use Rattle.std.specs.Prelude.{◌≡◌, ◌+◌, ◌*◌, ◌<◌, ◌≤◌, length};
-ghost use Rattle.lists.specs.Lists.{overwrite};
-ghost use Rattle.study.specs.Limits.{max_tides, table_size};
-ghost use Rattle.first_assignment.specs.First.{rank, Ranking};
+ghost use Rattle.std.specs.Prelude.{◌≡◌, ℕ, ◌+◌, ◌*◌, ◌<◌, ◌≤◌, slice_index};
+ghost use Rattle.study.specs.Limits.{max_tides};
+ghost use Rattle.first_assignment.specs.First.{rank};
 
-use study::MAX_TIDES;
+use radius_theory::centres::Centres;
+use study::{MAX_TIDES, TABLE_SIZE};
+
+// The ranks of so many blocks by one tide; the places past them are free.
+#[derive(Clone, Copy)]
+pub struct Ranks {
+    pub blocks: usize,
+    pub by_block: [u64; MAX_TIDES],
+    pub ghost few: { blocks ≤ max_tides },
+}
 
 // A block's rank, by how far its centre is and by its number.
 fn rank_of(distance: u32, m: usize) -> u64
     requires { m < max_tides }
     ensures { result ≡ distance * max_tides + m }
 {
-    (distance as u64) * (MAX_TIDES as u64) + (m as u64)
+    u64::from(distance) * MAX_TIDES as u64 + m as u64
 }
 
-// What tide t ranks the blocks by.
-pub fn rank_blocks(
-    distances: &[u32],
-    n: usize,
-    centres: &[usize; MAX_TIDES],
-    blocks: usize,
-    t: usize,
-    ranks: &mut [u64; MAX_TIDES],
-)
-    requires ranking { Ranking distances.now centres.now n blocks }
-    requires t_lt_n { (t < n) × (length ranks.old ≡ max_tides) }
-    ensures { ranks.new ≡ overwrite blocks (rank distances.now centres.now t) ranks.old }
-{
-    let mut m = 0;
-    while m < blocks {
-        ranks[m] = rank_of(distances[centres[m] * MAX_TIDES + t], m);
-        m += 1;
+impl Ranks {
+    // Takes what tide t ranks the blocks around these centres by.
+    pub fn rank_blocks(&mut self, centres: &Centres, t: usize)
+        requires same { self.old.blocks ≡ centres.now.count }
+        requires t_lt_n { t < centres.now.study.tides.n }
+        ensures blocks { self.new.blocks ≡ centres.now.count }
+        ensures by_block { (m : ℕ) → m < centres.now.count
+            → slice_index self.new.by_block m ≡ rank centres.now.study.distances.now centres.now.tides t m }
+    {
+        for m in 0..centres.count {
+            self.by_block[m] = rank_of(centres.distance(m, t), m);
+        }
     }
-}
 
-// Of blocks m and v the one of lower rank; v where the entry says that the tide may not go to m.
-fn lower_rank(entry: u8, ranks: &[u64; MAX_TIDES], m: usize, v: usize) -> usize
-    requires { (m < max_tides) × (v < max_tides) }
-    ensures { result < max_tides }
-{
-    if entry == 0 {
-        return v;
+    // Of v and the blocks that tide t may go to, the one of least rank. It serves as a hint: only that it is a number of a table's row is
+    // promised.
+    pub fn least(&self, allowed: &[u8; TABLE_SIZE], t: usize, v: usize) -> usize
+        requires t_lt_max_tides { (t < max_tides) × (v < max_tides) }
+        ensures { result < max_tides }
+    {
+        let mut best = v;
+        for m in 0..self.blocks {
+            if allowed[m * MAX_TIDES + t] != 0 && self.by_block[m] < self.by_block[best] {
+                best = m;
+            }
+        }
+        best
     }
-    if ranks[m] < ranks[v] {
-        return m;
-    }
-    v
-}
-
-// Of v and the blocks that tide t may go to, the one of least rank. It serves as a hint: only that it is a number of a table's row is promised.
-pub fn least_ranked(
-    allowed: &[u8],
-    blocks: usize,
-    ranks: &[u64; MAX_TIDES],
-    t: usize,
-    v: usize,
-) -> usize
-    requires blocks_le_max_tides { (blocks ≤ max_tides) × (t < max_tides) × (table_size ≤ length allowed.now) }
-    requires v_lt_max_tides { v < max_tides }
-    ensures { result < max_tides }
-{
-    let mut best = v;
-    let mut m = 0;
-    while m < blocks {
-        best = lower_rank(allowed[m * MAX_TIDES + t], ranks, m, best);
-        m += 1;
-    }
-    best
 }

@@ -17,7 +17,8 @@ use Rattle.study.specs.declared.BlockRecord.{BlockRecord}
 use Rattle.study.specs.Problem.{Problem, centres, block, labels, radius, blocking, Feasible}
 use Rattle.study.specs.Study.{Study, size, tide, sufficient, problem, Valid}
 use Rattle.study.specs.Refusals.{number, Verdict, accepted, refused, settled, first_of, fresh_reasons, held_reasons}
-use Rattle.study.specs.Calls.{block_reasons, Figures, figures, block_record}
+use Rattle.study.specs.declared.Figures.{Figures}
+use Rattle.study.specs.Calls.{block_reasons, figures, block_record}
 use Rattle.study.specs.Theorems.{Lawful, Canonical, ValidContents}
 use Rattle.study.proofs.ProblemLaws.{greatest_diameter_is, greatest_diameter_same}
 use Rattle.study.proofs.Approximation.{assignment_feasible}

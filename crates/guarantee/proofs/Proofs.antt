@@ -13,7 +13,8 @@ use Rattle.study.specs.declared.BlockRecord.{BlockRecord}
 use Rattle.study.specs.Problem.{Feasible}
 use Rattle.study.specs.Study.{Study, size, problem}
 use Rattle.study.specs.Refusals.{Numbered, number, accepted, refused, first_of, fresh_reasons, is_user, held_reasons}
-use Rattle.study.specs.Calls.{CentreLists, enter_reasons, block_reasons, Figures}
+use Rattle.study.specs.declared.Figures.{Figures}
+use Rattle.study.specs.Calls.{CentreLists, enter_reasons, block_reasons}
 use Rattle.study.specs.Theorems.{ValidContents}
 use Rattle.study.proofs.Proofs.{for_duplicates}
 use Rattle.validity.specs.Memory.{State, short, is_dataset}

@@ -9,7 +9,8 @@ use Rattle.lists.specs.Lists.{over, every, sum_below, count_below, greatest, tab
 use Rattle.study.specs.Problem.{centres_among, centres, centre_of, blocks_at, choices, block, labels, all_sufficient, assignments, assignable, candidates}
 use Rattle.study.specs.Problem.{radius, blocking, greatest_diameter, Feasible, feasible}
 use Rattle.study.specs.Study.{tide, distance, meets, sufficient, problem}
-use Rattle.study.specs.Calls.{opened, Figures}
+use Rattle.study.specs.declared.Figures.{Figures}
+use Rattle.study.specs.Calls.{opened}
 use Rattle.study.proofs.ProblemLaws.{feasible-T}
 use Rattle.study.proofs.RenumberingLaws.{renumberings}
 use Rattle.file_format.specs.Cases.{tide_on, line, plain}

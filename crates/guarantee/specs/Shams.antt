@@ -4,7 +4,8 @@ use Rattle.std.specs.Prelude.{ℕ, ◌≡◌, List, [], ◌∷◌, replicate}
 use Rattle.study.specs.declared.BlockRecord.{BlockRecord}
 use Rattle.study.specs.Problem.{Feasible}
 use Rattle.study.specs.Study.{Study, problem}
-use Rattle.study.specs.Calls.{opened, Figures}
+use Rattle.study.specs.declared.Figures.{Figures}
+use Rattle.study.specs.Calls.{opened}
 use Rattle.file_format.specs.Cases.{plain}
 use Rattle.guarantee.specs.Ledger.{empty_ledger, with_arrival, Exactly}
 use Rattle.guarantee.specs.Theorems.{Guaranteed, CanonicalBlock}

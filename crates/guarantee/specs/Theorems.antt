@@ -9,7 +9,8 @@ use Rattle.study.specs.Problem.{centres, centre_of, labels, radius, blocking, di
 use Rattle.study.specs.Study.{Study, Contents, size, distance, problem, Valid, Renumbered}
 use Rattle.study.specs.Theorems.{Canonical, IsNearest, DuplicateOf}
 use Rattle.study.specs.Refusals.{number, Numbered, Verdict, accepted, refused, value, IsFirst, is_user}
-use Rattle.study.specs.Calls.{holds_duplicate, count_of, CentreLists, centres_written, Figures, block_record}
+use Rattle.study.specs.declared.Figures.{Figures}
+use Rattle.study.specs.Calls.{holds_duplicate, count_of, CentreLists, centres_written, block_record}
 use Rattle.file_format.specs.File.{new_mark, old_mark, old_file, mark_of, file_of}
 use Rattle.file_format.specs.Theorems.{Bytes, OldFile}
 use Rattle.validity.specs.Memory.{State, short, is_dataset, contents_of}

@@ -9,7 +9,7 @@ ghost use Rattle.std.specs.Io.KnownBytes.{Appends};
 ghost use Rattle.text_report.specs.Report.{said};
 ghost use Rattle.join.specs.Report.{words_of, output_of, error_of};
 
-use merge_text::{Fault, Joined, join};
+use merge_text::{Fault, JoinError, join};
 use reading::read_full;
 use std::env::Env;
 use std::fs::File;
@@ -49,18 +49,18 @@ fn say_fault<E: Write>(err: &mut E, line: usize, fault: Fault) -> io::Result<()>
 fn write_report<O: Write, E: Write>(
     out: &mut O,
     err: &mut E,
-    joined: Joined,
+    joined: Result<usize, JoinError>,
     bytes: &[u8],
 ) -> io::Result<()>
     ensures output { OnOk result (Appends (O.contents out.old) (O.contents out.new) (output_of joined bytes.now)) }
     ensures error { OnOk result (Appends (E.contents err.old) (E.contents err.new) (error_of joined)) }
 {
     match joined {
-        Joined::Done(length) => write_front(out, bytes, length),
-        Joined::FirstRefused(why) => say_refused(err, b"first: ", why),
-        Joined::SecondRefused(why) => say_refused(err, b"second: ", why),
-        Joined::WrongLine(line, fault) => say_fault(err, line, fault),
-        Joined::Refused(why) => say_refused(err, b"", why),
+        Ok(length) => write_front(out, bytes, length),
+        Err(JoinError::FirstRefused(why)) => say_refused(err, b"first: ", why),
+        Err(JoinError::SecondRefused(why)) => say_refused(err, b"second: ", why),
+        Err(JoinError::WrongLine(line, fault)) => say_fault(err, line, fault),
+        Err(JoinError::Refused(why)) => say_refused(err, b"", why),
     }
 }
 

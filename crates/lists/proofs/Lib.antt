@@ -5,6 +5,7 @@ pub mod Counts
 pub mod Counting
 pub mod Tables
 pub mod Tuples
+pub mod Results
 pub mod Scans
 pub mod Fills
 pub mod Filtered

@@ -65,8 +65,15 @@ module _ (p : ℕ → Bool) where
   pub every_fails : (n i : ℕ) → i < n → p i ≡ false → every n p ≡ false
   every_fails n i l e = T_false (every n p) (not_T (every n p) (λ h. subst T e (every_at n p h i l)))
 
+  -- the same of the test that the code makes by a call
+  pub every_refuted : (n i : ℕ) {r : Bool} → i < n → r ≡ p i → r ≡ false → false ≡ every n p
+  every_refuted n i l e h = sym (every_fails n i l (sym e ∙ h))
+
   pub every_done : (i n : ℕ) → i ≤ n → n ≤ i → every i p ≡ true → every n p ≡ true
   every_done i n a b h = let e : i ≡ n = omega arith in subst (λ (k : ℕ). every k p ≡ true) e h
+
+-- the steps of a loop that tests each number
+pub ruleset scanning = (every_none, every_more)
 
 -- ---- a sum
 

@@ -2,9 +2,10 @@
 use mathlib.Core.List.{List}
 use mathlib.Core.Bool.{true, false, true≢false, false≢true}
 use Prim.Native.Nat.{ℕ, ◌*◌, ◌<◌}
+use mathlib.Core.Path.{◌≡◌}
 use native.Mathlib.Omega.{arith}
 use Rattle.study.specs.declared.Minima.{Minima}
-use Rattle.promise.specs.Promise.{Asked, Promise, Nowhere}
+use Rattle.promise.specs.Promise.{Promise, Nowhere}
 use Rattle.promise.proofs.Enough.{enough_tides}
 use Rattle.promise.specs.Promise.{meeting, Able}
 use Rattle.promise.proofs.MeetingLaws.{meeting_least}
@@ -36,25 +37,25 @@ module _ {n blocks : ℕ} (M : Minima) (settings : List ℕ) {allowed list : Lis
         tail = tail_trans re re';
       }
 
-module _ {n blocks : ℕ} {M : Minima} {settings allowed list owner kind list' : List ℕ} (ask : Asked (Able M n settings) n blocks allowed list)
-    (sl : Slots blocks M.b0 M.b owner kind) where
+module _ {n blocks slots : ℕ} {M : Minima} {settings allowed list owner kind list' : List ℕ} (able : Able M n settings)
+    (count : slots ≡ blocks * M.b0) (sl : Slots blocks M.b0 M.b owner kind) where
   -- no matching gives every slot a tide
-  pub unsaturable : Unsaturable (Edge allowed settings owner kind) (blocks * M.b0) n → TailKept n list list'
+  pub unsaturable : Unsaturable (Edge allowed settings owner kind) slots n → TailKept n list list'
       → Promise n blocks (meeting M n settings) allowed list list' false
   unsaturable un re =
       record {
         found = λ e. absurd (false≢true e);
-        none = λ _ D asg. no_assignment n blocks M settings allowed list owner kind D ask sl asg un;
+        none = λ _ D asg. no_assignment n blocks M settings allowed owner kind D able sl asg (rw count at un);
         tail = re;
       }
 
   -- one does, and the list is written
-  pub listed : {tide slot : List ℕ} → Saturated (Edge allowed settings owner kind) (blocks * M.b0) n (blocks * M.b0) tide slot
-      → ListWritten n blocks (blocks * M.b0) allowed owner slot list' → TailKept n list list'
+  pub listed : {tide slot : List ℕ} → Saturated (Edge allowed settings owner kind) slots n slots tide slot
+      → ListWritten n blocks slots allowed owner slot list' → TailKept n list list'
       → Promise n blocks (meeting M n settings) allowed list list' true
   listed {tide} {slot} sat wr re =
       record {
-        found = λ _. written_assigned n blocks M settings allowed owner kind tide slot list' ask.able.fit sl sat wr;
+        found = λ _. written_assigned n blocks M settings allowed owner kind tide slot list' able.fit sl (rw count at sat) (rw count at wr);
         none = λ e. absurd (true≢false e);
         tail = re;
       }

@@ -15,7 +15,7 @@ use Rattle.study.specs.declared.Minima.{Minima}
 use Rattle.study.specs.Problem.{block, labels}
 use Rattle.study.specs.Minima.{Meets}
 use Rattle.study.proofs.StudyLaws.{meets-T}
-use Rattle.promise.specs.Promise.{allows, Assigned, Asked}
+use Rattle.promise.specs.Promise.{allows, Assigned}
 use Rattle.promise.specs.Promise.{meeting, Able}
 use Rattle.lists.proofs.Counting.{sum_none, sum_one, count_before, count_apart, count_none, nth, Nth, nth_is, firsts}
 use Rattle.matching.proofs.Surplus.{of_setting, surplus, own_needed, own_setting, own_in, surplus_in, surplus_not, count_own, count_surplus}
@@ -118,7 +118,7 @@ module _ (b : List ℕ) (setting : ℕ → ℕ) (p : ℕ → Bool) where
   same_kind (suc k) zero t h g = absurd (surplus_not b setting p t g (own_needed b setting p k t h))
   same_kind (suc k) (suc i) t h g = sym (own_setting b setting p k t h) ∙ own_setting b setting p i t g
 
-module _ (n blocks : ℕ) (M : Minima) (settings allowed list owner kind : List ℕ) (D : ℕ → ℕ) (ask : Asked (Able M n settings) n blocks allowed list)
+module _ (n blocks : ℕ) (M : Minima) (settings allowed owner kind : List ℕ) (D : ℕ → ℕ) (able : Able M n settings)
     (sl : Slots blocks M.b0 M.b owner kind) (asg : Assigned n blocks (meeting M n settings) allowed D) where
   abbrev slots : ℕ
   slots = blocks * M.b0
@@ -138,14 +138,14 @@ module _ (n blocks : ℕ) (M : Minima) (settings allowed list owner kind : List 
       omega (
         arith,
         rest_count blocks M.b0 M.b owner kind sl m ml,
-        count_surplus M.b setting (block D m) n ask.able.setting_low ask.able.setting_high M.b0 e.whole e.each ask.able.fit,
+        count_surplus M.b setting (block D m) n able.setting_low able.setting_high M.b0 e.whole e.each able.fit,
       )
   enough m (suc j) ml kl =
       let e = meet m ml in
       omega (
         arith,
         class_count blocks M.b0 M.b owner kind sl m j ml (omega arith),
-        count_own M.b setting (block D m) n ask.able.setting_low ask.able.setting_high M.b0 e.whole e.each ask.able.fit j (omega arith),
+        count_own M.b setting (block D m) n able.setting_low able.setting_high M.b0 e.whole e.each able.fit j (omega arith),
       )
 
   -- the test that a slot passes with its like, and its place among them

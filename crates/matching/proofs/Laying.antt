@@ -77,22 +77,21 @@ module _ {start m j pos b0 : ℕ} {b owner₀ kind₀ owner kind : List ℕ} (pa
   pub part_room : j < 8 → pos + at b j ≤ start + b0
   part_room h = omega (arith, sum_front (λ i. at b i) (suc j) 8 h, sum_suc j (λ i. at b i), pa.place)
 
-  pub part_within : j ≤ 8 → pos ≤ start + b0
-  part_within h = omega (arith, sum_front (λ i. at b i) j 8 h, pa.place)
-
-  pub part_more : {owner' kind' : List ℕ} → Added pos m (j + 1) (at b j) owner kind owner' kind'
-      → PartAdded start m (j + 1) (pos + at b j) b owner₀ kind₀ owner' kind'
-  part_more ad =
-      record {
-        tables = ad.tables;
+  pub part_more : {size pos' : ℕ} {owner' kind' : List ℕ} → size ≡ at b j → pos' ≡ pos + size → Added pos m (j + 1) size owner kind owner' kind'
+      → PartAdded start m (j + 1) pos' b owner₀ kind₀ owner' kind'
+  part_more e e' ad =
+      let added = rw e at ad in
+      rw (e', e) (record {
+        tables = added.tables;
         place = omega (arith, sum_next j (λ i. at b i), pa.place);
-        law = λ Q. omega (arith, sum_next j (λ i. cond (Q m (i + 1)) (at b i) 0), ad.law Q, pa.law Q);
-      }
+        law = λ Q. omega (arith, sum_next j (λ i. cond (Q m (i + 1)) (at b i) 0), added.law Q, pa.law Q);
+      })
 
-  pub part_end : {owner' kind' : List ℕ} → 8 ≤ j → j ≤ 8 → Added pos m 0 (start + b0 - pos) owner kind owner' kind'
+  pub part_end : {size : ℕ} {owner' kind' : List ℕ} → 8 ≤ j → j ≤ 8 → size ≡ start + b0 - pos → Added pos m 0 size owner kind owner' kind'
       → BlockAdded start m b0 b owner₀ kind₀ owner' kind'
   unfolding block_sum
-  part_end {owner'} {kind'} h h' ad =
+  part_end {owner' = owner'} {kind' = kind'} h h' es added =
+      let ad = rw es at added in
       record {
         tables = ad.tables;
         law = λ Q.
@@ -105,21 +104,22 @@ module _ {start m j pos b0 : ℕ} {b owner₀ kind₀ owner kind : List ℕ} (pa
             omega (arith, ad.law Q);
       }
 
-pub laid_start : {b0 : ℕ} {b owner kind : List ℕ} → Tables owner kind → LaidOut 0 0 b0 b owner kind
-laid_start {b0} {b} {owner} {kind} ta =
-    record { tables = ta; place = omega arith; law = λ Q. omega (arith, count_zero (slot_test Q owner kind), sum_zero (block_sum Q b0 b)) }
+pub laid_start : {pos b0 : ℕ} {b owner kind : List ℕ} → pos ≡ 0 → Tables owner kind → LaidOut 0 pos b0 b owner kind
+laid_start {b0 = b0} {b} {owner} {kind} e ta =
+    rw e (record { tables = ta; place = omega arith; law = λ Q. omega (arith, count_zero (slot_test Q owner kind), sum_zero (block_sum Q b0 b)) })
 
 module _ {m pos b0 : ℕ} {b owner kind : List ℕ} (la : LaidOut m pos b0 b owner kind) where
   pub laid_room : {blocks : ℕ} → m < blocks → pos + b0 ≤ blocks * b0
   laid_room h = let a = mul-le-mul_right b0 h in omega (arith, la.place)
 
-  pub laid_more : {owner' kind' : List ℕ} → BlockAdded pos m b0 b owner kind owner' kind' → LaidOut (m + 1) (pos + b0) b0 b owner' kind'
-  laid_more ba =
-      record {
+  pub laid_more : {pos' : ℕ} {owner' kind' : List ℕ} → pos' ≡ pos + b0 → BlockAdded pos m b0 b owner kind owner' kind'
+      → LaidOut (m + 1) pos' b0 b owner' kind'
+  laid_more e ba =
+      rw e (record {
         tables = ba.tables;
         place = omega (arith, la.place);
         law = λ Q. omega (arith, sum_next m (block_sum Q b0 b), ba.law Q, la.law Q);
-      }
+      })
 
   pub laid_end : {blocks : ℕ} → blocks ≤ m → m ≤ blocks → Slots blocks b0 b owner kind
   laid_end {blocks} h h' =

@@ -1,15 +1,16 @@
--- The turns of the loops that build a matching, on plain lists: `scan`, `shift`, `visit`, `start_matching`, `grow`, `augment_from`,
+-- The turns of the loops that build a matching, on plain lists: `scan`, `shift`, `visit`, `start`, `grow`, `augment`,
 -- `saturate`. Assumes nothing.
 use mathlib.Core.Path.{◌≡◌, refl, sym, ap, ◌∙◌, subst, subst₂}
 use mathlib.Core.Logic.{◌⊎◌, inl, ⊎_elim}
 use mathlib.Core.List.{List}
+use mathlib.Core.Bool.{Bool, true, false, false≢true}
 use Prim.Native.Nat.{ℕ, ◌+◌, ◌*◌, ◌≤◌, ◌<◌}
 use native.Mathlib.Decide.{ℕ_discrete, dec_lt}
 use native.Mathlib.Omega.{arith}
-use lib.ListN.{length, set, replicate, length-set, length-replicate, get_or-replicate}
+use lib.ListN.{get_or, length, set, replicate, length-set, length-replicate, get_or-replicate}
 use lib.Seq.{get_or-set_same, get_or-set_other}
 use Rattle.lists.specs.Lists.{at}
-use Rattle.matching.specs.Matching.{Matching, Tree, TidesKept, Closed, freed}
+use Rattle.matching.specs.Matching.{Matching, Tree, TidesKept, Closed, Unsaturable, freed}
 use Rattle.matching.specs.Graph.{EdgeAt, Edge, SizedGraph, Scanning, Marked, Free, Searched, Augmented, Shifting, Saturated}
 use Rattle.matching.proofs.Push.{pushed, push_seen, push_here, push_rank, room, queue_old, rank_old}
 use Rattle.matching.proofs.Shift.{swapped, swap_free, swap_kept, swap_here, swap_root, swap_falls, swap_next, swap_edge, swap_path, tree_path}
@@ -152,16 +153,13 @@ module _ {E : ℕ → ℕ → Type 0} {slots tides root s t : ℕ} {tide₀ tide
 -- ---- a slot of a block and kind that may be marked
 
 module _ {allowed settings owner kind : List ℕ} {slots tides : ℕ} (z : SizedGraph allowed settings owner kind slots tides) {s : ℕ} (sl : s < slots)
-    {mark from : List ℕ} (mk : Marked allowed settings slots tides mark from) where
+    {mark : List Bool} {from : List ℕ} (mk : Marked allowed settings slots tides mark from) where
   abbrev E : ℕ → ℕ → Type 0
   E = Edge allowed settings owner kind
 
-  pub class_below : at owner s * 9 + at kind s < 1080
-  class_below = omega (arith, z.blocks s sl, z.kind_high s sl)
-
   -- every tide that the slot can hold is seen, from a slot of the kind k
   pub visit_known : {k i start : ℕ} {tide slot rank queue : List ℕ} → Tree E slots tides start tide slot from rank queue → at rank s < 120
-      → (k ≡ 0) ⊎ (k ≡ at kind s) → i ≡ at owner s * 9 + k → (at mark i ≡ 0 → ⊥)
+      → (k ≡ 0) ⊎ (k ≡ at kind s) → i ≡ at owner s * 9 + k → get_or mark i false ≡ true
       → Scanning E slots tides s start 120 start tide slot from rank queue from rank queue
   visit_known {k} tr sr w ei h =
       record {
@@ -180,14 +178,14 @@ module _ {allowed settings owner kind : List ℕ} {slots tides : ℕ} (z : Sized
   -- the slot is scanned, and its block and kind marked
   pub visit_marked : {start f tail : ℕ} {tide slot rank queue from' rank' queue' : List ℕ}
       → Scanning E slots tides s start f tail tide slot from rank queue from' rank' queue' → tides ≤ f
-      → Marked allowed settings slots tides (set mark (at owner s * 9 + at kind s) 1) from'
+      → Marked allowed settings slots tides (set mark (at owner s * 9 + at kind s) true) from'
   visit_marked {from' = from'} sc h =
       record {
-        long = length-set mark (at owner s * 9 + at kind s) 1 ∙ mk.long;
+        long = length-set mark (at owner s * 9 + at kind s) true ∙ mk.long;
         seen = λ m k ml kl g t tl e. go m k ml kl g t tl e (ℕ_discrete (m * 9 + k) (at owner s * 9 + at kind s));
       }
     where
-      go : (m k : ℕ) → m < 120 → k ≤ 8 → (at (set mark (at owner s * 9 + at kind s) 1) (m * 9 + k) ≡ 0 → ⊥)
+      go : (m k : ℕ) → m < 120 → k ≤ 8 → get_or (set mark (at owner s * 9 + at kind s) true) (m * 9 + k) false ≡ true
           → (t : ℕ) → t < tides → EdgeAt allowed settings m k t → Dec (m * 9 + k ≡ at owner s * 9 + at kind s) → at from' t < slots
       go m k ml kl g t tl e (yes q) =
           let b = z.kind_high s sl in
@@ -195,13 +193,13 @@ module _ {allowed settings owner kind : List ℕ} {slots tides : ℕ} (z : Sized
           let y : k ≡ at kind s = omega arith in
           sc.done t (omega arith) tl (subst₂ (λ (i j : ℕ). EdgeAt allowed settings i j t) x y e)
       go m k ml kl g t tl e (no q) =
-          sc.seen t tl (mk.seen m k ml kl (λ r. g (get_or-set_other mark (at owner s * 9 + at kind s) (m * 9 + k) 1 0 q ∙ r)) t tl e)
+          sc.seen t tl (mk.seen m k ml kl (sym (get_or-set_other mark (at owner s * 9 + at kind s) (m * 9 + k) true false q) ∙ g) t tl e)
 
-pub blank_marked : {allowed settings from : List ℕ} {slots tides : ℕ} → Marked allowed settings slots tides (replicate 1080 0) from
+pub blank_marked : {allowed settings from : List ℕ} {slots tides : ℕ} → Marked allowed settings slots tides (replicate 1080 false) from
 blank_marked =
     record {
-      long = length-replicate {A = ℕ} 1080 0;
-      seen = λ m k ml kl g. absurd (g (get_or-replicate 1080 (m * 9 + k) 0 0 (omega arith)));
+      long = length-replicate {A = Bool} 1080 false;
+      seen = λ m k ml kl g. absurd (false≢true (sym (get_or-replicate 1080 (m * 9 + k) false false (omega arith)) ∙ g));
     }
 
 -- ---- a first matching
@@ -236,8 +234,8 @@ pub record Growing (E : ℕ → ℕ → Type 0) (slots tides root head tail : �
 
 module _ {E : ℕ → ℕ → Type 0} {slots tides root : ℕ} {tide slot : List ℕ} (small : slots ≤ 120) (few : tides ≤ 120)
     (v : Matching E slots tides tide slot) where
-  pub grow_start : {from rank queue : List ℕ} → Tree E slots tides 1 tide slot from rank queue → root ≡ at queue 0
-      → Growing E slots tides root 0 1 tide slot from rank queue
+  pub grow_start : {tail : ℕ} {from rank queue : List ℕ} → Tree E slots tides tail tide slot from rank queue → root ≡ at queue 0
+      → Growing E slots tides root 0 tail tide slot from rank queue
   grow_start tr e =
       record { tree = tr; front = sym e; closed = λ s sl h. absurd (omega arith); within = omega arith }
 
@@ -245,31 +243,18 @@ module _ {E : ℕ → ℕ → Type 0} {slots tides root : ℕ} {tide slot : List
     pub grow_in_tree : head < tail → at rank (at queue head) < 120
     grow_in_tree h = let p = gr.tree.place head h in let f = gr.tree.few in omega arith
 
-    pub grow_none : {s f : ℕ} → tides ≤ f → tail ≤ head → Searched E slots tides root s f tide slot from rank
-    grow_none c h =
+    pub grow_none : tail ≤ head → Unsaturable E slots tides
+    grow_none h =
         let q : head ≡ tail = let w = gr.within in omega arith in
-        record {
-          found = λ l. absurd (omega arith);
-          below = λ l. absurd (omega arith);
-          in_tree = λ l. absurd (omega arith);
-          path = λ l. absurd (omega arith);
-          none = λ _. hall small v gr.tree (rw q at gr.closed);
-        }
+        hall small v gr.tree (rw q at gr.closed)
 
     module _ (h : head < tail) {f tail' : ℕ} {from' rank' queue' : List ℕ}
         (sc : Scanning E slots tides (at queue head) tail f tail' tide slot from rank queue from' rank' queue') where
-      pub grow_found : f < tides → Free E slots (at queue head) f slot → Searched E slots tides root (at queue head) f tide slot from' rank'
+      pub grow_found : {t : ℕ} → t < tides → Free E slots (at queue head) t slot
+          → Searched E slots tides (at queue' 0) (at queue head) t tide slot from' rank'
       grow_found l fr =
           let i = sc.in_tree in
-          record {
-            found = λ _. fr;
-            below = λ _. gr.tree.entry head h;
-            in_tree = λ _. i;
-            path =
-                λ _.
-                rw (← gr.front, ← sc.front) (tree_path v sc.tree (omega arith));
-            none = λ g. absurd (omega arith);
-          }
+          record { found = fr; tide_below = l; below = gr.tree.entry head h; in_tree = i; path = tree_path v sc.tree (omega arith) }
 
       pub grow_again : f ≡ 120 → Growing E slots tides root (head + 1) tail' tide slot from' rank' queue'
       grow_again e =
@@ -296,8 +281,8 @@ module _ {E : ℕ → ℕ → Type 0} {slots tides root : ℕ} {tide slot : List
               sym hm ∙ ap (at queue) (o ∙ q)
 
 -- ---- the tree of the root alone
-module _ (E : ℕ → ℕ → Type 0) (slots tides root : ℕ) (tide slot : List ℕ) (small : slots ≤ 120) (few : tides ≤ 120) (rl : root < slots)
-    (free : tides ≤ at tide root) where
+module _ (E : ℕ → ℕ → Type 0) (slots tides root : ℕ) (tide slot queue : List ℕ) (long : length queue ≡ 120) (small : slots ≤ 120)
+    (few : tides ≤ 120) (rl : root < slots) (free : tides ≤ at tide root) where
   abbrev blank : List ℕ
   blank = replicate 120 120
 
@@ -311,13 +296,13 @@ module _ (E : ℕ → ℕ → Type 0) (slots tides root : ℕ) (tide slot : List
   rank₁ = set blank root 0
 
   abbrev queue₁ : List ℕ
-  queue₁ = set blank 0 root
+  queue₁ = set queue 0 root
 
   rank_root : at rank₁ root ≡ 0
   rank_root = get_or-set_same blank root 0 0 (rw blank_len (omega arith))
 
   queue_root : at queue₁ 0 ≡ root
-  queue_root = get_or-set_same blank 0 root 0 (rw blank_len (omega arith))
+  queue_root = get_or-set_same queue 0 root 0 (omega arith)
 
   only : (x : ℕ) → x < slots → at rank₁ x < 120 → x ≡ root
   only x xl h = go (ℕ_discrete x root)
@@ -334,7 +319,7 @@ module _ (E : ℕ → ℕ → Type 0) (slots tides root : ℕ) (tide slot : List
       record {
         from_long = blank_len;
         rank_long = length-set blank root 0 ∙ blank_len;
-        queue_long = length-set blank 0 root ∙ blank_len;
+        queue_long = length-set queue 0 root ∙ long;
         some = omega arith;
         few = omega arith;
         root = rw queue_root free;
@@ -350,9 +335,9 @@ module _ (E : ℕ → ℕ → Type 0) (slots tides root : ℕ) (tide slot : List
         through = λ s sl h p. let q = only s sl h in let z : at rank₁ s ≡ 0 = rw q rank_root in absurd (omega arith);
       }
 
-pub alone : {E : ℕ → ℕ → Type 0} {slots tides root : ℕ} {tide slot : List ℕ} → slots ≤ 120 → tides ≤ 120 → root < slots → tides ≤ at tide root
-    → Tree E slots tides 1 tide slot (replicate 120 120) (set (replicate 120 120) root 0) (set (replicate 120 120) 0 root)
-alone {E} {slots} {tides} {root} {tide} {slot} small few rl free = one_slot E slots tides root tide slot small few rl free
+pub alone : {E : ℕ → ℕ → Type 0} {slots tides root : ℕ} {tide slot : List ℕ} (queue : List ℕ) → length queue ≡ 120 → slots ≤ 120 → tides ≤ 120
+    → root < slots → tides ≤ at tide root → Tree E slots tides 1 tide slot (replicate 120 120) (set (replicate 120 120) root 0) (set queue 0 root)
+alone {E} {slots} {tides} {root} {tide} {slot} queue long small few rl free = one_slot E slots tides root tide slot queue long small few rl free
 
 -- ---- the slots in turn
 

@@ -4,15 +4,13 @@ use mathlib.Core.List.{List}
 use mathlib.Core.Bool.{true, false, true≢false, false≢true}
 use Prim.Native.Nat.{ℕ, ◌+◌, ◌*◌, ◌≤◌, ◌<◌}
 use native.Mathlib.Decide.{ℕ_discrete}
-use native.Mathlib.Nat.{mul-le-mul_right}
 use native.Mathlib.Omega.{arith}
 use lib.Dec.{T}
 use lib.ListN.{length, set}
 use lib.Seq.{get_or-set_same, get_or-set_other}
-use Rattle.study.specs.Limits.{table_size}
+use Rattle.study.specs.Limits.{max_tides}
 use Rattle.study.specs.declared.Minima.{Minima}
-use Rattle.promise.specs.Promise.{allows, Asked, Nowhere}
-use Rattle.promise.specs.Promise.{Able}
+use Rattle.promise.specs.Promise.{allows, Room, Able, Nowhere}
 use Rattle.lists.specs.Lists.{at, TailKept}
 use Rattle.lists.proofs.Tables.{tail_same, tail_set}
 use Rattle.matching.specs.Matching.{Matching}
@@ -34,14 +32,14 @@ write_start {n} {list = list} =
     }
 
 module _ {t n blocks slots : ℕ} {allowed owner slot list₀ list : List ℕ} (wt : WrittenTo t n blocks slots allowed owner slot list₀ list) where
-  pub write_more : {r : ℕ} → t < n → n ≤ length list₀ → r < blocks → BlockOf allowed owner slot blocks slots t r
+  pub write_more : {r : ℕ} → t < n → n ≤ length list₀ → BlockOf allowed owner slot blocks slots t r
       → WrittenTo (t + 1) n blocks slots allowed owner slot list₀ (set list t r)
-  write_more {r} l m b pl =
+  write_more {r} l m pl =
       record {
         rest = tail_set t r l wt.rest;
         done = record {
-          below = λ k h. at_case (λ i x. x < blocks) k h (ℕ_discrete k t) b (λ j. wt.done.below k j);
-          may = λ k h. at_case (λ i x. T (allows allowed i x)) k h (ℕ_discrete k t) (pl.may b) (λ j. wt.done.may k j);
+          below = λ k h. at_case (λ i x. x < blocks) k h (ℕ_discrete k t) pl.open_to.below (λ j. wt.done.below k j);
+          may = λ k h. at_case (λ i x. T (allows allowed i x)) k h (ℕ_discrete k t) pl.open_to.may (λ j. wt.done.may k j);
           own = λ k h. at_case (λ i x. at slot i < slots → x ≡ at owner (at slot i)) k h (ℕ_discrete k t) pl.own (λ j. wt.done.own k j);
         };
       }
@@ -66,28 +64,25 @@ module _ {t n blocks slots : ℕ} {allowed owner slot list₀ list : List ℕ} (
 
 -- ---- what the parts of the search may assume
 
-pub slots_bound : {n blocks : ℕ} {M : Minima} {settings allowed list : List ℕ} → Asked (Able M n settings) n blocks allowed list
-    → blocks * M.b0 ≤ table_size
-slots_bound {M = M} ask = let a = mul-le-mul_right M.b0 ask.few_blocks in omega (arith, ask.able.small)
-
-module _ {n blocks : ℕ} {M : Minima} {settings allowed list owner kind : List ℕ} (ask : Asked (Able M n settings) n blocks allowed list)
-    (fit : blocks * M.b0 ≤ n) (sl : Slots blocks M.b0 M.b owner kind) where
-  pub sized : SizedGraph allowed settings owner kind (blocks * M.b0) n
-  sized =
+module _ {n blocks slots : ℕ} {M : Minima} {settings allowed owner kind : List ℕ} (count : slots ≡ blocks * M.b0)
+    (sl : Slots blocks M.b0 M.b owner kind) where
+  pub sized : {list : List ℕ} → n ≤ max_tides → Able M n settings → Room n blocks allowed list → blocks * M.b0 ≤ n
+      → SizedGraph allowed settings owner kind slots n
+  sized few able room fit =
       record {
-        few_slots = omega (arith, ask.few_tides);
-        few_tides = ask.few_tides;
-        allowed_long = ask.allowed_long;
-        settings_long = ask.able.settings_long;
-        blocks = λ s l. omega (arith, slot_below blocks M.b0 M.b owner kind sl s l, ask.few_blocks);
-        kind_high = λ s l. slot_kind blocks M.b0 M.b owner kind sl s l;
-        high = ask.able.setting_high;
+        few_slots = omega arith;
+        few_tides = few;
+        allowed_long = room.allowed_long;
+        settings_long = able.settings_long;
+        blocks = λ s l. omega (arith, slot_below blocks M.b0 M.b owner kind sl s (omega arith), room.few_blocks);
+        kind_high = λ s l. slot_kind blocks M.b0 M.b owner kind sl s (omega arith);
+        high = able.setting_high;
       }
 
-  pub owned : {tide slot : List ℕ} → Matching (Edge allowed settings owner kind) (blocks * M.b0) n tide slot → (t : ℕ) → t < n
-      → Owned allowed owner slot blocks (blocks * M.b0) t
+  pub owned : {tide slot : List ℕ} → Matching (Edge allowed settings owner kind) slots n tide slot → (t : ℕ) → t < n
+      → Owned allowed owner slot blocks slots t
   owned {slot = slot} v t tl =
       record {
-        below = λ h. slot_below blocks M.b0 M.b owner kind sl (at slot t) h;
+        below = λ h. slot_below blocks M.b0 M.b owner kind sl (at slot t) (omega arith);
         may = λ h. let e = v.back t tl h in subst (λ (u : ℕ). T (allows allowed u (at owner (at slot t)))) e (v.edge (at slot t) h (rw e tl)).may;
       }

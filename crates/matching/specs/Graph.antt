@@ -1,9 +1,9 @@
 -- Which slot can hold which tide, and what a search for a free tide leaves. Assumes nothing.
-use Rattle.std.specs.Prelude.{◌≡◌, List, Bool, true, false, ◌⊎◌, ℕ, ◌+◌, ◌*◌, ◌≤◌, ◌<◌, T, length}
+use Rattle.std.specs.Prelude.{◌≡◌, List, Bool, true, false, ◌⊎◌, ℕ, ◌+◌, ◌*◌, ◌≤◌, ◌<◌, T, length, get_or}
 use Rattle.study.specs.Limits.{max_tides, table_size, max_settings}
 use Rattle.promise.specs.Promise.{allows}
 use Rattle.lists.specs.Lists.{at}
-use Rattle.matching.specs.Matching.{Matching, Tree, Path, TidesKept, Unsaturable}
+use Rattle.matching.specs.Matching.{Matching, Tree, Path, TidesKept}
 
 -- a slot of block m and kind k can hold the tide t: the tide may go to the block, and the kind is 0 or the tide's setting
 pub record EdgeAt (allowed settings : List ℕ) (m k t : ℕ) : Type 0 where
@@ -29,11 +29,6 @@ pub record SizedGraph (allowed settings owner kind : List ℕ) (slots tides : �
   pub kind_high : (s : ℕ) → s < slots → at kind s ≤ max_settings
   pub high : (t : ℕ) → t < tides → at settings t ≤ max_settings
 
--- such a graph, and a matching in it
-pub record GraphMatching (allowed settings owner kind : List ℕ) (slots tides : ℕ) (tide slot : List ℕ) : Type 0 where
-  pub sized : SizedGraph allowed settings owner kind slots tides
-  pub matching : Matching (Edge allowed settings owner kind) slots tides tide slot
-
 -- r is true where t is not seen and s can hold it, and false only where t is seen or s cannot hold it
 pub record Wanted (E : ℕ → ℕ → Type 0) (slots s t : ℕ) (from : List ℕ) (r : Bool) : Type 0 where
   pub new : r ≡ true → slots ≤ at from t
@@ -51,27 +46,23 @@ pub record Scanning (E : ℕ → ℕ → Type 0) (slots tides s start upto tail 
   pub done : (t : ℕ) → t < upto → t < tides → E s t → at from t < slots
 
 -- a mark at m * 9 + k says that every tide that a slot of block m and kind k can hold is seen
-pub record Marked (allowed settings : List ℕ) (slots tides : ℕ) (mark from : List ℕ) : Type 0 where
+pub record Marked (allowed settings : List ℕ) (slots tides : ℕ) (mark : List Bool) (from : List ℕ) : Type 0 where
   pub long : length mark ≡ 1080
-  pub seen : (m k : ℕ) → m < max_tides → k ≤ max_settings → (at mark (m * 9 + k) ≡ 0 → ⊥) → (t : ℕ) → t < tides → EdgeAt allowed settings m k t → at from t < slots
-
--- no free tide was met
-pub record NoFreeTide (allowed settings : List ℕ) (slots tides f : ℕ) (mark from : List ℕ) : Type 0 where
-  pub end : f ≡ max_tides
-  pub marked : Marked allowed settings slots tides mark from
+  pub seen : (m k : ℕ) → m < max_tides → k ≤ max_settings → get_or mark (m * 9 + k) false ≡ true → (t : ℕ) → t < tides
+      → EdgeAt allowed settings m k t → at from t < slots
 
 -- f is a free tide that the slot s can hold
 pub record Free (E : ℕ → ℕ → Type 0) (slots s f : ℕ) (slot : List ℕ) : Type 0 where
   pub edge : E s f
   pub free : slots ≤ at slot f
 
--- the search ended at a tree: all of it is scanned where no free tide was met
+-- the search met the free tide f, seen from the slot s of a tree
 pub record Searched (E : ℕ → ℕ → Type 0) (slots tides root s f : ℕ) (tide slot from rank : List ℕ) : Type 0 where
-  pub found : f < tides → Free E slots s f slot
-  pub below : f < tides → s < slots
-  pub in_tree : f < tides → at rank s < max_tides
-  pub path : f < tides → Path E slots tides root (at rank s + 1) tide from rank
-  pub none : tides ≤ f → Unsaturable E slots tides
+  pub found : Free E slots s f slot
+  pub tide_below : f < tides
+  pub below : s < slots
+  pub in_tree : at rank s < max_tides
+  pub path : Path E slots tides root (at rank s + 1) tide from rank
 
 -- what a new pair of tables keeps of the old ones: a matching, and each slot's tide
 pub record Augmented (E : ℕ → ℕ → Type 0) (slots tides root : ℕ) (tide tide' slot' : List ℕ) : Type 0 where

@@ -4,3 +4,4 @@ pub mod Matching
 pub mod Graph
 pub mod Slots
 pub mod Steps
+pub mod Values

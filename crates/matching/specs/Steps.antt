@@ -1,6 +1,6 @@
 -- What the functions say that write a matching out as a list. Assumes nothing.
-use Rattle.std.specs.Prelude.{◌≡◌, List, Bool, true, false, ℕ, ◌≤◌, ◌<◌, T}
-use Rattle.promise.specs.Promise.{allows, Nowhere}
+use Rattle.std.specs.Prelude.{◌≡◌, List, Bool, true, false, ℕ, ◌<◌, T}
+use Rattle.promise.specs.Promise.{allows, MayGo, Nowhere}
 use Rattle.lists.specs.Lists.{TailKept, at}
 
 -- where the tide t has a slot, it may go to the slot's block
@@ -8,11 +8,10 @@ pub record Owned (allowed owner slot : List ℕ) (blocks slots t : ℕ) : Type 0
   pub below : at slot t < slots → at owner (at slot t) < blocks
   pub may : at slot t < slots → T (allows allowed t (at owner (at slot t)))
 
--- r is a block that the tide t may go to, and its slot's where it has one; no block where t may go nowhere
-pub record BlockOf (allowed owner slot : List ℕ) (blocks slots t r : ℕ) : Type 0 where
-  pub may : r < blocks → T (allows allowed t r)
-  pub own : at slot t < slots → r ≡ at owner (at slot t)
-  pub none : blocks ≤ r → Nowhere allowed t blocks
+-- m is a block that the tide t may go to, and its slot's where it has one
+pub record BlockOf (allowed owner slot : List ℕ) (blocks slots t m : ℕ) : Type 0 where
+  pub open_to : MayGo allowed blocks t m
+  pub own : at slot t < slots → m ≡ at owner (at slot t)
 
 -- the first tides of the list have blocks that they may go to, and a tide that has a slot the slot's block
 pub record ListWritten (n blocks slots : ℕ) (allowed owner slot list : List ℕ) : Type 0 where

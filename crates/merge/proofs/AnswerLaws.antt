@@ -14,10 +14,9 @@ use Rattle.lists.proofs.Scans.{every_fails, every_done}
 use Rattle.lists.proofs.Tables.{get_d_tabulate, overwrite_none, overwrite_step, overwrite_done}
 use Rattle.study.specs.Limits.{max_tides, table_size, max_users, max_withdrawals}
 use Rattle.study.specs.declared.Refusal.{Refusal}
-use Rattle.study.specs.declared.Answer.{Answer}
-use Rattle.study.specs.declared.Answer.TheVariants.{Done, Refused}
+use Rattle.std.specs.Prelude.{Result, Ok, Err}
 use Rattle.study.specs.Study.{Study, size}
-use Rattle.study.specs.Refusals.{number, Verdict, accepted, refused, verdict_of, Reason, first_of, fresh_reasons, held_reasons}
+use Rattle.study.specs.Refusals.{numbered, number, Verdict, accepted, refused, verdict_of, Reason, first_of, fresh_reasons, held_reasons}
 use Rattle.study.specs.Theorems.{ValidContents}
 use Rattle.study.proofs.CallLaws.{none_holds}
 use Rattle.study.proofs.LadderLaws.{Accepts, ladder_accepts, ladder_refuses}
@@ -27,7 +26,7 @@ use Rattle.validity.proofs.LayoutLaws.{long}
 use Rattle.validity.proofs.ValidityLaws.{study_size}
 use Rattle.access.specs.Calls.{answer, made, after}
 use Rattle.access.specs.Passed.{Passed}
-use Rattle.access.proofs.AccessLaws.{passed_by, passed_valid, unmoved, stays, leaves, source_short, source_own}
+use Rattle.access.proofs.AccessLaws.{passed_by, passed_valid, unmoved, leaves, source_short, source_own}
 use Rattle.merge.specs.Merge.{shared, merged_study, added_counts, merged, agreeing, agree, in_range, countable, merge_reasons}
 use Rattle.merge.specs.Calls.{source_reasons, merges_datasets}
 use Rattle.merge.specs.Theorems.{ForContents}
@@ -133,7 +132,7 @@ module _ (a b : State) where
         second = passed_by b fits.1 (T_true (is_dataset b) (T-right (is_dataset a) (is_dataset b) both));
       }
 
-  pub checked : {r : Answer} → r ≡ Done → verdict_of r ≡ ladder → Checked
+  pub checked : {r : Result Unit Refusal} {done : Unit} → r ≡ Ok done → verdict_of r ≡ ladder → Checked
   checked e f = checked_by [] (ladder_accepts (short a || short b) [] (is_dataset a && is_dataset b) [] (sym (sym (ap verdict_of e) ∙ f)))
 
 -- ---- the reasons, one by one
@@ -156,9 +155,9 @@ module _ (a b : State) (f g : List ℕ) where
   decision = first_of (source_reasons a b f g)
 
   -- what refuses before its own reasons refuses it
-  pub merge_refused_lem : {r : Answer} {x : Refusal} → r ≡ Refused x → verdict_of r ≡ ladder a b → verdict_of r ≡ decision
+  pub merge_refused_lem : {r : Result Unit Refusal} {x : Refusal} → r ≡ Err x → refused (numbered x) ≡ ladder a b → verdict_of r ≡ decision
   unfolding source_reasons
-  merge_refused_lem e h = let q = ap verdict_of e in q ∙ sym (ladder_refuses (short a || short b) [] (is_dataset a && is_dataset b) own (sym h ∙ q))
+  merge_refused_lem e h = ap verdict_of e ∙ sym (ladder_refuses (short a || short b) [] (is_dataset a && is_dataset b) own (sym h))
 
   -- past them its own reasons decide
   merge_own : Passed a → Passed b → (v : Verdict) → first_of own ≡ v → v ≡ decision
@@ -276,14 +275,14 @@ module _ (a b : State) (f g : List ℕ) where
     unfolding merges_datasets
     decides e = source_own s _ e
 
-    pub merge_stays : {r : Answer} {x : Refusal} → short s ≡ false → r ≡ Refused x → verdict_of r ≡ decision
+    pub merge_stays : {r : Result Unit Refusal} {x : Refusal} → short s ≡ false → r ≡ Err x → refused (numbered x) ≡ decision
         → (verdict_of r ≡ answer s (merges_datasets a b f g)) × (s ≡ after s (merges_datasets a b f g))
-    merge_stays room e h = let q = h ∙ decides room in (q, stays s (merges_datasets a b f g) e q)
+    merge_stays room e h = let q = h ∙ decides room in (ap verdict_of e ∙ q, unmoved s (merges_datasets a b f g) q)
 
     pub merge_answers : {v : Verdict} → short s ≡ false → v ≡ decision → v ≡ answer s (merges_datasets a b f g)
     merge_answers room h = h ∙ decides room
 
-    pub merge_accepted : {r : Answer} → short s ≡ false → r ≡ Done → verdict_of r ≡ decision → MergeAccepted a b s f g
+    pub merge_accepted : {r : Result Unit Refusal} {done : Unit} → short s ≡ false → r ≡ Ok done → verdict_of r ≡ decision → MergeAccepted a b f g s
     unfolding merges_datasets merge_reasons contents_of merged made
     merge_accepted room e h =
         let q : accepted ≡ decision = sym (ap verdict_of e) ∙ h in
@@ -302,13 +301,13 @@ module _ (a b : State) (f g : List ℕ) where
         }
 
     -- the remaining tides of an accepted merge are in a table: there is room for them
-    pub accepted_joining : {count : ℕ} {table : List ℕ} → MergeAccepted a b s f g → RestIn (shared f g) b.dataset.n count table
+    pub accepted_joining : {count : ℕ} {table : List ℕ} → MergeAccepted a b f g s → RestIn (shared f g) b.dataset.n count table
         → Joining a b f g count table
     accepted_joining X R =
         record { paired = X.paired; rest = R; few = omega (arith, X.few, rest_long B (shared f g) R (study_size b)) }
 
     -- the first's k and minima, the tides and counts of both in the record, the merged table and settings in memory
-    pub merged_state : {count : ℕ} {table sums d t : List ℕ} → MergeAccepted a b s f g → RestIn (shared f g) b.dataset.n count table
+    pub merged_state : {count : ℕ} {table sums d t : List ℕ} → MergeAccepted a b f g s → RestIn (shared f g) b.dataset.n count table
         → sums ≡ added_counts a.dataset.withdrawn b.dataset.withdrawn
         → d ≡ with_rows (added_row a.dataset.n a.distances b.distances f g table) count (overwrite table_size (at a.distances) s.distances)
         → t ≡ with_settings a.dataset.n (λ r. at b.settings (at table r)) count (overwrite max_tides (at a.settings) s.settings)

@@ -11,10 +11,6 @@ use Rattle.access.specs.Passed.{Passed}
 use Rattle.merge.specs.Merge.{Shared, shared, unshared, rest, merged, agree}
 use Rattle.merge.specs.Calls.{merges_datasets}
 
--- the study that a source holds
-abbrev pub study_in : Dataset → List ℕ → List ℕ → Study
-study_in r d s = study_of (state_of r d s)
-
 -- two datasets, and the first m pairs of tide numbers name tides that are there
 pub record Named (a b : State) (firsts seconds : List ℕ) (m : ℕ) : Type 0 where
   pub first : Passed a
@@ -51,7 +47,7 @@ pub record RestIn (P : Shared) (n count : ℕ) (table : List ℕ) : Type 0 where
   pub rank : (r : ℕ) → r < count → count_below (at table r) (unshared P) ≡ r
 
 -- what an accepted merge tells
-pub record MergeAccepted (a b s : State) (firsts seconds : List ℕ) : Type 0 where
+pub record MergeAccepted (a b : State) (firsts seconds : List ℕ) (s : State) : Type 0 where
   pub paired : Paired a b firsts seconds
   pub long : Long s
   pub few : a.dataset.n + length (rest (study_of b) (shared firsts seconds)) ≤ max_tides

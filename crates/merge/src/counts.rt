@@ -6,23 +6,14 @@ ghost use Rattle.merge.specs.Merge.{added_counts, countable};
 
 use study::{MAX_USERS, MAX_WITHDRAWALS};
 
-// A count as a number that may be summed.
-fn number(x: u16) -> usize
-    ensures { (result ≡ x) × (result ≤ max_withdrawals) }
-{
-    x as usize
-}
-
 // Whether no sum is above 65,535.
 pub fn counts_fit(v: [u16; MAX_USERS], w: [u16; MAX_USERS]) -> bool
     ensures { result ≡ countable (added_counts v w) }
 {
-    let mut i: usize = 0;
-    while i < MAX_USERS {
-        if number(MAX_WITHDRAWALS) < number(v[i]) + number(w[i]) {
+    for i in 0..MAX_USERS {
+        if MAX_WITHDRAWALS - v[i] < w[i] {
             return false;
         }
-        i += 1;
     }
     true
 }
@@ -33,10 +24,8 @@ pub fn added_counts(v: [u16; MAX_USERS], w: [u16; MAX_USERS]) -> [u16; MAX_USERS
     ensures { result ≡ added_counts v w }
 {
     let mut sums = [0u16; MAX_USERS];
-    let mut i: usize = 0;
-    while i < MAX_USERS {
+    for i in 0..MAX_USERS {
         sums[i] = v[i] + w[i];
-        i += 1;
     }
     sums
 }

@@ -7,38 +7,39 @@ ghost use Rattle.merge.specs.Sources.{NumberPairs, RestIn};
 use crate::source::tide_of;
 use study::MAX_TIDES;
 
+// Tides in order; those past the count are free.
+#[derive(Clone, Copy)]
+pub struct Rest {
+    pub tides: [usize; MAX_TIDES],
+    pub count: usize,
+}
+
 // Whether tide j is in no pair.
 fn is_unshared(firsts: &[u8], seconds: &[u8], j: usize) -> bool
     requires { NumberPairs firsts.now seconds.now }
     ensures { result ≡ unshared (shared firsts.now seconds.now) j }
 {
-    let m = firsts.len();
-    let mut q: usize = 0;
-    while q < m {
+    for q in 0..firsts.len() {
         if tide_of(seconds, q) == j {
             return false;
         }
-        q += 1;
     }
     true
 }
 
-// Writes those of n tides that are in no pair to the front of the table, and tells how many there are.
-pub fn find_rest(firsts: &[u8], seconds: &[u8], n: usize, rest: &mut [usize; MAX_TIDES]) -> usize
+// Those of n tides that are in no pair.
+pub fn find_rest(firsts: &[u8], seconds: &[u8], n: usize) -> Rest
     requires number_pairs { NumberPairs firsts.now seconds.now }
-    requires n_le_max_tides { (n ≤ max_tides) × (length rest.old ≡ max_tides) }
-    ensures { RestIn (shared firsts.now seconds.now) n result rest.new }
+    requires n_le_max_tides { n ≤ max_tides }
+    ensures { RestIn (shared firsts.now seconds.now) n result.count result.tides }
 {
-    let mut count: usize = 0;
-    let mut j: usize = 0;
-    while j < n {
+    let mut tides = [0usize; MAX_TIDES];
+    let mut count = 0;
+    for j in 0..n {
         if is_unshared(firsts, seconds, j) {
-            rest[count] = j;
+            tides[count] = j;
             count += 1;
-            j += 1;
-        } else {
-            j += 1;
         }
     }
-    count
+    Rest { tides, count }
 }

@@ -1,6 +1,6 @@
 -- Two study files and the text of their pairs into the file of the merged study (document 02, 2.9: two books joined at their shared tides): what
 -- is told of them, and what is left of the lent bytes. Assumes nothing.
-use Rattle.std.specs.Prelude.{ℕ, cond, List, ltb, length}
+use Rattle.std.specs.Prelude.{ℕ, cond, List, ltb, length, Result, Ok, Err}
 use Rattle.lists.specs.Lists.{over}
 use Rattle.study.specs.Study.{Contents}
 use Rattle.study.specs.Refusals.{Numbered, number, numbered, Verdict, accepted, refused, first_of}
@@ -8,8 +8,8 @@ use Rattle.file_format.specs.File.{file_of, decoded, read_reasons}
 use Rattle.merge.specs.Merge.{merged, merge_reasons}
 use Rattle.merge_text.specs.declared.Fault.{Fault}
 use Rattle.merge_text.specs.declared.Fault.TheVariants as FaultCase
-use Rattle.merge_text.specs.declared.Joined.{Joined}
-use Rattle.merge_text.specs.declared.Joined.TheVariants as JoinedCase
+use Rattle.merge_text.specs.declared.JoinError.{JoinError}
+use Rattle.merge_text.specs.declared.JoinError.TheVariants as JoinErrorCase
 use Rattle.merge_text.specs.Pairs.{Reading, going, ended, stopped, pairs_of}
 
 -- what is told: the merged file's length; why Read refuses the first file, or the second; a line of the text and what is wrong there; or why
@@ -22,12 +22,12 @@ pub data Report : Type 0 where
   merge_refused : Numbered → Report
 
 -- the code's answer, by the documents' numbers
-abbrev pub report_of : Joined → Report
-report_of (JoinedCase.Done n) = done n
-report_of (JoinedCase.FirstRefused r) = first_refused (numbered r)
-report_of (JoinedCase.SecondRefused r) = second_refused (numbered r)
-report_of (JoinedCase.WrongLine l f) = wrong_line l f
-report_of (JoinedCase.Refused r) = merge_refused (numbered r)
+abbrev pub report_of : Result ℕ JoinError → Report
+report_of (Ok n) = done n
+report_of (Err (JoinErrorCase.FirstRefused r)) = first_refused (numbered r)
+report_of (Err (JoinErrorCase.SecondRefused r)) = second_refused (numbered r)
+report_of (Err (JoinErrorCase.WrongLine l f)) = wrong_line l f
+report_of (Err (JoinErrorCase.Refused r)) = merge_refused (numbered r)
 
 -- ---- the merged contents
 

@@ -1,39 +1,49 @@
 -- The pairs of a merge (document 02, 2.9: the shared tides of two books that are joined) as text: each on a line of its own, the tide's number in
 -- the first study and its number in the second. Assumes nothing.
-use Rattle.std.specs.Prelude.{ℕ, zero, suc, cond, List, [], ◌∷◌, ◌++◌, ltb, eqb, length}
+use Rattle.std.specs.Prelude.{ℕ, zero, suc, cond, List, [], ◌∷◌, ◌++◌, ltb, eqb, length, Result, Ok, Err, Option, Some, None}
 use Rattle.narrowing.specs.Narrowing.{narrowed}
 use Rattle.text_words.specs.declared.Cursor.{Cursor}
 use Rattle.text_words.specs.declared.Word.{Word}
 use Rattle.text_words.specs.declared.Word.TheVariants as WordCase
+use Rattle.text_words.specs.declared.NumeralError.{NumeralError}
+use Rattle.text_words.specs.declared.NumeralError.TheVariants as NumeralErrorCase
+use Rattle.text_words.specs.declared.WordError.{WordError}
 use Rattle.text_words.specs.Words.{newlines, next_of}
 use Rattle.merge_text.specs.declared.Fault.{Fault}
 use Rattle.merge_text.specs.declared.Fault.TheVariants as FaultCase
-use Rattle.merge_text.specs.declared.pairs.Step.{Step}
-use Rattle.merge_text.specs.declared.pairs.Step.TheVariants as StepCase
+use Rattle.merge_text.specs.declared.pairs.Pair.{Pair}
+use Rattle.merge_text.specs.declared.pairs.WrongLine.{WrongLine}
 
 -- ---- one pair
 
+-- a line, and what is wrong there
+abbrev pub wrong_at : ℕ → Fault → Result (Option Pair) WrongLine
+wrong_at l f = Err (record { line = l; fault = f })
+
+-- a word that is no number
+abbrev pub fault_of : NumeralError → Fault
+fault_of NumeralErrorCase.NotANumber = FaultCase.NotANumber
+fault_of NumeralErrorCase.TooLarge = FaultCase.TooLarge
+
 -- what stands on line l, where line `line` has one number so far: on another line it comes too late
-abbrev pub on_line : ℕ → ℕ → Step → Step
-on_line line l s = cond (eqb l line) s (StepCase.Wrong line FaultCase.Missing)
+abbrev pub on_line : ℕ → ℕ → Result (Option Pair) WrongLine → Result (Option Pair) WrongLine
+on_line line l s = cond (eqb l line) s (wrong_at line FaultCase.Missing)
 
 -- the second word of a pair, after tide i of the first study on this line. 255, which is no tide's number, stands for every greater number
-abbrev pub pair_from : ℕ → ℕ → Word → Step
-pair_from i line (WordCase.Number j c) = on_line line c.line (StepCase.Pair (narrowed i) (narrowed j) c)
-pair_from i line (WordCase.End l) = StepCase.Wrong line FaultCase.Missing
-pair_from i line (WordCase.Bad l) = on_line line l (StepCase.Wrong line FaultCase.NotANumber)
-pair_from i line (WordCase.TooLarge l) = on_line line l (StepCase.Wrong line FaultCase.TooLarge)
+abbrev pub pair_from : ℕ → ℕ → Result Word WordError → Result (Option Pair) WrongLine
+pair_from i line (Ok (WordCase.Number j c)) = on_line line c.line (Ok (Some (record { first = narrowed i; second = narrowed j; after = c })))
+pair_from i line (Ok (WordCase.End l)) = wrong_at line FaultCase.Missing
+pair_from i line (Err e) = on_line line e.line (wrong_at line (fault_of e.why))
 
 -- the first word after the last pair: a number that begins a pair stands on a later line than the last one's
-abbrev pub step_from : List ℕ → ℕ → Word → Step
-step_from text last (WordCase.Number i c) =
-    cond (eqb c.line last) (StepCase.Wrong last FaultCase.TooMany) (pair_from i c.line (next_of text c))
-step_from text last (WordCase.End l) = StepCase.End
-step_from text last (WordCase.Bad l) = StepCase.Wrong l FaultCase.NotANumber
-step_from text last (WordCase.TooLarge l) = StepCase.Wrong l FaultCase.TooLarge
+abbrev pub step_from : List ℕ → ℕ → Result Word WordError → Result (Option Pair) WrongLine
+step_from text last (Ok (WordCase.Number i c)) =
+    cond (eqb c.line last) (wrong_at last FaultCase.TooMany) (pair_from i c.line (next_of text c))
+step_from text last (Ok (WordCase.End l)) = Ok None
+step_from text last (Err e) = wrong_at e.line (fault_of e.why)
 
 -- the step from a place on, with the line of the last pair, 0 before the first
-unfoldable pub step_of : List ℕ → ℕ → Cursor → Step
+unfoldable pub step_of : List ℕ → ℕ → Cursor → Result (Option Pair) WrongLine
 step_of text last c = step_from text last (next_of text c)
 
 -- ---- all pairs
@@ -50,10 +60,10 @@ pub data Reading : Type 0 where
   stopped : ℕ → Fault → Reading
 
 -- these pairs, and a step more
-abbrev pub taken : Pairs → Step → Reading
-taken P (StepCase.Pair i j c) = going (record { firsts = P.firsts ++ (i ∷ []); seconds = P.seconds ++ (j ∷ []) }) c.line c
-taken P StepCase.End = ended P
-taken P (StepCase.Wrong l f) = stopped l f
+abbrev pub taken : Pairs → Result (Option Pair) WrongLine → Reading
+taken P (Ok (Some p)) = going (record { firsts = P.firsts ++ (p.first ∷ []); seconds = P.seconds ++ (p.second ∷ []) }) p.after.line p.after
+taken P (Ok None) = ended P
+taken P (Err w) = stopped w.line w.fault
 
 -- a step more, where the reading still goes on
 abbrev pub further : List ℕ → Reading → Reading

@@ -12,15 +12,16 @@ use mathlib.Core.List.{List, ◌++◌}
 use lib.Dec.{ltb, eqb}
 use lib.ListN.{length, take, drop, get_or, set, length-append, length-take, length-drop, get_or-append}
 use lib.Seq.{ext_get_or, get_or-append-add, get_or-take, get_or-drop}
-use Rattle.lists.specs.Lists.{every, sum_below, count_below, overwrite}
+use mir.Val.{bool_byte}
+use Rattle.lists.specs.Lists.{bit, every, sum_below, count_below, overwrite}
 use Rattle.lists.proofs.Tests.{split}
 use Rattle.lists.proofs.Counts.{sum_zero, count_same, count_most}
 use Rattle.lists.proofs.Tables.{length_overwrite, getD_overwrite, get_d_past, overwrite_step, overwrite_read}
 use Rattle.lists.proofs.Scans.{every_done, sum_more}
 use Rattle.metric_closure.specs.Closure.{by_way_of, closure, nearer_pairs}
 use Rattle.metric_closure.specs.Call.{entry, symmetric_row, closed_table}
-use Rattle.metric_closure.specs.Tables.{Fits, InRange, lesser_way, LineOf, RowLowered, Lowered}
-use Rattle.metric_closure.proofs.ClosureLaws.{by_is, by_below, closure_none, closure_min, closure_below}
+use Rattle.metric_closure.specs.Tables.{Fits, InRange, lesser_way, Lowered}
+use Rattle.metric_closure.proofs.ClosureLaws.{by_is, closure_none, closure_min, closure_below}
 
 -- ---- places
 
@@ -68,6 +69,18 @@ pub at_start : (n i : ℕ) {s : ℕ} (l : List ℕ) (j : ℕ) → s ≡ i * n �
 at_start n i l j e = ap (λ (z : ℕ). get_or l (z + j) 0) e
 
 -- ---- one row
+
+-- the line holds row m
+pub record LineOf (n m : ℕ) (table line : List ℕ) : Type 0 where
+  pub long : n ≤ length line
+  pub holds : (j : ℕ) → j < n → get_or line j 0 ≡ entry n table m j
+
+-- row i where the way may go by tide m, whose row is the line; all else as before
+pub record RowLowered (n m i : ℕ) (line old new : List ℕ) : Type 0 where
+  pub long : length new ≡ length old
+  pub row : (j : ℕ) → j < n → entry n new i j ≡ min (entry n old i j) (entry n old i m + get_or line j 0)
+  pub before : (p : ℕ) → p < i * n → get_or new p 0 ≡ get_or old p 0
+  pub after : (p : ℕ) → i * n + n ≤ p → get_or new p 0 ≡ get_or old p 0
 
 module _ (first line : List ℕ) (far : ℕ) where
   -- one more place lowered
@@ -117,15 +130,13 @@ module _ (n i : ℕ) (table : List ℕ) (F : Fits n table) (inside : i < n) (s e
   pub part_at : (j : ℕ) → j < e - s → get_or (take (e - s) (drop s table)) j 0 ≡ entry n table i j
   part_at j h = get_or-take (e - s) (drop s table) j 0 h ∙ get_or-drop s table j 0 ∙ at_start n i table j starts
 
-  -- copied into a line
-  pub line_of : (first : List ℕ) {line : List ℕ} → e ≡ s + n → n ≤ length first
-      → line ≡ overwrite (length (take (e - s) (drop s table))) (λ p. get_or (take (e - s) (drop s table)) p 0) first → LineOf n i table line
-  line_of first {line} h k q =
-      let long = part_long (omega arith) in
-      let part : List ℕ = take (e - s) (drop s table) in
+  -- copied into the front of a line
+  pub line_of : {front : List ℕ} (rest : List ℕ) → e ≡ s + n → front ≡ take (e - s) (drop s table) → LineOf n i table (front ++ rest)
+  line_of {front} rest h q =
+      let whole : length front ≡ n = ap length q ∙ part_long (omega arith) ∙ omega arith in
       record {
-        long = rw (q, length_overwrite (λ p. get_or part p 0) first (length part) (omega arith)) k;
-        holds = λ j l. rw q (getD_overwrite (λ p. get_or part p 0) first (length part) j 0 (omega arith) ∙ part_at j (omega arith));
+        long = rw length-append (omega arith);
+        holds = λ j l. get_or-append front rest 0 j (omega arith) ∙ ap (λ z. get_or z j 0) q ∙ part_at j (omega arith);
       }
 
 -- that part, lowered and put back
@@ -162,17 +173,6 @@ module _ (n m i : ℕ) (line old : List ℕ) (F : Fits n old) (inside : i < n) (
         after = λ p h. splice_after s ys old (e - s) whole room p (omega arith);
       }
 
-  -- what lowering the part asks
-  pub row_asks : m < n → InRange (n * n) old → n ≤ length line → InRange n line
-      → (length part ≤ length line) × ((far ≤ 1048575) × InRange (length part) line)
-  row_asks h N k L =
-      let at : far ≤ 1048575 = omega (arith, N.near (s + m) (omega (arith, row_ends n i inside))) in
-      (omega (arith, long), (at, record { near = λ p q. L.near p (omega (arith, long)) }))
-
--- the line of a table in range is in range
-pub line_near : {n m : ℕ} {table line : List ℕ} → LineOf n m table line → m < n → InRange (n * n) table → InRange n line
-line_near {n} {m} L h N = record { near = λ j k. omega (arith, L.holds j k, entry_near N m j h k) }
-
 -- ---- the rows before i, where the way may go by tide m
 
 module _ {n m : ℕ} {old : List ℕ} where
@@ -202,22 +202,8 @@ module _ {n m : ℕ} {old : List ℕ} where
           (ap₂ (λ (x y : ℕ). x + y) (W.rest (i * n + m) (omega arith)) (L.holds b k))
           ∙ sym (by_is m (entry n old) i b)
 
-  -- no place is raised
-  pub lowered_near : {i : ℕ} {new : List ℕ} → Lowered n m i old new → InRange (n * n) old → i ≤ n → InRange (n * n) new
-  lowered_near {i} {new} W N h = record { near = λ p l. ⊎_elim (λ k. inside p k) (λ k. omega (arith, W.rest p k, N.near p l)) (split p (i * n)) }
-    where
-      inside : (p : ℕ) → p < i * n → get_or new p 0 ≤ 1048575
-      inside p k =
-          let R = in_row n i p k in
-          let at = W.lowered (p / n) (p % n) R.row R.column in
-          subst (λ z. get_or new z 0 ≤ 1048575) R.place
-          (omega (arith, by_below m (entry n old) (p / n) (p % n), entry_near N (p / n) (p % n) (omega (arith, R.row)) R.column))
-
   pub lowered_fits : {i : ℕ} {new : List ℕ} → Lowered n m i old new → Fits n old → Fits n new
   lowered_fits W F = record { few = F.few; fits = omega (arith, F.fits, W.long) }
-
-  pub lowered_done : {i : ℕ} {new : List ℕ} → i ≡ n → Lowered n m i old new → Lowered n m n old new
-  lowered_done {i} {new} e W = subst (λ z. Lowered n m z old new) e W
 
 -- ---- the whole table, where the way may go by each tide below m
 
@@ -244,9 +230,6 @@ module _ {n : ℕ} {old : List ℕ} where
           ∙ ap₂ (λ (x y : ℕ). min x y) (C.inside i j a b) (ap₂ (λ (x y : ℕ). x + y) (C.inside i m a h) (C.inside m j h b))
           ∙ sym (closure_min (entry n old) m i j)
 
-  pub closing_fits : {m : ℕ} {new : List ℕ} → Closing n m old new → Fits n old → Fits n new
-  closing_fits C F = record { few = F.few; fits = omega (arith, F.fits, C.long) }
-
   pub closing_near : {m : ℕ} {new : List ℕ} → Closing n m old new → InRange (n * n) old → InRange (n * n) new
   closing_near {m} {new} C N =
       places_near n new (λ i j a b. omega (arith, C.inside i j a b, closure_below (entry n old) m i j, entry_near N i j a b))
@@ -269,14 +252,31 @@ module _ {n : ℕ} {old : List ℕ} where
 
 -- ---- the pairs that are nearer
 
+-- a test as a number
+byte_bit : (b : Bool) → bool_byte b ≡ bit b
+byte_bit true = refl
+byte_bit false = refl
+
+byte_low : (b : Bool) → bool_byte b ≤ 1
+byte_low true = omega arith
+byte_low false = omega arith
+
+-- one more place counted
+pub counted_more : (p : ℕ → Bool) (i : ℕ) {total one : ℕ} → (total ≡ count_below i p) × (total ≤ i) → one ≡ bool_byte (p i)
+    → (total + one ≡ count_below (i + 1) p) × (total + one ≤ i + 1)
+unfolding count_below
+counted_more p i C e =
+    (sum_more (λ t. bit (p t)) i C.0 (e ∙ byte_bit (p i)), omega (arith, C.1, e, byte_low (p i)))
+
 module _ (n i : ℕ) (new old : List ℕ) (F : Fits n new) (G : Fits n old) (inside : i < n) (s e : ℕ) (starts : s ≡ i * n) (ends : e ≡ s + i) where
   abbrev row_of : List ℕ → List ℕ
   row_of l = take (e - s) (drop s l)
 
   -- a row's places before the diagonal
-  pub row_counted : {r : ℕ} → r ≡ count_below (length (row_of new)) (λ j. ltb (get_or (row_of new) j 0) (get_or (row_of old) j 0))
+  pub row_counted : {r : ℕ} {a b : List ℕ} → a ≡ row_of new → b ≡ row_of old → r ≡ count_below (length a) (λ j. ltb (get_or a j 0) (get_or b j 0))
       → r ≡ count_below i (λ j. ltb (entry n new i j) (entry n old i j))
-  row_counted q =
+  row_counted f g p =
+      let q = p ∙ ap₂ (λ (x y : List ℕ). count_below (length x) (λ j. ltb (get_or x j 0) (get_or y j 0))) f g in
       let long : length (row_of new) ≡ i = part_long n i new F inside s e starts (omega arith) ∙ omega arith in
       q ∙ ap (λ (k : ℕ). count_below k (λ j. ltb (get_or (row_of new) j 0) (get_or (row_of old) j 0))) long
       ∙ count_same i (λ j. ltb (get_or (row_of new) j 0) (get_or (row_of old) j 0)) (λ j. ltb (entry n new i j) (entry n old i j))

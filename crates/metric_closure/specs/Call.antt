@@ -1,11 +1,10 @@
 -- The call of document 02, 2.1, on a table in memory, n rows of n: its reasons for a refusal, in document 02's order, its answer, and what
 -- it leaves. Assumes nothing.
-use Rattle.std.specs.Prelude.{ℕ, ◌+◌, ◌*◌, ◌/◌, ◌%◌, Bool, not, ◌&&◌, List, [], ◌∷◌, leb, eqb, length, get_or}
+use Rattle.std.specs.Prelude.{ℕ, ◌+◌, ◌*◌, ◌/◌, ◌%◌, Bool, not, ◌&&◌, List, [], ◌∷◌, leb, eqb, length, get_or, Result, Ok, Err}
 use Rattle.lists.specs.Lists.{every, overwrite}
 use Rattle.study.specs.Limits.{max_tides, max_distance}
-use Rattle.study.specs.Refusals.{number, numbered, Verdict, settled, Reply, value, refusal, replied, Reason, ◌⇒◌, first_of}
-use Rattle.metric_closure.specs.declared.Closed.{Closed}
-use Rattle.metric_closure.specs.declared.Closed.TheVariants as ClosedCase
+use Rattle.study.specs.declared.Refusal.{Refusal}
+use Rattle.study.specs.Refusals.{number, numbered, Verdict, accepted, refused, settled, Reply, value, refusal, replied, Reason, ◌⇒◌, first_of}
 use Rattle.metric_closure.specs.Closure.{closure, lowered_pairs}
 
 -- place j of row i
@@ -49,7 +48,11 @@ closed_table n l = overwrite (n * n) (λ p. closure n (entry n l) (p / n) (p % n
 unfoldable pub close_leaves : ℕ → List ℕ → List ℕ
 close_leaves n l = settled (close_verdict n l) (closed_table n l) l
 
--- the code's answer, by the documents' numbers
-abbrev pub closed_of : Closed → Reply ℕ
-closed_of (ClosedCase.Done lowered) = value lowered
-closed_of (ClosedCase.Refused r) = refusal (numbered r)
+-- the code's answers, by the documents' numbers: of the reasons alone, and of the call
+abbrev pub checked_of : Result Unit Refusal → Verdict
+checked_of (Ok _) = accepted
+checked_of (Err r) = refused (numbered r)
+
+abbrev pub closed_of : Result ℕ Refusal → Reply ℕ
+closed_of (Ok lowered) = value lowered
+closed_of (Err r) = refusal (numbered r)

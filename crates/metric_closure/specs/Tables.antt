@@ -17,18 +17,6 @@ pub record InRange (m : ℕ) (l : List ℕ) : Type 0 where
 unfoldable pub lesser_way : List ℕ → List ℕ → ℕ → ℕ → ℕ
 lesser_way row line far j = min (get_or row j 0) (far + get_or line j 0)
 
--- the line holds row m
-pub record LineOf (n m : ℕ) (table line : List ℕ) : Type 0 where
-  pub long : n ≤ length line
-  pub holds : (j : ℕ) → j < n → get_or line j 0 ≡ entry n table m j
-
--- row i where the way may go by tide m, whose row is the line; all else as before
-pub record RowLowered (n m i : ℕ) (line old new : List ℕ) : Type 0 where
-  pub long : length new ≡ length old
-  pub row : (j : ℕ) → j < n → entry n new i j ≡ min (entry n old i j) (entry n old i m + get_or line j 0)
-  pub before : (p : ℕ) → p < i * n → get_or new p 0 ≡ get_or old p 0
-  pub after : (p : ℕ) → i * n + n ≤ p → get_or new p 0 ≡ get_or old p 0
-
 -- the rows before i where the way may go by tide m; all else as before
 pub record Lowered (n m i : ℕ) (old new : List ℕ) : Type 0 where
   pub long : length new ≡ length old

@@ -1,23 +1,13 @@
 // How many pairs the closure lowers.
 ghost use Rattle.std.specs.Prelude.{◌≡◌, ◌*◌, ◌≤◌, ltb, length, get_or};
-ghost use Rattle.lists.specs.Lists.{bit, count_below};
+ghost use Rattle.lists.specs.Lists.{count_below};
 ghost use Rattle.metric_closure.specs.Closure.{nearer_pairs, lowered_pairs};
 ghost use Rattle.metric_closure.specs.Call.{entry, closed_table};
 ghost use Rattle.metric_closure.specs.Tables.{Fits, InRange};
 
 use crate::lowering::close_table;
-use crate::table::{copy, row_start};
+use crate::square::Square;
 use study::TABLE_SIZE;
-
-// 1 where x is less, else 0.
-fn less(x: u32, y: u32) -> usize
-    ensures { (result ≡ bit (ltb x y)) × (result ≤ 1) }
-{
-    if x < y {
-        return 1;
-    }
-    0
-}
 
 // At how many places a row holds less than another.
 fn nearer_places(new: &[u32], old: &[u32]) -> usize
@@ -26,28 +16,21 @@ fn nearer_places(new: &[u32], old: &[u32]) -> usize
         ≡ count_below (length new.now) (λ j. ltb (get_or new.now j 0) (get_or old.now j 0)) }
     ensures upper_bound { result ≤ length new.now }
 {
-    let n = new.len();
     let mut total: usize = 0;
-    let mut j: usize = 0;
-    while j < n {
-        total += less(new[j], old[j]);
-        j += 1;
+    for (j, distance) in new.iter().enumerate() {
+        total += usize::from(*distance < old[j]);
     }
     total
 }
 
 // The pairs of tides that are nearer in one table than in another: each tide with those before it.
-fn nearer_pairs(new: &[u32], old: &[u32], n: usize) -> usize
-    requires fits { Fits n new.now }
-    requires fits_2 { Fits n old.now }
-    ensures { result ≡ nearer_pairs n (entry n new.now) (entry n old.now) }
+fn nearer_pairs(new: &Square, old: &Square) -> usize
+    requires { new.now.n ≡ old.now.n }
+    ensures { result ≡ nearer_pairs new.now.n (entry new.now.n new.now.places.now) (entry new.now.n old.now.places.now) }
 {
     let mut total: usize = 0;
-    let mut i: usize = 0;
-    while i < n {
-        let start = row_start(n, i);
-        total += nearer_places(&new[start..start + i], &old[start..start + i]);
-        i += 1;
+    for i in 0..new.n {
+        total += nearer_places(new.before(i), old.before(i));
     }
     total
 }
@@ -59,9 +42,11 @@ pub fn close_counted(table: &mut [u32], n: usize) -> usize
     ensures value { result ≡ lowered_pairs n (entry n table.old) }
     ensures table_after { table.new ≡ closed_table n table.old }
 {
-    let mut sent = [0u32; TABLE_SIZE];
     let size = n * n;
-    copy(&table[..size], &mut sent);
+    let mut sent = [0u32; TABLE_SIZE];
+    sent[..size].copy_from_slice(&table[..size]);
     close_table(table, n);
-    nearer_pairs(table, &sent, n)
+    let closed = Square { n, places: table };
+    let sent = Square { n, places: &sent };
+    nearer_pairs(&closed, &sent)
 }

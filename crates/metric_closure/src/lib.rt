@@ -2,44 +2,45 @@
 #![tactic(auto)]
 
 use crate::counting::close_counted;
-use crate::reasons::{in_range, symmetric};
+use crate::reasons::in_range;
+use crate::square::Square;
 use study::{MAX_TIDES, Refusal};
 
 mod counting;
 mod lowering;
 mod reasons;
 pub mod row;
-mod table;
+mod square;
 
 ghost use Rattle.std.specs.Prelude.{◌≡◌};
-ghost use Rattle.metric_closure.specs.Call.{close_answer, close_leaves, closed_of};
+ghost use Rattle.metric_closure.specs.Call.{close_verdict, close_answer, close_leaves, checked_of, closed_of};
 
-// What the call answers.
-#[derive(Clone, Copy)]
-pub enum Closed {
-    // The number of pairs that were lowered.
-    Done(usize),
-    Refused(Refusal),
-}
-
-// Lowers each distance to the least sum over any chain of tides; the answer is how many pairs were lowered.
-pub fn close(table: &mut [u32], n: usize) -> Closed
-    ensures answer { closed_of result ≡ close_answer n table.old }
-    ensures leaves { table.new ≡ close_leaves n table.old }
+// The first reason to refuse the table, if there is one.
+fn check(table: &[u32], n: usize) -> Result<(), Refusal>
+    ensures { checked_of result ≡ close_verdict n table.now }
 {
     if MAX_TIDES < n {
-        return Closed::Refused(Refusal::TideCount);
+        return Err(Refusal::TideCount);
     }
     let size = n * n;
     if table.len() < size {
-        return Closed::Refused(Refusal::ShortMemory);
+        return Err(Refusal::ShortMemory);
     }
-    if !in_range(table, size) {
-        return Closed::Refused(Refusal::Distance);
+    if !in_range(&table[..size]) {
+        return Err(Refusal::Distance);
     }
-    if !symmetric(table, n) {
-        return Closed::Refused(Refusal::NotSymmetric);
+    let square = Square { n, places: table };
+    if !square.is_symmetric() {
+        return Err(Refusal::NotSymmetric);
     }
-    let lowered = close_counted(table, n);
-    Closed::Done(lowered)
+    Ok(())
+}
+
+// Lowers each distance to the least sum over any chain of tides; the answer is how many pairs were lowered.
+pub fn close(table: &mut [u32], n: usize) -> Result<usize, Refusal>
+    ensures answer { closed_of result ≡ close_answer n table.old }
+    ensures leaves { table.new ≡ close_leaves n table.old }
+{
+    check(table, n)?;
+    Ok(close_counted(table, n))
 }

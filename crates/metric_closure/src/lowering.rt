@@ -1,51 +1,28 @@
-// The closure: by each tide in turn, each row, each place of the row.
-ghost use Rattle.std.specs.Prelude.{◌≡◌, ◌*◌, ◌≤◌, ◌<◌, length};
+// The closure: by each tide in turn, each row, each place of the row. Here the table is written, and no `Square`: a struct that holds the lent slice
+// would need a clause in each function that it still holds the same slice.
+ghost use Rattle.std.specs.Prelude.{◌≡◌, ◌*◌, ◌<◌};
 ghost use Rattle.metric_closure.specs.Call.{closed_table};
-ghost use Rattle.metric_closure.specs.Tables.{Fits, InRange, LineOf, RowLowered, Lowered};
+ghost use Rattle.metric_closure.specs.Tables.{Fits, InRange, Lowered};
 
 use crate::row::lower_row;
-use crate::table::{copy, row_start};
+use crate::square::row_start;
 use study::MAX_TIDES;
 
-// Row i of the table where the way may go by tide m, whose row is the line.
-fn lower_at(table: &mut [u32], n: usize, m: usize, i: usize, line: &[u32])
-    requires fits { Fits n table.old }
-    requires in_range { InRange (n * n) table.old }
-    requires m_lt_n { (m < n) × (i < n) × (n ≤ length line.now) }
-    requires in_range_2 { InRange n line.now }
-    ensures { RowLowered n m i line.now table.old table.new }
-{
-    let start = row_start(n, i);
-    let far = table[start + m];
-    lower_row(&mut table[start..start + n], line, far);
-}
-
-// Every row of the table where the way may go by tide m, whose row is the line.
-fn lower_rows(table: &mut [u32], n: usize, m: usize, line: &[u32])
-    requires fits { Fits n table.old }
-    requires in_range { InRange (n * n) table.old }
-    requires m_lt_n { m < n }
-    requires line_of { LineOf n m table.old line.now }
-    ensures { Lowered n m n table.old table.new }
-{
-    let mut i: usize = 0;
-    while i < n {
-        lower_at(table, n, m, i, line);
-        i += 1;
-    }
-}
-
-// The table where the way may go by tide m.
+// The table where the way may go by tide m, whose row is copied first.
 fn lower_by(table: &mut [u32], n: usize, m: usize)
     requires fits { Fits n table.old }
     requires in_range { InRange (n * n) table.old }
     requires m_lt_n { m < n }
     ensures { Lowered n m n table.old table.new }
 {
+    let own = row_start(n, m);
     let mut line = [0u32; MAX_TIDES];
-    let start = row_start(n, m);
-    copy(&table[start..start + n], &mut line);
-    lower_rows(table, n, m, &line);
+    line[..n].copy_from_slice(&table[own..own + n]);
+    for i in 0..n {
+        let start = row_start(n, i);
+        let far = table[start + m];
+        lower_row(&mut table[start..start + n], &line, far);
+    }
 }
 
 // The table where the way may go by any tides.
@@ -54,9 +31,7 @@ pub fn close_table(table: &mut [u32], n: usize)
     requires in_range { InRange (n * n) table.old }
     ensures { table.new ≡ closed_table n table.old }
 {
-    let mut m: usize = 0;
-    while m < n {
+    for m in 0..n {
         lower_by(table, n, m);
-        m += 1;
     }
 }

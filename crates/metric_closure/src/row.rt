@@ -1,18 +1,8 @@
 // One row, lowered by one way: also for rows of other tables.
-ghost use Rattle.std.specs.Prelude.{◌≡◌, ◌≤◌, min, length};
+ghost use Rattle.std.specs.Prelude.{◌≡◌, ◌≤◌, length};
 ghost use Rattle.lists.specs.Lists.{overwrite};
 ghost use Rattle.study.specs.Limits.{max_distance};
 ghost use Rattle.metric_closure.specs.Tables.{InRange, lesser_way};
-
-// The lesser of two numbers.
-fn lesser(x: u32, y: u32) -> u32
-    ensures { result ≡ min x y }
-{
-    if x < y {
-        return x;
-    }
-    y
-}
 
 // A tide's row where the way to each other tide may go by one at this distance, whose row is the line.
 // There is no branch, so that the machine does several tides at once.
@@ -23,10 +13,7 @@ pub fn lower_row(row: &mut [u32], line: &[u32], far: u32)
     ensures { row.new
         ≡ overwrite (length row.old) (lesser_way row.old line.now far) row.old }
 {
-    let n = row.len();
-    let mut j: usize = 0;
-    while j < n {
-        row[j] = lesser(row[j], far + line[j]);
-        j += 1;
+    for j in 0..row.len() {
+        row[j] = row[j].min(far + line[j]);
     }
 }

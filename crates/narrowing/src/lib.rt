@@ -8,8 +8,5 @@ ghost use Rattle.narrowing.specs.Narrowing.{narrowed};
 pub fn narrow(x: u32) -> u8
     ensures { result ≡ narrowed x }
 {
-    if x < 256 {
-        return x as u8;
-    }
-    255
+    u8::try_from(x).unwrap_or(255)
 }

@@ -9,7 +9,10 @@ use lib.Seq.{get_or-take, length-take-le}
 use Rattle.lists.specs.Lists.{at}
 use Rattle.lists.proofs.Tests.{split}
 use Rattle.study.specs.Problem.{centre_of, nearest_distance, nearest_block}
+use Rattle.study.specs.Limits.{cell, max_tides}
 use Rattle.study.specs.Theorems.{IsNearest}
+use Rattle.radius_theory.specs.Arrays.{within, TidesIn}
+use Rattle.radius_theory.proofs.ArrayLaws.{within_is}
 use Rattle.study.proofs.NearestLaws.{nearest_only}
 
 -- i is the first place of the least of w 0, w 1, .. w (m - 1), and x is that least
@@ -52,8 +55,18 @@ module _ {w : ℕ → ℕ} where
           first = F.first;
         }
 
-  pub first_done : {m n i x : ℕ} → FirstLeast w m i x → m ≡ n → FirstLeast w n i x
+  first_done : {m n i x : ℕ} → FirstLeast w m i x → m ≡ n → FirstLeast w n i x
   first_done {i = i} {x = x} F e = subst (λ z. FirstLeast w z i x) e F
+
+  -- of the same numbers
+  first_same : {v : ℕ → ℕ} {m i x : ℕ} → ((k : ℕ) → k < m → w k ≡ v k) → FirstLeast w m i x → FirstLeast v m i x
+  first_same {m = m} {i = i} {x = x} e F =
+      record {
+        inside = F.inside;
+        is = F.is ∙ e i F.inside;
+        lowest = λ k l. subst (λ z. x ≤ z) (e k l) (F.lowest k l);
+        first = λ k l. subst (λ z. x < z) (e k (omega (arith, F.inside))) (F.first k l);
+      }
 
 -- of the distances from the first count centres of a table: block i + 1 is nearest
 module _ (dist : ℕ → ℕ → ℕ) (table : List ℕ) {count t i x : ℕ} (long : count ≤ length table) (F : FirstLeast (λ m. dist (at table m) t) count i x) where
@@ -87,5 +100,13 @@ module _ (dist : ℕ → ℕ → ℕ) (table : List ℕ) {count t i x : ℕ} (lo
             (split k (i + 1));
       }
 
-  pub nearest_found : (i + 1 ≡ nearest_block dist cs t) × (x ≡ nearest_distance dist cs t)
+  nearest_found : (i + 1 ≡ nearest_block dist cs t) × (x ≡ nearest_distance dist cs t)
   nearest_found = let q = nearest_only dist cs t (i + 1) near in (q.0, sym far_nearest ∙ q.1)
+
+-- the tides of a table lie at these distances
+pub nearest_of : (d : List ℕ) {n : ℕ} {table : List ℕ} {count t m i x : ℕ} → TidesIn table count n → length table ≡ max_tides → t < n → m ≡ count
+    → FirstLeast (λ k. cell d (at table k) t) m i x
+    → (i + 1 ≡ nearest_block (within d n) (take count table) t) × (x ≡ nearest_distance (within d n) (take count table) t)
+nearest_of d {n} {table} {t = t} A long h e F =
+    nearest_found (within d n) table (omega (arith, A.few))
+    (first_same (λ k l. sym (within_is d n (at table k) t (A.below k l) h)) (first_done F e))

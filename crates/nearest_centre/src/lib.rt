@@ -2,12 +2,11 @@
 #![tactic(auto)]
 
 ghost use Rattle.std.specs.Prelude.{◌≡◌, ◌≤◌, ◌<◌, length, take};
-ghost use Rattle.lists.specs.Lists.{at, overwrite};
+ghost use Rattle.lists.specs.Lists.{overwrite};
 ghost use Rattle.study.specs.Problem.{nearest_distance, nearest_block};
 ghost use Rattle.radius_theory.specs.Arrays.{within};
-ghost use Rattle.nearest_centre.specs.Inputs.{Centred};
 
-use study::MAX_TIDES;
+use radius_theory::centres::Centres;
 
 // A block's number, and how far its centre lies from a tide.
 #[derive(Clone, Copy)]
@@ -16,46 +15,22 @@ pub struct Nearest {
     pub distance: u32,
 }
 
-// How far tide t lies from centre m, from 0.
-fn from_centre(
-    distances: &[u32],
-    n: usize,
-    centres: &[usize; MAX_TIDES],
-    count: usize,
-    m: usize,
-    t: usize,
-) -> u32
-    requires centred { Centred distances.now n centres.now count }
-    requires m_lt_count { (m < count) × (t < n) }
-    ensures { result ≡ within distances.now n (at centres.now m) t }
-{
-    distances[centres[m] * MAX_TIDES + t]
-}
-
-// The nearest of the first count centres to tide t; of equally near ones the first.
-fn nearest_to(
-    distances: &[u32],
-    n: usize,
-    centres: &[usize; MAX_TIDES],
-    count: usize,
-    t: usize,
-) -> Nearest
-    requires centred { Centred distances.now n centres.now count }
-    requires t_lt_n { t < n }
-    ensures block_value { result.block ≡ nearest_block (within distances.now n) (take count centres.now) t }
-    ensures distance_value { result.distance ≡ nearest_distance (within distances.now n) (take count centres.now) t }
+// The nearest of the centres to tide t; of equally near ones the first.
+fn nearest_to(centres: &Centres, t: usize) -> Nearest
+    requires first { 1 ≤ centres.now.count }
+    requires t_lt_n { t < centres.now.study.tides.n }
+    ensures block_value { result.block
+        ≡ nearest_block (within centres.now.study.distances.now centres.now.study.tides.n) (take centres.now.count centres.now.tides) t }
+    ensures distance_value { result.distance
+        ≡ nearest_distance (within centres.now.study.distances.now centres.now.study.tides.n) (take centres.now.count centres.now.tides) t }
 {
     let mut best = 0;
-    let mut least = from_centre(distances, n, centres, count, 0, t);
-    let mut m = 1;
-    while m < count {
-        let distance = from_centre(distances, n, centres, count, m, t);
+    let mut least = centres.distance(0, t);
+    for m in 1..centres.count {
+        let distance = centres.distance(m, t);
         if distance < least {
             best = m;
             least = distance;
-            m += 1;
-        } else {
-            m += 1;
         }
     }
     Nearest {
@@ -65,26 +40,17 @@ fn nearest_to(
 }
 
 // Writes for each tide the nearest centre's block number and distance.
-pub fn put_nearest(
-    distances: &[u32],
-    n: usize,
-    centres: &[usize; MAX_TIDES],
-    count: usize,
-    nearest: &mut [u8],
-    away: &mut [u32],
-)
-    requires centred { Centred distances.now n centres.now count }
-    requires n_in_bounds { (n ≤ length nearest.old) × (n ≤ length away.old) }
-    ensures nearest { nearest.new
-        ≡ overwrite n (nearest_block (within distances.now n) (take count centres.now)) nearest.old }
-    ensures away { away.new
-        ≡ overwrite n (nearest_distance (within distances.now n) (take count centres.now)) away.old }
+pub fn put_nearest(centres: &Centres, nearest: &mut [u8], away: &mut [u32])
+    requires first { 1 ≤ centres.now.count }
+    requires n_in_bounds { (centres.now.study.tides.n ≤ length nearest.old) × (centres.now.study.tides.n ≤ length away.old) }
+    ensures nearest { let study = centres.now.study in nearest.new
+        ≡ overwrite study.tides.n (nearest_block (within study.distances.now study.tides.n) (take centres.now.count centres.now.tides)) nearest.old }
+    ensures away { let study = centres.now.study in away.new
+        ≡ overwrite study.tides.n (nearest_distance (within study.distances.now study.tides.n) (take centres.now.count centres.now.tides)) away.old }
 {
-    let mut t = 0;
-    while t < n {
-        let found = nearest_to(distances, n, centres, count, t);
+    for t in 0..centres.study.tides.n {
+        let found = nearest_to(centres, t);
         nearest[t] = found.block;
         away[t] = found.distance;
-        t += 1;
     }
 }

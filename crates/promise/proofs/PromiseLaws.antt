@@ -4,16 +4,10 @@ use native.Mathlib.Omega.{arith}
 use mathlib.Core.Path.{◌≡◌}
 use mathlib.Core.List.{List}
 use lib.ListN.{length}
-use Rattle.promise.specs.Promise.{Asked}
+use Rattle.promise.specs.Promise.{Room}
 
 -- another table and list of the same lengths
-pub asked_on : {Able : Type 0} {n blocks : ℕ} {old new list list' : List ℕ} → Asked Able n blocks old list → length new ≡ length old
-    → length list' ≡ length list → Asked Able n blocks new list'
-asked_on A e q =
-    record {
-      few_tides = A.few_tides;
-      few_blocks = A.few_blocks;
-      allowed_long = omega (arith, A.allowed_long);
-      list_long = omega (arith, A.list_long);
-      able = A.able;
-    }
+pub room_on : {n blocks : ℕ} {old new list list' : List ℕ} → Room n blocks old list → length new ≡ length old → length list' ≡ length list
+    → Room n blocks new list'
+room_on R e q =
+    record { few_blocks = R.few_blocks; allowed_long = omega (arith, R.allowed_long); list_long = omega (arith, R.list_long) }

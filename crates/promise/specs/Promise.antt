@@ -30,10 +30,10 @@ allows allowed t m = not (eqb (cell allowed m t) 0)
 abbrev pub Nowhere : (allowed : List ℕ) (t blocks : ℕ) → Type 0
 Nowhere allowed t blocks = (m : ℕ) → m < blocks → T (allows allowed t m) → ⊥
 
--- what `first_allowed` promises: r is a block that the tide t may go to, or there is none
-pub record FirstAllowed (allowed : List ℕ) (t blocks r : ℕ) : Type 0 where
-  pub may : r < blocks → T (allows allowed t r)
-  pub none : blocks ≤ r → Nowhere allowed t blocks
+-- the tide t may go to block m
+pub record MayGo (allowed : List ℕ) (blocks t m : ℕ) : Type 0 where
+  pub below : m < blocks
+  pub may : T (allows allowed t m)
 
 -- ---- a search
 
@@ -47,13 +47,12 @@ pub record Assigning (n blocks : ℕ) (E : Test) (May : ℕ → ℕ → Type 0) 
 abbrev pub Assigned : (n blocks : ℕ) (E : Test) (allowed : List ℕ) (D : ℕ → ℕ) → Type 0
 Assigned n blocks E allowed = Assigning n blocks E (λ t m. T (allows allowed t m))
 
--- what a search may assume; Able is what it may of the numbers that its test is made of
-pub record Asked (Able : Type 0) (n blocks : ℕ) (allowed list : List ℕ) : Type 0 where
-  pub few_tides : n ≤ max_tides
+-- what a search may assume beside what the tides bring with them (src/tides.rt): few blocks, and room for a table of allowed pairs and for
+-- a list of n tides
+pub record Room (n blocks : ℕ) (allowed list : List ℕ) : Type 0 where
   pub few_blocks : blocks ≤ max_tides
   pub allowed_long : table_size ≤ length allowed
   pub list_long : n ≤ length list
-  pub able : Able
 
 -- what a search promises of its answer r and of the list that it leaves, list'
 pub record Promise (n blocks : ℕ) (E : Test) (allowed list list' : List ℕ) (r : Bool) : Type 0 where

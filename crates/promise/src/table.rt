@@ -1,23 +1,22 @@
 // The table of allowed pairs, a row of MAX_TIDES places for each block.
-ghost use Rattle.std.specs.Prelude.{◌<◌, ◌≤◌, length};
+ghost use Rattle.std.specs.Prelude.{◌<◌, ◌≤◌, length, IfSome, IfNone};
 ghost use Rattle.study.specs.Limits.{max_tides, table_size};
-ghost use Rattle.promise.specs.Promise.{FirstAllowed};
+ghost use Rattle.promise.specs.Promise.{MayGo, Nowhere};
 
 use study::MAX_TIDES;
 
-// The first block that the tide t may go to, or MAX_TIDES where there is none.
-pub fn first_allowed(allowed: &[u8], t: usize, blocks: usize) -> usize
+// The first block that the tide t may go to.
+pub fn first_allowed(allowed: &[u8], t: usize, blocks: usize) -> Option<usize>
     requires blocks_le_max_tides { blocks ≤ max_tides }
     requires t_lt_max_tides { t < max_tides }
     requires table_size_in_bounds { table_size ≤ length allowed.now }
-    ensures { FirstAllowed allowed.now t blocks result }
+    ensures some { IfSome result (MayGo allowed.now blocks t) }
+    ensures none { IfNone result (Nowhere allowed.now t blocks) }
 {
-    let mut m = 0;
-    while m < blocks {
+    for m in 0..blocks {
         if allowed[m * MAX_TIDES + t] != 0 {
-            return m;
+            return Some(m);
         }
-        m += 1;
     }
-    MAX_TIDES
+    None
 }

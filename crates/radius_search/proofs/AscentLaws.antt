@@ -278,11 +278,6 @@ module _ {d : List ℕ} {n : ℕ} {E : Test} (Q : ValidArrays d n E) (pos : 0 < 
       distance : InAll d n r → r among candidates (array_problem d n E)
       distance w = Memᴰ.cast w.2.2 (dist_candidate Q w.0 w.2.0 w.1 w.2.1)
 
--- none up to limit: the search goes on there
-pub ascended : {d : List ℕ} {n : ℕ} {E : Test} {g limit count r : ℕ} {cs old allowed list : List ℕ}
-    → Ascent d n E cs count g limit r old allowed list → limit ≤ r → Lowest (array_problem d n E) limit
-ascended {d} {n} {E} A l = subst (Lowest (array_problem d n E)) (omega (arith, A.most)) A.lowest
-
 -- the table is long as the one that was lent
 pub least_found : {d : List ℕ} {n : ℕ} {E : Test} {g limit count r : ℕ} {cs lent old allowed list : List ℕ}
     → Steady d n g limit count cs → length old ≡ length lent → Ascent d n E cs count g limit r old allowed list → r < limit

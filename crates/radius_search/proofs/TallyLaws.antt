@@ -18,7 +18,7 @@ use Rattle.lists.proofs.Tables.{length_tabulate, get_d_tabulate}
 use Rattle.study.specs.Limits.{max_tides}
 use Rattle.study.specs.declared.Minima.{Minima}
 use Rattle.study.specs.Study.{meets}
-use Rattle.radius_search.specs.Tally.{tally, Tallied, TallyRoom, TallyStep, met}
+use Rattle.radius_search.specs.Tally.{tally, Tallied, TallyRoom, met}
 
 module _ (s : List ℕ) (p : ℕ → Bool) where
   tally_length : (t : ℕ) → length (tally s p t) ≡ 9
@@ -89,22 +89,20 @@ module _ {s : List ℕ} {p : ℕ → Bool} where
 
 -- ---- one more tide, as a step of a loop
 
--- where tides are few and have one of the settings, the next can be counted
-pub tally_room : {s : List ℕ} {p : ℕ → Bool} {t one found : ℕ} {counts : List ℕ} → t < length s → get_or s t 0 ≤ 8 → t ≤ max_tides → one ≤ 1
-    → Tallied s p t found counts → TallyRoom s t one found counts
-tally_room l h k o A =
-    record {
-      inside = l;
-      setting_high = h;
-      long = tallied_long A;
-      small = λ j q. omega (arith, tallied_small A j q);
-      few = omega (arith, tallied_few A);
-      once = o;
-    }
+module _ {s : List ℕ} {p : ℕ → Bool} {t found : ℕ} {counts : List ℕ} (h : get_or s t 0 ≤ 8) (A : Tallied s p t found counts) where
+  -- where tides are few and have one of the settings, the next can be counted
+  pub tally_room : t ≤ max_tides → TallyRoom (get_or s t 0) found counts
+  tally_room k =
+      record {
+        setting_high = h;
+        small = λ j q. omega (arith, tallied_small A j q);
+        few = omega (arith, tallied_few A);
+      }
 
-pub tally_step : {s counts : List ℕ} {t one found : ℕ} (r : ℕ) → r ≡ get_or s t 0 → get_or s t 0 ≤ 8
-    → TallyStep s t one found counts (found + one) (set counts r (get_or counts r 0 + one))
-tally_step {one = one} r e h = record { more = λ p A q. tallied_more one r A q e (omega arith) }
+  -- it is, where it passes the test
+  pub tally_step : {b : Bool} {found' : ℕ} {counts' : List ℕ} → b ≡ p t → found' ≡ found + bit b
+      → counts' ≡ set counts (get_or s t 0) (get_or counts (get_or s t 0) 0 + bit b) → Tallied s p (t + 1) found' counts'
+  tally_step {b} e f k = rw (f, k) (tallied_more (bit b) (get_or s t 0) A (ap bit e) refl (omega arith))
 
 -- ---- the minima, from the counts
 

@@ -1,51 +1,42 @@
 // The centres at a radius.
-ghost use Rattle.std.specs.Prelude.{◌≡◌, ◌<◌, length};
-ghost use Rattle.study.specs.Limits.{max_tides};
+ghost use Rattle.std.specs.Prelude.{◌≡◌, ◌<◌};
 ghost use Rattle.radius_search.specs.Front.{CentresAt, FarFrom};
-ghost use Rattle.radius_theory.specs.Arrays.{DistanceRows, TidesIn};
 
-use study::MAX_TIDES;
+use radius_theory::centres::Centres;
+use radius_theory::input::Study;
 
-// Whether tide t is farther than g from each of the first count centres.
-fn far_from(
-    distances: &[u32],
-    n: usize,
-    centres: &[usize; MAX_TIDES],
-    count: usize,
-    g: u32,
-    t: usize,
-) -> bool
-    requires distance_rows { DistanceRows distances.now n }
-    requires tides_in { TidesIn centres.now count n }
-    requires centres_len { (length centres.now ≡ max_tides) × (t < n) }
-    ensures { FarFrom distances.now n g t count centres.now result }
+// Whether tide t is farther than g from each of the centres.
+fn far_from(centres: &Centres, g: u32, t: usize) -> bool
+    requires { t < centres.now.study.tides.n }
+    ensures { FarFrom centres.now.study.distances.now centres.now.study.tides.n g t centres.now.count centres.now.tides result }
 {
-    let mut m = 0;
-    while m < count {
-        if distances[centres[m] * MAX_TIDES + t] <= g {
+    for m in 0..centres.count {
+        if centres.distance(m, t) <= g {
             return false;
         }
-        m += 1;
     }
     true
 }
 
-// Writes the centres at g to the front of the table, and tells how many there are.
-pub fn find_centres(distances: &[u32], n: usize, g: u32, centres: &mut [usize; MAX_TIDES]) -> usize
-    requires distance_rows { DistanceRows distances.now n }
-    requires centres_len { length centres.old ≡ max_tides }
-    ensures { CentresAt distances.now n g result centres.new }
+// Puts the centres at g in the place of those held: a search over many radii has one table, and clears and moves none.
+pub fn refill(centres: &mut Centres, g: u32)
+    ensures same { centres.new.study ≡ centres.old.study }
+    ensures centres_at { CentresAt centres.old.study.distances.now centres.old.study.tides.n g centres.new.count centres.new.tides }
 {
-    let mut count = 0;
-    let mut t = 0;
-    while t < n {
-        if far_from(distances, n, centres, count, g, t) {
-            centres[count] = t;
-            count += 1;
-            t += 1;
-        } else {
-            t += 1;
+    centres.clear();
+    for t in 0..centres.study.tides.n {
+        if far_from(centres, g, t) {
+            centres.push(t);
         }
     }
-    count
+}
+
+// The centres at g.
+pub fn find_centres<'a>(study: &Study<'a>, g: u32) -> Centres<'a>
+    ensures same { result.study ≡ study.now }
+    ensures centres_at { CentresAt study.now.distances.now study.now.tides.n g result.count result.tides }
+{
+    let mut centres = Centres::none(study);
+    refill(&mut centres, g);
+    centres
 }

@@ -1,41 +1,41 @@
-// Counts of tides by their settings, against the minima.
-ghost use Rattle.std.specs.Prelude.{◌≡◌, length};
-ghost use Rattle.radius_search.specs.Tally.{TallyRoom, TallyStep, met};
+// Tides counted by their settings, against the minima.
+ghost use Rattle.std.specs.Prelude.{◌≡◌, ◌+◌, length, get_or, set};
+ghost use Rattle.lists.specs.Lists.{bit};
+ghost use Rattle.radius_search.specs.Tally.{TallyRoom, met};
 
-use study::{MAX_SETTINGS, Minima, wide};
+use study::{MAX_SETTINGS, Minima};
 
-// Counts tide t where one is 1, by its setting and among those found, and changes nothing where it is 0: a loop over tides has no branch.
-// Hands back how many are found.
-pub fn tally_one(
-    settings: &[u8],
-    t: usize,
-    one: usize,
-    found: usize,
-    counts: &mut [usize; 9],
-) -> usize
-    requires { TallyRoom settings.now t one found counts.old }
-    ensures { TallyStep settings.now t one found counts.old result counts.new }
-{
-    let s = wide(settings[t]);
-    counts[s] = counts[s] + one;
-    found + one
+// How many tides are found, and how many of them have each setting; place 0 of the counts by setting is unused.
+#[derive(Clone, Copy)]
+pub struct Tally {
+    pub found: usize,
+    pub by_setting: [usize; 9],
 }
 
-// Whether so many tides, of which each setting has so many, meet the minima. Place 0 of the counts is unused.
-pub fn counts_meet(minima: Minima, found: usize, counts: &[usize; 9]) -> bool
-    requires { length counts.now ≡ 9 }
-    ensures { result ≡ met minima found counts.now }
-{
-    if found < wide(minima.b0) {
-        return false;
+impl Tally {
+    // Counts a tide of this setting where it is `found`, and changes nothing where not: a loop over tides has no branch.
+    pub fn add(&mut self, setting: u8, found: bool)
+        requires { TallyRoom setting self.old.found self.old.by_setting }
+        ensures found { self.new.found ≡ self.old.found + bit found }
+        ensures by_setting { self.new.by_setting ≡ set self.old.by_setting setting (get_or self.old.by_setting setting 0 + bit found) }
+    {
+        let one = usize::from(found);
+        self.by_setting[usize::from(setting)] += one;
+        self.found += one;
     }
-    let b = minima.b;
-    let mut j: usize = 0;
-    while j < MAX_SETTINGS {
-        if counts[j + 1] < wide(b[j]) {
+
+    // Whether so many tides, of which each setting has so many, meet the minima.
+    pub fn meets(&self, minima: Minima) -> bool
+        ensures { result ≡ met minima self.now.found self.now.by_setting }
+    {
+        if self.found < usize::from(minima.b0) {
             return false;
         }
-        j += 1;
+        for j in 0..MAX_SETTINGS {
+            if self.by_setting[j + 1] < usize::from(minima.b[j]) {
+                return false;
+            }
+        }
+        true
     }
-    true
 }

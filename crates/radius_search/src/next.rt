@@ -1,10 +1,11 @@
 // The next radius to look at: the least above g of some of the distances.
 ghost use Rattle.std.specs.Prelude.{◌≡◌, ℕ, ◌<◌};
 ghost use Rattle.radius_theory.specs.Radii.{no_radius};
-ghost use Rattle.radius_theory.specs.Arrays.{DistanceRows, TidesIn};
 ghost use Rattle.radius_search.specs.Next.{Next, InRow, InLater, InPairs, InAll, FirstFrom};
 
-use study::{MAX_DISTANCE, MAX_TIDES};
+use radius_theory::centres::Centres;
+use radius_theory::input::Study;
+use study::MAX_DISTANCE;
 
 // One more than the greatest distance: no radius is so great.
 const NO_RADIUS: u32 = MAX_DISTANCE + 1;
@@ -13,97 +14,61 @@ const NO_RADIUS: u32 = MAX_DISTANCE + 1;
 fn closer(x: u32, g: u32, best: u32) -> u32
     ensures { Next (λ (y : ℕ). y ≡ x) g best result }
 {
-    if x <= g {
-        return best;
-    }
-    if x < best {
-        return x;
-    }
-    best
+    if x <= g { best } else { x.min(best) }
 }
 
 // Over the distances of tide c.
-fn next_in_row(distances: &[u32], n: usize, c: usize, g: u32, start: u32) -> u32
-    requires distance_rows { DistanceRows distances.now n }
-    requires c_lt_n { c < n }
-    ensures { Next (InRow distances.now c n) g start result }
+fn next_in_row(study: &Study, c: usize, g: u32, start: u32) -> u32
+    requires { c < study.now.tides.n }
+    ensures { Next (InRow study.now.distances.now c study.now.tides.n) g start result }
 {
     let mut best = start;
-    let mut t = 0;
-    while t < n {
-        best = closer(distances[c * MAX_TIDES + t], g, best);
-        t += 1;
+    for t in 0..study.tides.n {
+        best = closer(study.distance(c, t), g, best);
     }
     best
 }
 
-// Over the distances of tide i of the table from the later ones.
-fn next_later(
-    distances: &[u32],
-    n: usize,
-    tides: &[usize; MAX_TIDES],
-    count: usize,
-    i: usize,
-    g: u32,
-    start: u32,
-) -> u32
-    requires distance_rows { DistanceRows distances.now n }
-    requires tides_in { TidesIn tides.now count n }
-    requires i_lt_count { i < count }
-    ensures { Next (InLater distances.now tides.now i count) g start result }
+// Over the distances of centre i from the later ones.
+fn next_later(centres: &Centres, i: usize, g: u32, start: u32) -> u32
+    requires { i < centres.now.count }
+    ensures { Next (InLater centres.now.study.distances.now centres.now.tides i centres.now.count) g start result }
 {
-    let c = tides[i];
     let mut best = start;
-    let mut m = i + 1;
-    while m < count {
-        best = closer(distances[c * MAX_TIDES + tides[m]], g, best);
-        m += 1;
+    for m in i + 1..centres.count {
+        best = closer(centres.distance(i, centres.tides[m]), g, best);
     }
     best
 }
 
-// Over the distances between any two tides of the table.
-pub fn next_in_pairs(
-    distances: &[u32],
-    n: usize,
-    tides: &[usize; MAX_TIDES],
-    count: usize,
-    g: u32,
-) -> u32
-    requires distance_rows { DistanceRows distances.now n }
-    requires tides_in { TidesIn tides.now count n }
-    ensures { Next (InPairs distances.now tides.now count count) g no_radius result }
+// Over the distances between any two centres.
+pub fn next_in_pairs(centres: &Centres, g: u32) -> u32
+    ensures { Next (InPairs centres.now.study.distances.now centres.now.tides centres.now.count centres.now.count) g no_radius result }
 {
     let mut best = NO_RADIUS;
-    let mut i = 0;
-    while i < count {
-        best = next_later(distances, n, tides, count, i, g, best);
-        i += 1;
+    for i in 0..centres.count {
+        best = next_later(centres, i, g, best);
     }
     best
 }
 
 // Over all distances.
-fn next_of_all(distances: &[u32], n: usize, g: u32) -> u32
-    requires { DistanceRows distances.now n }
-    ensures { Next (InAll distances.now n) g no_radius result }
+fn next_of_all(study: &Study, g: u32) -> u32
+    ensures { Next (InAll study.now.distances.now study.now.tides.n) g no_radius result }
 {
     let mut best = NO_RADIUS;
-    let mut c = 0;
-    while c < n {
-        best = next_in_row(distances, n, c, g, best);
-        c += 1;
+    for c in 0..study.tides.n {
+        best = next_in_row(study, c, g, best);
     }
     best
 }
 
 // The least candidate from g on, or NO_RADIUS where there is none.
-pub fn first_from(distances: &[u32], n: usize, g: u32) -> u32
-    requires { DistanceRows distances.now n }
-    ensures { FirstFrom distances.now n g result }
+pub fn first_from(study: &Study, g: u32) -> u32
+    ensures { FirstFrom study.now.distances.now study.now.tides.n g result }
 {
     if g == 0 {
         return 0;
     }
-    next_of_all(distances, n, g - 1)
+    next_of_all(study, g - 1)
 }

@@ -4,21 +4,19 @@ use Prim.Native.Nat.{ℕ}
 use native.Mathlib.Omega.{arith}
 use mathlib.Core.Path.{◌≡◌, refl, sym, ap, ap₂, ◌∙◌}
 use mathlib.Core.Bool.{false}
-use mathlib.Core.List.{List, [], ◌∷◌, ◌++◌}
+use mathlib.Core.List.{List, ◌++◌}
 use lib.ListN.{get_or, replicate, length-replicate}
+use Rattle.std.specs.Prelude.{Result, Ok, Err}
 use Rattle.lists.specs.Lists.{overwrite}
 use Rattle.lists.proofs.Tests.{T_true}
 use Rattle.study.specs.declared.BlockRecord.{BlockRecord}
 use Rattle.study.specs.declared.Dataset.{Dataset}
 use Rattle.study.specs.declared.Refusal.{Refusal}
-use Rattle.study.specs.declared.Answer.{Answer}
-use Rattle.study.specs.declared.Answer.TheVariants.{Done, Refused}
 use Rattle.study.specs.Study.{Contents}
 use Rattle.study.specs.Refusals.{Numbered, numbered, Verdict, accepted, refused, verdict_of, settled, value, refusal, replied, first_of}
 use Rattle.study.specs.Theorems.{ValidContents}
-use Rattle.study.specs.Calls.{block_reasons, Figures, figures, block_record, blocked_of}
-use Rattle.study.specs.declared.Blocked.{Blocked}
-use Rattle.study.specs.declared.Blocked.TheVariants as BlockedCase
+use Rattle.study.specs.declared.Figures.{Figures}
+use Rattle.study.specs.Calls.{block_reasons, figures, block_record, blocked_of}
 use Rattle.file_format.specs.File.{decoded, read_reasons}
 use Rattle.study.proofs.ReasonLaws.{first_of_later, first_of_sooner}
 use Rattle.file_format.proofs.Proofs.{files}
@@ -47,16 +45,16 @@ over_blank_is accepted H = sheet_written (figures H.study) (block_record H.study
 over_blank_is (refused r) H = refl
 
 -- figures are known by their numbers
-figures_by : (a : Blocked) (v : Verdict) (F : Figures) → blocked_reply a ≡ replied v (figure_numbers F) → blocked_of a ≡ replied v F
-figures_by (BlockedCase.Done c r w) accepted F e =
-    let ns : c ∷ r ∷ w ∷ [] ≡ figure_numbers F = cc in
+figures_by : (a : Result Figures Refusal) (v : Verdict) (F : Figures) → blocked_reply a ≡ replied v (figure_numbers F) → blocked_of a ≡ replied v F
+figures_by (Ok G) accepted F e =
+    let ns : figure_numbers G ≡ figure_numbers F = cc in
     ap (λ (l : List ℕ). value (record { blocks = get_or l 0 0; radius = get_or l 1 0; widest = get_or l 2 0 })) ns
-figures_by (BlockedCase.Done c r w) (refused x) F e = absurd (let z : ◌≡◌ {A = ℕ} 0 1 = cc in omega arith)
-figures_by (BlockedCase.Refused r) accepted F e = absurd (let z : ◌≡◌ {A = ℕ} 0 1 = cc in omega arith)
-figures_by (BlockedCase.Refused r) (refused x) F e = let z : numbered r ≡ x = cc in ap refusal z
+figures_by (Ok G) (refused x) F e = absurd (let z : ◌≡◌ {A = ℕ} 0 1 = cc in omega arith)
+figures_by (Err r) accepted F e = absurd (let z : ◌≡◌ {A = ℕ} 0 1 = cc in omega arith)
+figures_by (Err r) (refused x) F e = let z : numbered r ≡ x = cc in ap refusal z
 
 -- as the code prints what Block answers and leaves
-pub blocked_text_lem : (s : State) {list : List ℕ} (a : Blocked) {rs : List BlockRecord} → list ≡ replicate 120 0
+pub blocked_text_lem : (s : State) {list : List ℕ} (a : Result Figures Refusal) {rs : List BlockRecord} → list ≡ replicate 120 0
     → blocked_reply a ≡ reply s (makes_blocks list no_records) → rs ≡ records_after s (makes_blocks list no_records)
     → sheet_text (blocked_of a) rs s.dataset.withdrawn ≡ blocked_text s
 unfolding blocked_text makes_blocks contents_of
@@ -128,12 +126,12 @@ module _ (print : Verdict → Contents → List ℕ) where
         let H = decoded file in
         ap (λ v. print v H) (first_of_sooner (read_reasons file) (block_reasons H.study 120 120) e) ∙ alone r H
 
-    pub text_refused : (file : List ℕ) (over : State) → short over ≡ false → {a : Answer} → verdict_of a ≡ answer over (reads_file file)
-        → {why : Refusal} → a ≡ Refused why → refused_text (numbered why) ≡ file_text print file
+    pub text_refused : (file : List ℕ) (over : State) → short over ≡ false → {a : Result Unit Refusal} → verdict_of a ≡ answer over (reads_file file)
+        → {why : Refusal} → a ≡ Err why → refused_text (numbered why) ≡ file_text print file
     text_refused file over long told e = sym (refused_alone file (sym (own file over long) ∙ sym told ∙ ap verdict_of e))
 
-  pub text_taken : (file : List ℕ) (over : State) → short over ≡ false → {a : Answer} → verdict_of a ≡ answer over (reads_file file)
-      → {s : State} → a ≡ Done → s ≡ after over (reads_file file) → print (answer s blank_block) (contents_of s) ≡ file_text print file
+  pub text_taken : (file : List ℕ) (over : State) → short over ≡ false → {a : Result Unit Refusal} → verdict_of a ≡ answer over (reads_file file)
+      → {s : State} {u : Unit} → a ≡ Ok u → s ≡ after over (reads_file file) → print (answer s blank_block) (contents_of s) ≡ file_text print file
   unfolding made reads_file file_text
   text_taken file over long told {s} e f =
       let q : answer over (reads_file file) ≡ accepted = sym told ∙ ap verdict_of e in
@@ -143,11 +141,11 @@ module _ (print : Verdict → Contents → List ℕ) where
 
 -- ---- the sheet
 
-module _ (file : List ℕ) (over : State) (long : short over ≡ false) {a : Answer} (told : verdict_of a ≡ answer over (reads_file file)) where
-  pub sheet_refused : {why : Refusal} → a ≡ Refused why → refused_text (numbered why) ≡ sheet_of file
+module _ (file : List ℕ) (over : State) (long : short over ≡ false) {a : Result Unit Refusal} (told : verdict_of a ≡ answer over (reads_file file)) where
+  pub sheet_refused : {why : Refusal} → a ≡ Err why → refused_text (numbered why) ≡ sheet_of file
   unfolding sheet_of
   sheet_refused e = text_refused printed (λ r H. refl) file over long told e
 
-  pub sheet_blocked : {s : State} → a ≡ Done → s ≡ after over (reads_file file) → blocked_text s ≡ sheet_of file
+  pub sheet_blocked : {s : State} {u : Unit} → a ≡ Ok u → s ≡ after over (reads_file file) → blocked_text s ≡ sheet_of file
   unfolding sheet_of blocked_text
   sheet_blocked {s} e f = text_taken printed file over long told e f

@@ -3,16 +3,15 @@
 
 ghost use Rattle.std.specs.Prelude.{◌≡◌, ◌≤◌};
 ghost use Rattle.study.specs.Refusals.{numbered};
-ghost use Rattle.validity.specs.Memory.{state_of};
+ghost use Rattle.validity.specs.View.{seen};
 ghost use Rattle.sheet_text.specs.Text.{refused_text, laid_out};
 ghost use Rattle.sheet_of_file.specs.Sheet.{sheet_of, blocked_text};
 
-use blocking::records::block_by_value;
+use blocking::records::{Blocking, block_by_value};
+use blocking::storing::NO_RECORD;
 use sheet_text::{Text, sheet_text};
-use study::{
-    Answer, BlockRecord, Blocked, Dataset, MAX_SETTINGS, MAX_TIDES, MAX_USERS, Minima, Refusal,
-    TABLE_SIZE,
-};
+use study::{Dataset, MAX_SETTINGS, MAX_TIDES, MAX_USERS, Minima, Refusal, TABLE_SIZE};
+use validity::view::View;
 
 // A record to read over: Read takes any.
 pub fn blank() -> Dataset {
@@ -32,24 +31,16 @@ pub fn blank() -> Dataset {
 fn refused_sheet(why: Refusal) -> Text
     ensures { (result.length ≤ 2855) × (result ≡ laid_out (refused_text (numbered why))) }
 {
-    let none = BlockRecord {
-        centre: 0,
-        tides: 0,
-        diameter: 0,
-    };
-    sheet_text(Blocked::Refused(why), [none; MAX_TIDES], [0; MAX_USERS])
+    sheet_text(Err(why), [NO_RECORD; MAX_TIDES], [0; MAX_USERS])
 }
 
 // The sheet of what Block answers.
-fn blocked_sheet(dataset: Dataset, distances: &[u32], settings: &[u8]) -> Text
-    ensures { (result.length ≤ 2855) × (result ≡ laid_out (blocked_text (state_of dataset distances.now settings.now))) }
+fn blocked_sheet(view: View) -> Text
+    ensures { (result.length ≤ 2855) × (result ≡ laid_out (blocked_text (seen view.entry))) }
 {
     let mut list = [0u8; MAX_TIDES];
-    let blocked = block_by_value(dataset, distances, settings, &mut list);
-    let answer = blocked.answer;
-    let records = blocked.records;
-    let withdrawn = dataset.withdrawn;
-    sheet_text(answer, records, withdrawn)
+    let Blocking { answer, records } = block_by_value(view, &mut list);
+    sheet_text(answer, records, view.dataset.withdrawn)
 }
 
 // The sheet of any bytes: a study file's blocks, or why there are none.
@@ -57,13 +48,15 @@ pub fn sheet(file: &[u8]) -> Text
     ensures fits { result.length ≤ 2855 }
     ensures text { result ≡ laid_out (sheet_of file.now) }
 {
-    let before = blank();
+    let mut dataset = blank();
     let mut distances = [0u32; TABLE_SIZE];
     let mut settings = [0u8; MAX_TIDES];
-    let outcome = study_file::read(before, &mut distances, &mut settings, file);
-    let answer = outcome.answer;
-    if let Answer::Refused(why) = answer {
+    if let Err(why) = study_file::read(&mut dataset, &mut distances, &mut settings, file) {
         return refused_sheet(why);
     }
-    blocked_sheet(outcome.dataset, &distances, &settings)
+    blocked_sheet(View {
+        dataset,
+        distances: &distances,
+        settings: &settings,
+    })
 }

@@ -1,20 +1,22 @@
 -- The sheet put field after field: each line's length at most, and that its fields make it up. Assumes nothing.
-use Prim.Native.Nat.{ℕ, suc, ◌+◌, ◌^◌, ◌≤◌, ◌<◌}
+use Prim.Native.Nat.{ℕ, suc, ◌+◌, ◌^◌, ◌≤◌, ◌<◌, min}
 use native.Mathlib.Omega.{arith}
 use native.Mathlib.Numerals.{add-one}
 use mathlib.Core.Path.{◌≡◌, refl, sym, ap, ◌∙◌, subst}
+use mathlib.Core.Logic.{⊎_elim}
 use mathlib.Core.List.{List, [], ◌∷◌, ◌++◌, flat_map, append-nil, append_assoc}
 use lib.ListN.{length, take, drop, get_or, length-append}
 use lib.Seq.{length-take-le, take-suc, take_all, take_at}
 use Rattle.lists.specs.Lists.{tabulate, overwrite}
+use Rattle.lists.proofs.Tests.{split}
 use Rattle.lists.proofs.Members.{flat_map_append, flat_map_one}
 use Rattle.lists.proofs.Tables.{length_tabulate}
 use Rattle.study.specs.declared.BlockRecord.{BlockRecord}
-use Rattle.study.specs.declared.Blocked.{Blocked}
-use Rattle.study.specs.declared.Blocked.TheVariants.{Done, Refused}
+use Rattle.std.specs.Prelude.{Result, Ok, Err}
 use Rattle.study.specs.declared.Refusal.{Refusal}
 use Rattle.study.specs.Refusals.{Numbered, numbered, value}
-use Rattle.study.specs.Calls.{Figures, blocked_of}
+use Rattle.study.specs.declared.Figures.{Figures}
+use Rattle.study.specs.Calls.{blocked_of}
 use Rattle.study.specs.Numbers.{number_of}
 use Rattle.sheet_text.specs.Text.{ascii, decimal, spaced, each_line, heading, line, lines, closing, refused_text, sheet_text}
 use Rattle.sheet_text.proofs.NumberLaws.{decimal_short}
@@ -79,10 +81,6 @@ module _ (xs : List ℕ) where
           ap (λ k. flat_map spaced (take k xs)) (add-one i) ∙ ap (flat_map spaced) (take-suc xs i 0 h)
           ∙ flat_map_append spaced (take i xs) (get_or xs i 0 ∷ []) ∙ ap (λ ys. flat_map spaced (take i xs) ++ ys) (flat_map_one spaced (get_or xs i 0))
 
-  pub spaced_done : (i : ℕ) → length xs ≤ i → {l m : List ℕ} {at end : ℕ} → PutText l at (flat_map spaced (take i xs)) end m
-      → PutText l at (flat_map spaced xs) end m
-  spaced_done i h p = puts_as p (ap (flat_map spaced) (take_all i xs h)) refl
-
 -- ---- the last line
 
 module _ (r w : ℕ) (xs : List ℕ) where
@@ -132,20 +130,25 @@ module _ {A : Type 0} (f : ℕ → A → List ℕ) where
             ap (λ k. each_line f 1 (take k xs)) (add-one i) ∙ ap (each_line f 1) (take-suc xs i d h) ∙ lines_end 1 (take i xs) (get_or xs i d)
             ∙ ap (λ k. each_line f 1 (take i xs) ++ f k (get_or xs i d)) (omega (arith, length-take-le i xs (omega arith)))
 
-    -- where there are no more elements than i
-    pub lines_all : (i n : ℕ) → length xs ≤ i → i ≤ n → {l m : List ℕ} {at end : ℕ} → PutText l at (each_line f 1 (take i xs)) end m
-        → PutText l at (each_line f 1 (take n xs)) end m
-    lines_all i n h k p = puts_as p (ap (each_line f 1) (take_all i xs h ∙ sym (take_all n xs (omega arith)))) refl
+    -- all of the first n, or of all where there are fewer
+    pub lines_all : (i m n : ℕ) → m ≡ min n (length xs) → length (take m xs) ≤ i → {l k : List ℕ} {at end : ℕ}
+        → PutText l at (each_line f 1 (take i (take m xs))) end k → PutText l at (each_line f 1 (take n xs)) end k
+    lines_all i m n e h p = puts_as p (ap (each_line f 1) (take_all i (take m xs) h ∙ front)) refl
+      where
+        front : take m xs ≡ take n xs
+        front =
+            ⊎_elim (λ (l : n < length xs). let same : m ≡ n = omega arith in ap (λ k. take k xs) same)
+            (λ (l : length xs ≤ n). take_all m xs (omega arith) ∙ sym (take_all n xs l)) (split n (length xs))
 
 -- ---- the sheet
 
-module _ {answer : Blocked} (records : List BlockRecord) (withdrawn : List ℕ) {l : List ℕ} {end : ℕ} where
-  pub sheet_refused : {m : List ℕ} {why : Refusal} → answer ≡ Refused why → PutText l 0 (refused_text (numbered why)) end m
+module _ {answer : Result Figures Refusal} (records : List BlockRecord) (withdrawn : List ℕ) {l : List ℕ} {end : ℕ} where
+  pub sheet_refused : {m : List ℕ} {why : Refusal} → answer ≡ Err why → PutText l 0 (refused_text (numbered why)) end m
       → PutText l 0 (sheet_text (blocked_of answer) records withdrawn) end m
   sheet_refused {m} e p = subst (λ a. PutText l 0 (sheet_text (blocked_of a) records withdrawn) end m) (sym e) p
 
-  pub sheet_done : {a b m : List ℕ} {c r w first last : ℕ} → answer ≡ Done c r w → PutText l 0 heading first a
-      → PutText a first (lines 1 (take c records)) last b → PutText b last (closing r w withdrawn) end m
+  pub sheet_done : {a b m : List ℕ} {F : Figures} {first last : ℕ} → answer ≡ Ok F → PutText l 0 heading first a
+      → PutText a first (lines 1 (take F.blocks records)) last b → PutText b last (closing F.radius F.widest withdrawn) end m
       → PutText l 0 (sheet_text (blocked_of answer) records withdrawn) end m
   sheet_done {a} {b} {m} e x y z = subst (λ a. PutText l 0 (sheet_text (blocked_of a) records withdrawn) end m) (sym e) (puts_then (puts_then x y) z)
 

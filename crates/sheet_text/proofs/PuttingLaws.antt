@@ -1,11 +1,11 @@
 -- Text written after text into memory. Assumes nothing.
-use Prim.Native.Nat.{ℕ, suc, ◌+◌, ◌≤◌, ◌<◌}
+use Prim.Native.Nat.{ℕ, suc, ◌+◌, ◌-◌, ◌≤◌, ◌<◌}
 use native.Mathlib.Omega.{arith}
 use native.Mathlib.Numerals.{add-one}
 use mathlib.Core.Path.{◌≡◌, refl, sym, ap, ap₂, ◌∙◌, subst}
 use mathlib.Core.List.{List, [], ◌∷◌, ◌++◌, append-nil, append_assoc}
-use lib.ListN.{length, take, drop, replicate, get_or, set, length-append, length-set, take-append-drop}
-use lib.Seq.{length-take-le, take_at, drop_at, drop-drop, set_split, take-suc, take_all, append_snoc}
+use lib.ListN.{length, take, drop, replicate, set, length-append, length-drop, length-set, take-append-drop}
+use lib.Seq.{length-take-le, take_at, drop_at, drop-drop, set_split, append_snoc}
 use Rattle.sheet_text.specs.declared.Text.{Text}
 use Rattle.sheet_text.specs.Text.{over_zeros, laid_out}
 use Rattle.sheet_text.specs.Putting.{PutText}
@@ -63,17 +63,16 @@ pub puts_text : {bytes : List ℕ} {end : ℕ} {text : List ℕ} → PutText (re
 unfolding laid_out
 puts_text p = let q = puts_over_zeros 2855 p in ap₂ with_end q.0 q.1
 
--- ---- a loop that copies a text byte by byte
+-- a text copied into its place
+pub puts_part : {l text part : List ℕ} {at end : ℕ} → end ≡ at + length text → end ≤ length l → part ≡ text
+    → PutText l at text end (take at l ++ (part ++ drop (end - at) (drop at l)))
+puts_part {l} {text} {part} {at} {end} e fits f = record { is = is; ends = e; room = fits; same = ap length is ∙ long }
+  where
+    rest : drop (end - at) (drop at l) ≡ drop end l
+    rest = let whole : at + (end - at) ≡ end = omega arith in drop-drop (end - at) at l ∙ ap (λ n. drop n l) whole
 
-module _ (l : List ℕ) (at : ℕ) (text : List ℕ) (room : at + length text ≤ length l) where
-  pub copied_none : PutText l at (take 0 text) (at + 0) l
-  copied_none = puts_as (puts_none l at (omega arith)) refl (omega arith)
+    is : take at l ++ (part ++ drop (end - at) (drop at l)) ≡ take at l ++ text ++ drop end l
+    is = ap₂ (λ x y. take at l ++ (x ++ y)) f rest ∙ sym (append_assoc (take at l) text (drop end l))
 
-  pub copied_more : {m : List ℕ} (i : ℕ) → i < length text → PutText l at (take i text) (at + i) m
-      → PutText l at (take (i + 1) text) (at + (i + 1)) (set m (at + i) (get_or text i 0))
-  copied_more {m} i h p =
-      puts_as (puts_then p (puts_byte m (at + i) (get_or text i 0) (omega (arith, p.same))))
-      (sym (take-suc text i 0 h) ∙ ap (λ n. take n text) (sym (add-one i))) (omega arith)
-
-  pub copied_done : {m : List ℕ} (i : ℕ) → length text ≤ i → PutText l at (take i text) (at + i) m → PutText l at text (at + i) m
-  copied_done i h p = puts_as p (take_all i text h) refl
+    long : length (take at l ++ text ++ drop end l) ≡ length l
+    long = simp (length-append, length-drop) (omega (arith, length-take-le at l (omega arith)))

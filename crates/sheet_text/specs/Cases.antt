@@ -3,7 +3,7 @@
 use Rattle.std.specs.Prelude.{ℕ, ◌≡◌, [], ◌∷◌, map, length}
 use Rattle.study.specs.declared.BlockRecord.{BlockRecord}
 use Rattle.study.specs.Refusals.{Reply, number, seven, value, refusal}
-use Rattle.study.specs.Calls.{Figures}
+use Rattle.study.specs.declared.Figures.{Figures}
 use Rattle.sheet_text.specs.Text.{ascii, decimal, heading, sheet_text}
 
 -- block count, radius (document 01: reach), greatest diameter (widest)

@@ -5,7 +5,7 @@ use Prim.Native.String.{String, [] as end, ◌∷◌ as ◌before◌}
 use mathlib.Core.List.{List, [], ◌∷◌, ◌++◌, flat_map}
 use Rattle.study.specs.declared.BlockRecord.{BlockRecord}
 use Rattle.study.specs.Refusals.{Numbered, Reply, value, refusal}
-use Rattle.study.specs.Calls.{Figures}
+use Rattle.study.specs.declared.Figures.{Figures}
 use Rattle.study.specs.Numbers.{number_of}
 use Rattle.sheet_text.specs.declared.Text.{Text}
 

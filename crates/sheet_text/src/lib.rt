@@ -3,7 +3,7 @@
 
 use crate::lines::{put_closing, put_lines};
 use crate::putting::{put_bytes, put_refusal};
-use study::{BlockRecord, Blocked, MAX_TIDES, MAX_USERS};
+use study::{BlockRecord, Figures, MAX_TIDES, MAX_USERS, Refusal};
 
 mod lines;
 pub mod putting;
@@ -23,7 +23,7 @@ pub struct Text {
 // The sheet into the front of lent memory; the answer is its length.
 fn put_sheet(
     out: &mut [u8],
-    answer: Blocked,
+    answer: Result<Figures, Refusal>,
     records: [BlockRecord; MAX_TIDES],
     withdrawn: [u16; MAX_USERS],
 ) -> usize
@@ -31,18 +31,18 @@ fn put_sheet(
     ensures { (result ≤ 2855) × PutText out.old 0 (sheet_text (blocked_of answer) records withdrawn) result out.new }
 {
     match answer {
-        Blocked::Refused(why) => put_refusal(out, 0, why),
-        Blocked::Done(blocks, radius, widest) => {
+        Err(why) => put_refusal(out, 0, why),
+        Ok(figures) => {
             let after_heading = put_bytes(out, 0, b"block centre tides widest\n");
-            let after_lines = put_lines(out, after_heading, blocks, records);
-            put_closing(out, after_lines, radius, widest, withdrawn)
+            let after_lines = put_lines(out, after_heading, figures.blocks, records);
+            put_closing(out, after_lines, figures.radius, figures.widest, withdrawn)
         }
     }
 }
 
 // The printed sheet by value, as document 01 lays it out, with a count for each user (document 02, 2.7).
 pub fn sheet_text(
-    answer: Blocked,
+    answer: Result<Figures, Refusal>,
     records: [BlockRecord; MAX_TIDES],
     withdrawn: [u16; MAX_USERS],
 ) -> Text

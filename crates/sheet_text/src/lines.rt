@@ -30,13 +30,9 @@ pub fn put_lines(
     ensures { (result ≤ at + 2760) × PutText out.old at (lines 1 (take blocks records)) result out.new }
 {
     let mut end = at;
-    let mut i: usize = 0;
-    while i < MAX_TIDES {
-        if i == blocks {
-            return end;
-        }
-        end = put_line(out, end, (i + 1) as u32, records[i]);
-        i += 1;
+    let shown = &records[..blocks.min(MAX_TIDES)];
+    for (i, block) in shown.iter().enumerate() {
+        end = put_line(out, end, (i + 1) as u32, *block);
     }
     end
 }
@@ -47,11 +43,9 @@ fn put_counts(out: &mut [u8], at: usize, counts: [u16; MAX_USERS]) -> usize
     ensures { (result ≤ at + 24) × PutText out.old at (flat_map spaced counts) result out.new }
 {
     let mut end = at;
-    let mut i: usize = 0;
-    while i < MAX_USERS {
+    for count in counts {
         let after_blank = put_byte(out, end, b' ');
-        end = put_number(out, after_blank, counts[i] as u32);
-        i += 1;
+        end = put_number(out, after_blank, u32::from(count));
     }
     end
 }

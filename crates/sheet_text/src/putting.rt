@@ -1,4 +1,5 @@
-// Text is put into lent memory from a place on; the answer is the place after it.
+// Text is put into lent memory from a place on; the answer is the place after it. Place and memory are no struct: one that holds the lent slice
+// would need a clause in each function, and in each caller, that it still holds the same slice.
 ghost use Rattle.std.specs.Prelude.{[], ◌∷◌, ◌+◌, ◌≤◌, ◌<◌, length};
 ghost use Rattle.study.specs.Refusals.{numbered};
 ghost use Rattle.sheet_text.specs.Text.{decimal, refused_text};
@@ -6,7 +7,6 @@ ghost use Rattle.sheet_text.specs.Lines.{field, named};
 ghost use Rattle.sheet_text.specs.Putting.{PutText};
 
 use study::Refusal;
-use study::refusals::number_of;
 
 // One byte.
 pub fn put_byte(out: &mut [u8], at: usize, byte: u8) -> usize
@@ -17,17 +17,14 @@ pub fn put_byte(out: &mut [u8], at: usize, byte: u8) -> usize
     at + 1
 }
 
-// A text byte by byte.
+// A text.
 pub fn put_bytes(out: &mut [u8], at: usize, text: &[u8]) -> usize
     requires { at + length text.now ≤ length out.old }
     ensures { PutText out.old at text.now result out.new }
 {
-    let mut i: usize = 0;
-    while i < text.len() {
-        out[at + i] = text[i];
-        i += 1;
-    }
-    at + i
+    let end = at + text.len();
+    out[at..end].copy_from_slice(text);
+    end
 }
 
 // A number in decimal: the digits of its tenth part, then its last.
@@ -36,10 +33,10 @@ pub fn put_number(out: &mut [u8], at: usize, x: u32) -> usize
     ensures { PutText out.old at (decimal x) result out.new }
 {
     if x < 10 {
-        return put_byte(out, at, (48 + x) as u8);
+        return put_byte(out, at, b'0' + x as u8);
     }
     let last = put_number(out, at, x / 10);
-    put_byte(out, last, (48 + x % 10) as u8)
+    put_byte(out, last, b'0' + (x % 10) as u8)
 }
 
 // A number and the byte after it.
@@ -65,5 +62,5 @@ pub fn put_refusal(out: &mut [u8], at: usize, why: Refusal) -> usize
     requires { at + 19 ≤ length out.old }
     ensures { (result ≤ at + 19) × PutText out.old at (refused_text (numbered why)) result out.new }
 {
-    put_named(out, at, b"refused ", number_of(why), b'\n')
+    put_named(out, at, b"refused ", why.number(), b'\n')
 }

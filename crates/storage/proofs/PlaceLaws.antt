@@ -4,13 +4,14 @@ use native.Mathlib.Omega.{arith}
 use native.Mathlib.Numerals.{add-one}
 use mathlib.Core.Path.{◌≡◌, refl, sym, ap, ap₂, ◌∙◌, subst}
 use mathlib.Core.Logic.{◌⊎◌, inl, inr, ⊎_elim}
-use mathlib.Core.List.{List}
-use lib.ListN.{length, get_or, set, length-set}
+use mathlib.Core.List.{List, ◌++◌}
+use lib.ListN.{length, get_or, set, take, drop, length-set, length-take}
+use Rattle.std.proofs.Common.{get_or-take}
 use lib.Seq.{ext_get_or, get_or-set_same, get_or-set_other}
 use borrow.Author.Tests.{le-leb, lt-leb}
 use Rattle.lists.specs.Lists.{overwrite, at}
 use Rattle.lists.proofs.Tests.{split}
-use Rattle.lists.proofs.Tables.{length_overwrite, getD_overwrite, get_d_past, overwrite_same, overwrite_ext, overwrite_read}
+use Rattle.lists.proofs.Tables.{tabulate_is, length_overwrite, getD_overwrite, get_d_past, overwrite_same, overwrite_ext, overwrite_read}
 use Rattle.study.specs.Limits.{cell}
 use Rattle.study.specs.Study.{Tide, Study, size, tide, distance}
 use Rattle.study.proofs.StudyLaws.{distance_both_ways, distance_itself}
@@ -33,6 +34,14 @@ cleared_distances k l =
 pub cleared_settings : (k : ℕ) (l : List ℕ) → overwrite 120 (λ _. 0) l ≡ settings_of (opened k) l
 unfolding settings_of opened
 cleared_settings k l = overwrite_ext (λ _. 0) l 120 (λ i. (tide (opened k) i).setting) (λ i h. sym (setting_none (opened k) i (omega arith)))
+
+-- ---- a list's front, copied
+
+pub front_copied : (n : ℕ) (m l : List ℕ) → n ≤ length m → take n m ++ drop n l ≡ overwrite n (at m) l
+unfolding overwrite
+front_copied n m l h =
+    ap (λ (x : List ℕ). x ++ drop n l)
+    (sym (tabulate_is n (at m) 0 (take n m) (simp length-take (omega arith)) (λ i l. sym (get_or-take n m i 0 l))))
 
 -- ---- Enter
 

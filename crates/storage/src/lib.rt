@@ -1,60 +1,30 @@
 // What the calls write into lent memory.
 #![tactic(auto)]
 
-ghost use Rattle.std.specs.Prelude.{◌≡◌, ◌≤◌, ◌<◌, length};
-ghost use Rattle.lists.specs.Lists.{at, overwrite};
+ghost use Rattle.std.specs.Prelude.{◌≡◌, ◌≤◌, ◌<◌, ◌++◌, length, take, drop};
+ghost use Rattle.lists.specs.Lists.{overwrite};
 ghost use Rattle.study.specs.Limits.{max_tides, table_size};
 ghost use Rattle.study.specs.Calls.{skip};
 ghost use Rattle.storage.specs.Places.{with_row, moved_distance, moved_setting};
 
 use study::{MAX_TIDES, TABLE_SIZE};
 
-// All places of the distances are 0.
-pub fn clear_distances(distances: &mut [u32])
-    requires { table_size ≤ length distances.old }
-    ensures { distances.new ≡ overwrite table_size (λ _. 0) distances.old }
+// The first `count` places hold x.
+pub fn fill_front<T: Copy>(places: &mut [T], count: usize, x: T)
+    requires { count ≤ length places.old }
+    ensures { places.new ≡ overwrite count (λ _. x) places.old }
 {
-    let mut p: usize = 0;
-    while p < TABLE_SIZE {
-        distances[p] = 0;
-        p += 1;
+    for i in 0..count {
+        places[i] = x;
     }
 }
 
-// All places of the settings are 0.
-pub fn clear_settings(settings: &mut [u8])
-    requires { max_tides ≤ length settings.old }
-    ensures { settings.new ≡ overwrite max_tides (λ _. 0) settings.old }
+// The first `count` places hold what they hold in another list.
+pub fn copy_front<T: Copy>(places: &mut [T], from: &[T], count: usize)
+    requires { (count ≤ length places.old) × (count ≤ length from.now) }
+    ensures { places.new ≡ take count from.now ++ drop count places.old }
 {
-    let mut i: usize = 0;
-    while i < MAX_TIDES {
-        settings[i] = 0;
-        i += 1;
-    }
-}
-
-// All places of one table, into another.
-pub fn copy_distances(distances: &mut [u32], matrix: &[u32])
-    requires { (table_size ≤ length distances.old) × (table_size ≤ length matrix.now) }
-    ensures { distances.new ≡ overwrite table_size (at matrix.now) distances.old }
-{
-    let mut p: usize = 0;
-    while p < TABLE_SIZE {
-        distances[p] = matrix[p];
-        p += 1;
-    }
-}
-
-// All settings of one list, into another.
-pub fn copy_settings(settings: &mut [u8], vector: &[u8])
-    requires { (max_tides ≤ length settings.old) × (max_tides ≤ length vector.now) }
-    ensures { settings.new ≡ overwrite max_tides (at vector.now) settings.old }
-{
-    let mut i: usize = 0;
-    while i < MAX_TIDES {
-        settings[i] = vector[i];
-        i += 1;
-    }
+    places[..count].copy_from_slice(&from[..count]);
 }
 
 // The distances of a new tide with those before it, both ways: its row and its column.
@@ -64,12 +34,10 @@ pub fn put_row(distances: &mut [u32], row: &[u32])
     ensures { distances.new ≡ with_row row.now (length row.now) distances.old }
 {
     let n = row.len();
-    let mut i: usize = 0;
-    while i < n {
+    for i in 0..n {
         let x = row[i];
         distances[n * MAX_TIDES + i] = x;
         distances[i * MAX_TIDES + n] = x;
-        i += 1;
     }
 }
 
@@ -78,10 +46,7 @@ fn number_before(m: usize, t: usize) -> usize
     requires { t < max_tides }
     ensures { (result ≡ skip m t) × (result ≤ max_tides) }
 {
-    if t < m {
-        return t;
-    }
-    t + 1
+    if t < m { t } else { t + 1 }
 }
 
 // What place p holds once tide m is gone.
@@ -119,10 +84,8 @@ pub fn remove_row(distances: &mut [u32], m: usize)
     requires { table_size ≤ length distances.old }
     ensures { distances.new ≡ overwrite table_size (moved_distance distances.old m) distances.old }
 {
-    let mut p: usize = 0;
-    while p < TABLE_SIZE {
+    for p in 0..TABLE_SIZE {
         distances[p] = moved_distance(distances, m, p);
-        p += 1;
     }
 }
 
@@ -131,9 +94,7 @@ pub fn remove_setting(settings: &mut [u8], m: usize)
     requires { max_tides ≤ length settings.old }
     ensures { settings.new ≡ overwrite max_tides (moved_setting settings.old m) settings.old }
 {
-    let mut i: usize = 0;
-    while i < MAX_TIDES {
+    for i in 0..MAX_TIDES {
         settings[i] = moved_setting(settings, m, i);
-        i += 1;
     }
 }

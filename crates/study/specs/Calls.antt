@@ -1,15 +1,14 @@
 -- What each call says of a study: its own reasons for a refusal, in the documents' order, and what an accepted call makes of the study
 -- and the counts of withdrawals, or finds in it. A tide's number in a call is from 1, in a study from 0. Assumes nothing.
 use Rattle.std.specs.Prelude.{ℕ, zero, suc, ◌+◌, ◌-◌, Bool, true, cond, not, ◌&&◌, leb, eqb, ltb, length, get_or, set, replicate}
+use Rattle.std.specs.Prelude.{Option, Some, None, Result, Ok, Err}
 use mathlib.Core.List.{List, [], ◌∷◌, ◌++◌, map, flat_map}
 use Rattle.lists.specs.Lists.{between, each, iota, every, any, sum_below, count_below, tabulate, over, filter, is_empty}
 use Rattle.study.specs.Limits.{max_tides, max_settings, max_distance, max_users, max_withdrawals}
 use Rattle.study.specs.declared.Minima.{Minima}
 use Rattle.study.specs.declared.BlockRecord.{BlockRecord}
-use Rattle.study.specs.declared.Blocked.{Blocked}
-use Rattle.study.specs.declared.Blocked.TheVariants as BlockedCase
-use Rattle.study.specs.declared.Judged.{Judged}
-use Rattle.study.specs.declared.Judged.TheVariants as JudgedCase
+pub use Rattle.study.specs.declared.Figures.{Figures}
+use Rattle.study.specs.declared.Refusal.{Refusal}
 use Rattle.study.specs.Problem.{centres, nearest_distance, nearest_block, block, labels, radius, blocking, diameter, greatest_diameter, feasible}
 use Rattle.study.specs.Study.{Tide, Study, Contents, with_tides, with_study, size, tide, distance, sufficient, problem, valid_minima}
 use Rattle.study.specs.Refusals.{Numbered, number, seven, numbered, Reply, value, refusal, Reason, ◌⇒◌}
@@ -204,13 +203,7 @@ block_reasons S list records =
     ∷ (not (leb (size S) list && leb (size S) records) ⇒ number 1)
     ∷ []
 
--- what Block answers: block count, radius (document 01: reach) and greatest diameter (widest)
-pub record Figures : Type 0 where
-  pub blocks : ℕ
-  pub radius : ℕ
-  pub widest : ℕ
-
--- of the blocking at the radius
+-- what Block answers of the blocking at the radius: block count, radius (document 01: reach) and greatest diameter (widest)
 unfoldable pub figures : Study → Figures
 figures S =
     let P = problem S in
@@ -224,9 +217,9 @@ block_record S i =
     record { centre = suc (get_or (centres P (radius P)) i 0); tides = count_below P.size (block D (suc i)); diameter = diameter P D (suc i) }
 
 -- the code's answer, by document 01's number and values
-abbrev pub blocked_of : Blocked → Reply Figures
-blocked_of (BlockedCase.Done c r w) = value (record { blocks = c; radius = r; widest = w })
-blocked_of (BlockedCase.Refused r) = refusal (numbered r)
+abbrev pub blocked_of : Result Figures Refusal → Reply Figures
+blocked_of (Ok f) = value f
+blocked_of (Err r) = refusal (numbered r)
 
 -- ---- Judge, given a list
 
@@ -251,7 +244,7 @@ unfoldable pub judgement : Study → List ℕ → Judgement
 judgement S list = cond (approved S list) (approval (greatest_diameter (problem S) (labels list))) disapproval
 
 -- the code's answer, by document 01's number and values
-abbrev pub judged_of : Judged → Reply Judgement
-judged_of (JudgedCase.Approved w) = value (approval w)
-judged_of JudgedCase.Declined = value disapproval
-judged_of (JudgedCase.Refused r) = refusal (numbered r)
+abbrev pub judged_of : Result (Option ℕ) Refusal → Reply Judgement
+judged_of (Ok (Some w)) = value (approval w)
+judged_of (Ok None) = value disapproval
+judged_of (Err r) = refusal (numbered r)

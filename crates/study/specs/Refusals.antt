@@ -1,11 +1,9 @@
 -- Refusals by the numbers of documents 01 and 02, and lists of reasons of which the first that holds counts. Assumes nothing.
-use Rattle.std.specs.Prelude.{ℕ, ◌≡◌, Bool, true, false, cond, not, List, [], ◌∷◌, ◌++◌}
+use Rattle.std.specs.Prelude.{ℕ, ◌≡◌, Bool, true, false, cond, not, List, [], ◌∷◌, ◌++◌, Result, Ok, Err}
 use Rattle.lists.specs.Lists.{◌among◌, between, all_of}
 use Rattle.study.specs.Limits.{max_users}
 use Rattle.study.specs.declared.Refusal.{Refusal}
 use Rattle.study.specs.declared.Refusal.TheVariants as RefusalCase
-use Rattle.study.specs.declared.Answer.{Answer}
-use Rattle.study.specs.declared.Answer.TheVariants.{Done, Refused}
 
 -- a refusal as document 01 gives it: its number alone, or 7 and its pair, lower number first
 pub data Numbered : Type 0 where
@@ -44,9 +42,9 @@ numbered RefusalCase.TooFewTides = number 25
 numbered RefusalCase.WithdrawalLimit = number 26
 
 -- the code's answer, by document 01's number and values
-abbrev pub verdict_of : Answer → Verdict
-verdict_of Done = accepted
-verdict_of (Refused r) = refused (numbered r)
+abbrev pub verdict_of : Result Unit Refusal → Verdict
+verdict_of (Ok _) = accepted
+verdict_of (Err r) = refused (numbered r)
 
 -- what stands after a call: the new where it is accepted, the old where it is refused
 abbrev pub settled : {A : Type 0} → Verdict → A → A → A

@@ -3,8 +3,6 @@
 
 pub mod refusals;
 
-ghost use Rattle.std.specs.Prelude.{◌≡◌};
-
 // The limits that documents 01 and 02 set.
 
 // The most tides that a dataset holds.
@@ -31,22 +29,15 @@ pub const MAX_USERS: usize = 4;
 // The greatest count of withdrawals.
 pub const MAX_WITHDRAWALS: u16 = 65535;
 
-// A byte as a number that can stand for a place.
-pub fn wide(x: u8) -> usize
-    ensures { result ≡ x }
-{
-    x as usize
-}
-
 // The minima: b0 for a whole block, and b for each of the 8 settings.
-#[derive(Clone, Copy)]
+#[derive(Clone, Copy, PartialEq, Eq)]
 pub struct Minima {
     pub b0: u8,
     pub b: [u8; MAX_SETTINGS],
 }
 
 // The record of a dataset (document 01: book); the distances and settings stand in memory that the caller lends.
-#[derive(Clone, Copy)]
+#[derive(Clone, Copy, PartialEq, Eq)]
 pub struct Dataset {
     pub k: u8,
     pub n: usize,
@@ -56,7 +47,7 @@ pub struct Dataset {
 }
 
 // Why a call is refused. `specs/Refusals.antt` gives each case its number in documents 01 and 02, and its values.
-#[derive(Clone, Copy)]
+#[derive(Clone, Copy, PartialEq, Eq)]
 pub enum Refusal {
     ShortMemory,
     SettingCount,
@@ -89,41 +80,18 @@ pub enum Refusal {
     WithdrawalLimit,
 }
 
-// Whether a call is done, or why not.
-#[derive(Clone, Copy)]
-pub enum Answer {
-    Done,
-    Refused(Refusal),
-}
-
-// The answer of a call that may change the dataset, and the record after it.
-#[derive(Clone, Copy)]
-pub struct Outcome {
-    pub answer: Answer,
-    pub dataset: Dataset,
-}
-
 // What Block says of one block: its centre's tide number, its number of tides, its diameter.
-#[derive(Clone, Copy)]
+#[derive(Clone, Copy, PartialEq, Eq)]
 pub struct BlockRecord {
     pub centre: u8,
     pub tides: u8,
     pub diameter: u32,
 }
 
-// Block's answer.
-#[derive(Clone, Copy)]
-pub enum Blocked {
-    // The number of blocks, the radius, the greatest diameter.
-    Done(usize, u32, u32),
-    Refused(Refusal),
-}
-
-// Judge's answer.
-#[derive(Clone, Copy)]
-pub enum Judged {
-    // The greatest diameter.
-    Approved(u32),
-    Declined,
-    Refused(Refusal),
+// What Block answers: the number of blocks, the radius, the greatest diameter.
+#[derive(Clone, Copy, PartialEq, Eq)]
+pub struct Figures {
+    pub blocks: usize,
+    pub radius: u32,
+    pub widest: u32,
 }

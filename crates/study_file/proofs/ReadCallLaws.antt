@@ -3,23 +3,22 @@ use Prim.Native.Nat.{ℕ, ◌≤◌}
 use mathlib.Core.Path.{◌≡◌, refl, sym, ap, ◌∙◌, subst}
 use mathlib.Core.Logic.{⊎_elim}
 use mathlib.Core.Bool.{true, false}
-use mathlib.Core.List.{List}
-use lib.ListN.{length, get_or, replicate, length-replicate, get_or-replicate, get_or-eq_default}
-use Rattle.lists.specs.Lists.{at, overwrite}
+use mathlib.Core.List.{List, ◌++◌}
+use lib.ListN.{length, get_or, take, drop, replicate, length-replicate, get_or-replicate, get_or-eq_default}
+use Rattle.std.specs.Prelude.{Result, Ok, Err}
 use Rattle.lists.proofs.Tests.{split}
 use Rattle.study.specs.declared.Dataset.{Dataset}
 use Rattle.study.specs.declared.Refusal.{Refusal}
-use Rattle.study.specs.declared.Answer.{Answer}
-use Rattle.study.specs.declared.Answer.TheVariants.{Done, Refused}
-use Rattle.study.specs.Refusals.{number, refused, verdict_of, numbered, first_of}
+use Rattle.study.specs.Refusals.{number, accepted, refused, numbered, verdict_of, first_of}
 use Rattle.file_format.specs.Bits.{bits_at}
 use Rattle.file_format.specs.File.{decoded, head_reasons, read_reasons}
 use Rattle.file_format.proofs.DecodedLaws.{decoded_size}
 use Rattle.file_format.specs.Head.{Head}
 use Rattle.file_format.proofs.ReadLaws.{head-T, refused_head}
 use Rattle.validity.specs.Memory.{State, state_of, short, record_of, stored}
+use Rattle.storage.proofs.PlaceLaws.{front_copied}
 use Rattle.access.specs.Calls.{answer, made, after}
-use Rattle.access.proofs.AccessLaws.{unmoved, stays, leaves, source_short, source_own}
+use Rattle.access.proofs.AccessLaws.{unmoved, leaves, source_short, source_own}
 use Rattle.study_file.specs.Calls.{reads_file}
 use Rattle.bit_reader.specs.declared.Place.{Place}
 use Rattle.file_fields.specs.Heading.{HeadRecord}
@@ -41,17 +40,17 @@ blank x n i e =
     ⊎_elim (λ l. get_or-replicate n i x 0 l ∙ e) (λ l. get_or-eq_default (replicate n x) 0 (subst (λ z. z ≤ i) (sym (length-replicate n x)) l)) (split i n)
 
 -- where the reasons before any tide have passed
-module _ (s : List ℕ) {a : Answer} (answered : verdict_of a ≡ first_of (head_reasons s)) (q : a ≡ Done) where
+module _ (s : List ℕ) (passed : accepted ≡ first_of (head_reasons s)) where
   head_passed : Head s
-  head_passed = (head-T s).0 (sym answered ∙ ap verdict_of q)
+  head_passed = (head-T s).0 (sym passed)
 
-  pub tides_begin : {o r : Dataset} {p : Place} → HeadRecord s o r p → {matrix vector : List ℕ} → matrix ≡ replicate 14400 0 → vector ≡ replicate 120 0
+  pub tides_begin : {r : Dataset} {p : Place} → HeadRecord s r p → {matrix vector : List ℕ} → matrix ≡ replicate 14400 0 → vector ≡ replicate 120 0
       → (r.k ≡ bits_at s 15 4) × (r.n ≡ bits_at s 8 7) × TidesRead s 0 p matrix vector
-  tides_begin {o} H {matrix} {vector} x y = (
-    k_is s o H.is,
-    count_is s o H.is,
+  tides_begin {r} H {matrix} {vector} x y = (
+    k_is s r (H.is r),
+    count_is s r (H.is r),
     record {
-      loaded = loaded_none s matrix vector head_passed (sym answered ∙ ap verdict_of q)
+      loaded = loaded_none s matrix vector head_passed (sym passed)
           (ap length x ∙ length-replicate {A = ℕ} 14400 0) (ap length y ∙ length-replicate {A = ℕ} 120 0)
           (λ i. ap (λ (l : List ℕ). get_or l i 0) x ∙ blank 0 14400 i refl) (λ i. ap (λ (l : List ℕ). get_or l i 0) y ∙ blank 0 120 i refl);
       here = H.first;
@@ -70,32 +69,32 @@ module _ (σ : State) (file : List ℕ) where
     unfolding reads_file
     own = source_own σ _ long
 
-    refuses : {a : Answer} {why : Refusal} → a ≡ Refused why → first_of (read_reasons file) ≡ refused (numbered why)
-        → (verdict_of a ≡ answer σ (reads_file file)) × (σ ≡ after σ (reads_file file))
-    refuses q f = let a = ap verdict_of q ∙ sym f ∙ own in (a, stays σ (reads_file file) q a)
+    refuses : {r : Result Unit Refusal} {why : Refusal} → r ≡ Err why → first_of (read_reasons file) ≡ refused (numbered why)
+        → (verdict_of r ≡ answer σ (reads_file file)) × (σ ≡ after σ (reads_file file))
+    refuses e f = let a = sym f ∙ own in (ap verdict_of e ∙ a, unmoved σ (reads_file file) a)
 
     -- before any tide
-    pub read_head : {a : Answer} {why : Refusal} → verdict_of a ≡ first_of (head_reasons file) → a ≡ Refused why
-        → (verdict_of a ≡ answer σ (reads_file file)) × (σ ≡ after σ (reads_file file))
-    read_head {a} {why} e q = refuses q (refused_head file (sym e ∙ ap verdict_of q))
+    pub read_head : {r : Result Unit Refusal} {why : Refusal} → r ≡ Err why → refused (numbered why) ≡ first_of (head_reasons file)
+        → (verdict_of r ≡ answer σ (reads_file file)) × (σ ≡ after σ (reads_file file))
+    read_head e f = refuses e (refused_head file (sym f))
 
     -- while a tide is read
-    pub read_tide : {a : Answer} {why : Refusal} {n : ℕ} {x y : List ℕ} → Reading file n a x y → a ≡ Refused why
-        → (verdict_of a ≡ answer σ (reads_file file)) × (σ ≡ after σ (reads_file file))
-    read_tide {why = why} r q = refuses q (r.stops why q)
+    pub read_tide : {r a : Result Unit Refusal} {why : Refusal} {n : ℕ} {x y : List ℕ} → r ≡ Err why → Reading file n a x y → a ≡ Err why
+        → (verdict_of r ≡ answer σ (reads_file file)) × (σ ≡ after σ (reads_file file))
+    read_tide {why = why} e t q = refuses e (t.stops why q)
 
-    pub read_done : {a : Answer} {r : Dataset} {x y d g : List ℕ} → Reading file r.n a x y → a ≡ Done → r ≡ record_of (decoded file) σ.dataset
-        → d ≡ overwrite 14400 (at x) σ.distances → g ≡ overwrite 120 (at y) σ.settings
-        → (verdict_of a ≡ answer σ (reads_file file)) × (state_of r d g ≡ after σ (reads_file file))
+    pub read_done : {a : Result Unit Refusal} {r : Dataset} {x y d g : List ℕ} → Reading file r.n a x y → a ≡ Ok tt
+        → r ≡ record_of (decoded file) σ.dataset → d ≡ take 14400 x ++ drop 14400 σ.distances → g ≡ take 120 y ++ drop 120 σ.settings
+        → (accepted ≡ answer σ (reads_file file)) × (state_of r d g ≡ after σ (reads_file file))
     unfolding stored reads_file made
     read_done {r = r} {x} {y} t q e f h =
         let count : r.n ≡ bits_at file 8 7 = count_is file σ.dataset e in
         let L : Loaded file (bits_at file 8 7) x y = subst (λ n. Loaded file n x y) count (t.goes q) in
         let a = sym (loaded_accepted file x y L) ∙ own in (
-          ap verdict_of q ∙ a,
+          a,
           (λ i. record {
             dataset = e i;
-            distances = (f ∙ copied_distances file x y L σ.distances) i;
-            settings = (h ∙ copied_settings file x y L σ.settings) i;
+            distances = (f ∙ front_copied 14400 x σ.distances L.long ∙ copied_distances file x y L σ.distances) i;
+            settings = (h ∙ front_copied 120 y σ.settings L.enough ∙ copied_settings file x y L σ.settings) i;
           }) ∙ leaves σ (reads_file file) a,
         )

@@ -7,12 +7,11 @@ use mathlib.Core.List.{List, [], ◌∷◌}
 use lib.Dec.{ltb, lt→ltb}
 use lib.Arith.{le→nltb}
 use lib.ListN.{length}
+use Rattle.std.specs.Prelude.{Result, Err}
 use Rattle.lists.proofs.Tests.{T_true, T_false}
 use Rattle.study.specs.declared.Refusal.{Refusal}
-use Rattle.study.specs.declared.Answer.{Answer}
-use Rattle.study.specs.declared.Answer.TheVariants.{Refused}
 use Rattle.study.specs.Study.{Contents}
-use Rattle.study.specs.Refusals.{number, Numbered, accepted, refused, value, refusal, verdict_of, numbered, first_of}
+use Rattle.study.specs.Refusals.{number, Numbered, accepted, refused, value, refusal, numbered, first_of}
 use Rattle.file_format.specs.File.{file_of, byte_length}
 use Rattle.file_format.proofs.WrittenLaws.{file_length}
 use Rattle.validity.specs.Memory.{State, study_of, contents_of}
@@ -20,7 +19,7 @@ use Rattle.validity.proofs.ValidityLaws.{study_size}
 use Rattle.access.specs.Calls.{nobody, Output, first_list, lent, answer, reply, list_after}
 use Rattle.access.specs.Passed.{Passed, held_answer}
 use Rattle.access.proofs.AccessLaws.{held_refused, passed_valid, inquiry_answer, inquiry_own, replies_refusal, unwritten, replies, writes}
-use Rattle.study_file.specs.Calls.{write_reasons, writes_file}
+use Rattle.study_file.specs.Calls.{write_reasons, writes_file, written_of}
 use Rattle.file_fields.specs.Putting.{PutFields, Writable, file_fields}
 use Rattle.file_fields.proofs.PuttingLaws.{file_written}
 
@@ -32,11 +31,11 @@ module _ (σ : State) (file : List ℕ) where
   refuses e = (replies_refusal σ (writes_file file) e, ap (λ (o : Output). first_list o.lists) (unwritten σ (writes_file file) e))
 
   -- short memory, or no dataset
-  pub write_refused : {a : Answer} {why : Refusal} → a ≡ Refused why → verdict_of a ≡ held_answer σ nobody (λ _. [])
-      → (refusal (numbered why) ≡ reply σ (writes_file file)) × (file ≡ list_after σ (writes_file file))
+  pub write_refused : {r : Result ℕ Refusal} {why : Refusal} → r ≡ Err why → refused (numbered why) ≡ held_answer σ nobody (λ _. [])
+      → (written_of r ≡ reply σ (writes_file file)) × (file ≡ list_after σ (writes_file file))
   unfolding writes_file
-  write_refused {a} {why} e f =
-      refuses (sym (ap verdict_of e) ∙ held_refused σ nobody _ e f ∙ sym (inquiry_answer σ _))
+  write_refused e f =
+      let told = refuses (held_refused σ nobody _ f ∙ sym (inquiry_answer σ _)) in (ap written_of e ∙ told.0, told.1)
 
 module _ {σ : State} (P : Passed σ) where
   abbrev H : Contents

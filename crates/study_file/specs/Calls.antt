@@ -1,12 +1,11 @@
 -- Read and Write, each as one value; what it answers and leaves is said of every call in access. Assumes nothing.
-use Rattle.std.specs.Prelude.{ℕ, List, [], ◌∷◌, ltb, length}
+use Rattle.std.specs.Prelude.{ℕ, List, [], ◌∷◌, ltb, length, Result, Ok, Err}
 use Rattle.lists.specs.Lists.{over}
+use Rattle.study.specs.declared.Refusal.{Refusal}
 use Rattle.study.specs.Study.{Contents}
 use Rattle.study.specs.Refusals.{number, Reply, value, refusal, Reason, ◌⇒◌, numbered}
 use Rattle.file_format.specs.File.{file_of, decoded, read_reasons}
 use Rattle.access.specs.Calls.{nobody, Call, begins, asks}
-use Rattle.study_file.specs.declared.Written.{Written}
-use Rattle.study_file.specs.declared.Written.TheVariants as WrittenCase
 
 -- Read: the file's own reasons, and the contents that its bytes stand for
 unfoldable pub reads_file : List ℕ → Call
@@ -27,6 +26,6 @@ writes_file bytes =
     })
 
 -- the code's answer, by document 01's number and values
-abbrev pub written_of : Written → Reply (List ℕ)
-written_of (WrittenCase.Done n) = value (n ∷ [])
-written_of (WrittenCase.Refused r) = refusal (numbered r)
+abbrev pub written_of : Result ℕ Refusal → Reply (List ℕ)
+written_of (Ok n) = value (n ∷ [])
+written_of (Err r) = refusal (numbered r)

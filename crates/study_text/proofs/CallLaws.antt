@@ -1,23 +1,22 @@
 -- The ways out of each call that a text makes: Open, Minima, Enter or a measured tide. Assumes nothing.
-use Prim.Native.Nat.{ℕ, zero, suc, ◌+◌}
-use native.Mathlib.Omega.{arith}
+use Prim.Native.Nat.{ℕ, zero, suc, ◌+◌, ◌<◌}
 use mathlib.Core.Path.{◌≡◌, refl, sym, ap, ◌∙◌, subst}
 use mathlib.Core.Bool.{true, false}
 use native.Mathlib.Numerals.{add-one}
 use mathlib.Core.List.{List, [], ◌∷◌, ◌++◌}
-use lib.ListN.{drop, get_or, replicate}
+use lib.ListN.{length, drop, get_or, replicate}
 use lib.Seq.{get_or-drop}
+use Rattle.std.specs.Prelude.{Result, Err}
 use Rattle.lists.specs.Lists.{tabulate, all_of}
+use Rattle.lists.proofs.Tables.{tabulate_is}
 use Rattle.study.specs.declared.Minima.{Minima}
-use Rattle.study.specs.declared.Dataset.{Dataset}
-use Rattle.study.specs.declared.Answer.{Answer}
-use Rattle.study.specs.declared.Outcome.{Outcome}
+use Rattle.study.specs.declared.Refusal.{Refusal}
 use Rattle.study.specs.Study.{size}
 use Rattle.study.proofs.CallLaws.{opening_valid, minima_valid, entering_valid}
 use Rattle.study.specs.Calls.{open_reasons, opening, minima_reasons, setting_minima, enter_reasons, entering}
 use Rattle.study.specs.Refusals.{accepted, verdict_of, settled, is_user, first_of}
 use Rattle.study.specs.Theorems.{ValidContents}
-use Rattle.validity.specs.Memory.{State, state_of, short, study_of, contents_of}
+use Rattle.validity.specs.Memory.{State, short, study_of, contents_of}
 use Rattle.validity.proofs.ValidityLaws.{study_size}
 use Rattle.access.specs.Calls.{holding_of, kept, anew, Update, changes, answer, made, after}
 use Rattle.access.specs.Passed.{Passed}
@@ -25,25 +24,20 @@ use Rattle.access.proofs.AccessLaws.{source_own, update_own}
 use Rattle.dataset.specs.Calls.{opens_dataset, sets_minima, enters_tide}
 use Rattle.narrowing.specs.Narrowing.{narrowed, narrow_minima}
 use Rattle.narrowing.proofs.Proofs.{unchanged, as_given}
-use Rattle.study_text.specs.declared.Packed.{Packed}
+use Rattle.study_text.specs.declared.TextError.{TextError}
 use Rattle.study_text.specs.declared.Rule.{Rule}
 use Rattle.study_text.specs.declared.Rule.TheVariants as RuleCase
 use Rattle.text_words.specs.declared.Cursor.{Cursor}
-use Rattle.study_text.specs.declared.numbers.Given.{Given}
-use Rattle.study_text.specs.declared.numbers.Given.TheVariants as GivenCase
-use Rattle.study_text.specs.declared.numbers.Row.{Row}
-use Rattle.study_text.specs.declared.numbers.Row.TheVariants as RowCase
-use Rattle.study_text.specs.declared.calls.Reached.{Reached}
 use Rattle.text_words.specs.Words.{CursorWithin}
-use Rattle.study_text.specs.Packing.{Got, got, number_of, numbers_of, minima_from, opening_of, minima_of, tide_of, entered}
-use Rattle.study_text.specs.Steps.{given_of, read_of}
+use Rattle.study_text.specs.Packing.{error_report, Got, got, stop, number_of, numbers_of, minima_from, opening_of, minima_of, tide_of}
+use Rattle.study_text.specs.Steps.{at_line}
 use Rattle.study_text.proofs.StepLaws.{number_within, numbers_within}
-use Rattle.study_text.specs.Reached.{Held, Took, Reaches, Begins, stopped_at, after_call}
-use Rattle.study_text.proofs.ReachedLaws.{Answers, call_reaches, call_begins, valid_held, took_entered, took_reaches}
+use Rattle.study_text.specs.Reached.{Took, Alive, Reaches}
+use Rattle.study_text.proofs.ReachedLaws.{Answers, reaches_stops, call_reaches, valid_held, took_entered, took_reaches}
 
 -- ---- the answers
 
-module _ {s t : State} {a : Answer} where
+module _ {s t : State} {a : Result Unit Refusal} where
   open_answers : (k : ℕ) → short s ≡ false → (verdict_of a ≡ answer s (opens_dataset k)) × (t ≡ after s (opens_dataset k))
       → Answers s a t (first_of (open_reasons k)) (opening k)
   unfolding opens_dataset after made
@@ -73,24 +67,20 @@ module _ {s t : State} {a : Answer} where
 
 -- ---- Open
 
-module _ {text : List ℕ} (from : Cursor) {g : Given} (e : given_of g ≡ number_of text from) where
-  pub open_stops : {p : Packed} {q : Reached} {r : Dataset} {c : Cursor} (d s : List ℕ) → g ≡ GivenCase.Stopped p → q ≡ stopped_at p r c
-      → Begins text q d s (opening_of text from)
+module _ (text : List ℕ) (from : Cursor) where
+  pub open_stops : {r : Result Unit TextError} {x : TextError} {s : State} {c : Cursor} → r ≡ Err x → stop (error_report x) ≡ number_of text from
+      → Reaches RuleCase.Entered text r s c (opening_of text from)
   unfolding opening_of
-  open_stops {p} {q} {r} {c} d s h k =
-      subst (λ q. Begins text q d s (opening_of text from)) (sym k)
-      (record { is = rw (← e, h); alive = λ q. absurd (let z : ◌≡◌ {A = ℕ} 0 1 = cc in omega arith) })
+  open_stops e f = reaches_stops e (rw (← f))
 
-  pub open_goes : (s : State) (o : Outcome) {k y : ℕ} {c : Cursor} {q : Reached} (d t : List ℕ) → g ≡ GivenCase.Number k c
-      → CursorWithin text from → short s ≡ false → y ≡ narrowed k
-      → (verdict_of o.answer ≡ answer s (opens_dataset y)) × (state_of o.dataset d t ≡ after s (opens_dataset y)) → q ≡ after_call o c
-      → Begins text q d t (opening_of text from)
+  pub open_goes : (s : State) (a : Result Unit Refusal) {r : Result Unit TextError} {t : State} {k y : ℕ} {c : Cursor} → CursorWithin text from
+      → got k c ≡ number_of text from → short s ≡ false → y ≡ narrowed k
+      → (verdict_of a ≡ answer s (opens_dataset y)) × (t ≡ after s (opens_dataset y)) → r ≡ at_line c.line a
+      → Reaches RuleCase.Entered text r t c (opening_of text from)
   unfolding opening_of
-  open_goes s o {k} {y} {c} {q} d t h w f i did j =
-      let n : number_of text from ≡ got k c = sym e ∙ ap given_of h in
+  open_goes s a {k = k} w f e i did j =
       let same = as_given s opens_dataset k i ((unchanged s).on_open k) did in
-      subst (λ q. Begins text q d t (opening_of text from)) (sym j)
-      (rw n (call_begins (open_answers {a = o.answer} k f same) (number_within w n)))
+      rw (← f) (call_reaches (number_within w (sym f)) (open_answers {a = a} k e same) j)
 
 -- ---- Minima
 
@@ -104,6 +94,16 @@ zeros_at zero i = refl
 zeros_at (suc m) zero = refl
 zeros_at (suc m) (suc i) = zeros_at m i
 
+-- b0 and the b's, each as a byte
+pub minima_bytes : (xs : List ℕ) (b0 : ℕ) (b : List ℕ) → b0 ≡ narrowed (get_or xs 0 0) → length b ≡ 8
+    → ((j : ℕ) → j < 8 → get_or b j 0 ≡ narrowed (get_or xs (j + 1) 0)) → record { b0 = b0; b = b } ≡ narrow_minima (minima_from xs)
+unfolding narrow_minima minima_from tabulate
+minima_bytes xs b0 b e long at =
+    λ i. record {
+      b0 = e i;
+      b = sym (tabulate_is 8 (λ j. narrowed (get_or xs (suc j) 0)) 0 b long (λ j l. sym (at j l ∙ ap (λ k. narrowed (get_or xs k 0)) (add-one j)))) i;
+    }
+
 -- the b's above k are 0
 minima_padded : (xs : List ℕ) (n : ℕ) → minima_from (xs ++ drop n (replicate 9 0)) ≡ minima_from xs
 unfolding minima_from
@@ -112,61 +112,52 @@ minima_padded xs n = λ i. record { b0 = same 0 i; b = tabulate 8 (λ j. same (s
     same : (i : ℕ) → get_or (xs ++ drop n (replicate 9 0)) i 0 ≡ get_or xs i 0
     same = padded xs (drop n (replicate 9 0)) (λ i. get_or-drop n (replicate 9 0) i 0 ∙ zeros_at 9 (n + i))
 
-module _ {text : List ℕ} {from : Cursor} {s : State} (w : CursorWithin text from) (P : Passed s) {n : ℕ} where
+module _ {text : List ℕ} {from : Cursor} {s : State} (A : Alive RuleCase.Entered text s from) {n : ℕ} (e : n ≡ s.dataset.k + 1) where
   -- the number of minima is that of the settings, and one
-  minima_numbers : {read : Got (List ℕ)} → read ≡ numbers_of text n from → n ≡ s.dataset.k + 1
-      → numbers_of text (suc (contents_of s).study.k) from ≡ read
+  minima_numbers : {read : Got (List ℕ)} → read ≡ numbers_of text n from → numbers_of text (suc (contents_of s).study.k) from ≡ read
   unfolding contents_of study_of
-  minima_numbers e f = ap (λ m. numbers_of text m from) (sym (f ∙ add-one s.dataset.k)) ∙ sym e
+  minima_numbers f = ap (λ m. numbers_of text m from) (sym (e ∙ add-one s.dataset.k)) ∙ sym f
 
-  pub minima_stops : {row : Row} (xs : List ℕ) {p : Packed} {q : Reached} → read_of row xs ≡ numbers_of text n from → n ≡ s.dataset.k + 1
-      → row ≡ RowCase.Stopped p → q ≡ stopped_at p s.dataset from
-      → Reaches RuleCase.Entered text q s.distances s.settings (entered (minima_of text (contents_of s) from))
+  pub minima_stops : {r : Result Unit TextError} {x : TextError} {t : State} {c : Cursor} → r ≡ Err x → stop (error_report x) ≡ numbers_of text n from
+      → Reaches RuleCase.Entered text r t c (minima_of text (contents_of s) from)
   unfolding minima_of
-  minima_stops xs e f h k =
-      subst (λ q. Reaches RuleCase.Entered text q s.distances s.settings (entered (minima_of text (contents_of s) from))) (sym k)
-      (record { is = rw (minima_numbers e f, h); alive = record { held = P; within = w } })
+  minima_stops q f = reaches_stops q (rw (minima_numbers f))
 
-  pub minima_goes : {row : Row} (xs : List ℕ) (m : ℕ) {M : Minima} (o : Outcome) {c : Cursor} {q : Reached} → read_of row xs ≡ numbers_of text n from
-      → n ≡ s.dataset.k + 1 → row ≡ RowCase.Read c → M ≡ narrow_minima (minima_from (xs ++ drop m (replicate 9 0)))
-      → (verdict_of o.answer ≡ answer s (sets_minima M)) × (state_of o.dataset s.distances s.settings ≡ after s (sets_minima M)) → q ≡ after_call o c
-      → Reaches RuleCase.Entered text q s.distances s.settings (entered (minima_of text (contents_of s) from))
+  pub minima_goes : (a : Result Unit Refusal) {r : Result Unit TextError} {t : State} {c : Cursor} (xs : List ℕ) (m : ℕ) {M : Minima}
+      → got xs c ≡ numbers_of text n from → M ≡ narrow_minima (minima_from (xs ++ drop m (replicate 9 0)))
+      → (verdict_of a ≡ answer s (sets_minima M)) × (t ≡ after s (sets_minima M)) → r ≡ at_line c.line a
+      → Reaches RuleCase.Entered text r t c (minima_of text (contents_of s) from)
   unfolding minima_of
-  minima_goes {row} xs m {M} o {c} {q} e f h j did k =
-      let read : numbers_of text (suc (contents_of s).study.k) from ≡ got xs c = minima_numbers e f ∙ ap (λ r. read_of r xs) h in
+  minima_goes a {c = c} xs m {M} f j did k =
+      let read : numbers_of text (suc (contents_of s).study.k) from ≡ got xs c = minima_numbers f in
       let given : M ≡ narrow_minima (minima_from xs) = j ∙ ap narrow_minima (minima_padded xs m) in
       let same = as_given s sets_minima (minima_from xs) given ((unchanged s).on_minima (minima_from xs)) did in
-      subst (λ q. Reaches RuleCase.Entered text q s.distances s.settings (entered (minima_of text (contents_of s) from))) (sym k)
-      (rw read
-      (call_reaches (minima_answers {a = o.answer} P (minima_from xs) same) (numbers_within (suc (contents_of s).study.k) w read) P))
+      rw read (call_reaches (numbers_within (suc (contents_of s).study.k) A.within read) (minima_answers {a = a} A.held (minima_from xs) same) k)
 
 -- ---- tides
 
 -- Enter, given the setting as a byte
-pub enter_took : {s t : State} (a : Answer) {x y : ℕ} {row : List ℕ} → Passed s → y ≡ narrowed x
+pub enter_took : {s t : State} (a : Result Unit Refusal) {x y : ℕ} {row : List ℕ} → Passed s → y ≡ narrowed x
     → (verdict_of a ≡ answer s (enters_tide y row)) × (t ≡ after s (enters_tide y row)) → Took RuleCase.Entered s x row a t
 enter_took {s} a {x} {y} {row} P i did =
     let same = as_given s (λ z. enters_tide z row) x i ((unchanged s).on_enter x row) did in
     took_entered a (enter_answers {a = a} P x row same) P
 
-module _ (rule : Rule) {text : List ℕ} {from : Cursor} (s : State) (w : CursorWithin text from) (P : Held rule s) (x : ℕ) {n : ℕ} where
-  tide_numbers : {read : Got (List ℕ)} → read ≡ numbers_of text n from → n ≡ s.dataset.n → numbers_of text (size (contents_of s).study) from ≡ read
+module _ {rule : Rule} {text : List ℕ} {from : Cursor} {s : State} (A : Alive rule text s from) (x : ℕ) {n : ℕ} (e : n ≡ s.dataset.n) where
+  tide_numbers : {read : Got (List ℕ)} → read ≡ numbers_of text n from → numbers_of text (size (contents_of s).study) from ≡ read
   unfolding contents_of
-  tide_numbers e f = ap (λ m. numbers_of text m from) (study_size s ∙ sym f) ∙ sym e
+  tide_numbers f = ap (λ m. numbers_of text m from) (study_size s ∙ sym e) ∙ sym f
 
-  pub tide_stops : {row : Row} (xs : List ℕ) {p : Packed} {q : Reached} → read_of row xs ≡ numbers_of text n from → n ≡ s.dataset.n → row ≡ RowCase.Stopped p
-      → q ≡ stopped_at p s.dataset from → Reaches rule text q s.distances s.settings (entered (tide_of rule text (contents_of s) x from))
+  pub tide_stops : {r : Result Unit TextError} {y : TextError} {t : State} {c : Cursor} → r ≡ Err y → stop (error_report y) ≡ numbers_of text n from
+      → Reaches rule text r t c (tide_of rule text (contents_of s) x from)
   unfolding tide_of
-  tide_stops xs e f h k =
-      subst (λ q. Reaches rule text q s.distances s.settings (entered (tide_of rule text (contents_of s) x from))) (sym k)
-      (record { is = rw (tide_numbers e f, h); alive = record { held = P; within = w } })
+  tide_stops q f = reaches_stops q (rw (tide_numbers f))
 
-  pub tide_goes : {row : Row} (xs : List ℕ) {ys d g : List ℕ} (o : Outcome) {c : Cursor} {q : Reached} → read_of row xs ≡ numbers_of text n from
-      → n ≡ s.dataset.n → row ≡ RowCase.Read c → ys ≡ xs → Took rule s x ys o.answer (state_of o.dataset d g) → q ≡ after_call o c
-      → Reaches rule text q d g (entered (tide_of rule text (contents_of s) x from))
+  pub tide_goes : {a : Result Unit Refusal} {r : Result Unit TextError} {t : State} {c : Cursor} (xs : List ℕ) {ys : List ℕ}
+      → got xs c ≡ numbers_of text n from → ys ≡ xs → Took rule s x ys a t → r ≡ at_line c.line a
+      → Reaches rule text r t c (tide_of rule text (contents_of s) x from)
   unfolding tide_of
-  tide_goes {row} xs {ys} {d} {g} o {c} {q} e f h i did k =
-      let read : numbers_of text (size (contents_of s).study) from ≡ got xs c = tide_numbers e f ∙ ap (λ r. read_of r xs) h in
-      let same = subst (λ zs. Took rule s x zs o.answer (state_of o.dataset d g)) i did in
-      subst (λ q. Reaches rule text q d g (entered (tide_of rule text (contents_of s) x from))) (sym k)
-      (rw read (took_reaches {o = o} same (numbers_within (size (contents_of s).study) w read)))
+  tide_goes {a} {t = t} {c} xs f i did k =
+      let read : numbers_of text (size (contents_of s).study) from ≡ got xs c = tide_numbers f in
+      let same = subst (λ zs. Took rule s x zs a t) i did in
+      rw read (took_reaches (numbers_within (size (contents_of s).study) A.within read) same k)

@@ -8,32 +8,24 @@ use mathlib.Core.List.{List, [], ◌∷◌, ◌++◌}
 use lib.Dec.{leb, eqb}
 use borrow.Author.Tests.{lt-leb, eq-eqb}
 use lib.ListN.{length, take, get_or, set, length-set, get_or-append}
-use lib.Seq.{ext_get_or, get_or-take, get_or-append-add, get_or-set_same, get_or-set_other, length-take-le}
-use Rattle.lists.specs.Lists.{at, between, every, tabulate}
-use Rattle.lists.proofs.Tables.{length_tabulate, get_d_tabulate, tabulate_suc, tabulate_is, getD_overwrite}
+use lib.Seq.{get_or-take, get_or-append-add, get_or-set_same, get_or-set_other, length-take-le}
+use Rattle.lists.specs.Lists.{between, every, tabulate}
+use Rattle.lists.proofs.Tables.{length_tabulate, get_d_tabulate, tabulate_suc, tabulate_is}
 use Rattle.study.specs.Limits.{cell}
 use Rattle.study.specs.declared.Refusal.{Refusal}
-use Rattle.study.specs.declared.Answer.{Answer}
-use Rattle.study.specs.declared.Answer.TheVariants.{Done, Refused}
 use Rattle.study.specs.Study.{no_tide, MeasuredStudy}
-use Rattle.study.specs.Refusals.{number, Verdict, accepted, refused, verdict_of, settled, first_of}
+use Rattle.std.specs.Prelude.{Result, Ok, Err}
+use Rattle.study.specs.Refusals.{number, numbered, Verdict, accepted, refused, verdict_of, settled, first_of}
 use Rattle.study.specs.Calls.{measured_reasons, entered, entering}
 use Rattle.study.proofs.CallLaws.{measures, entered_measured}
 use Rattle.validity.specs.Memory.{State, state_of, set_size, tide_of, study_of, contents_of}
 use Rattle.validity.specs.Validity.{Long}
 use Rattle.validity.proofs.ValidityLaws.{study_size}
 use Rattle.validity.proofs.LayoutLaws.{short_no}
-use Rattle.lists.proofs.Fills.{Filled, filled_done}
 use Rattle.study_text.specs.declared.Rule.TheVariants as RuleCase
 use Rattle.study_text.specs.Reached.{Measuring, Took}
 
 -- ---- its row in memory
-
--- a row copied into as many places
-pub row_copied : {row old new : List ℕ} {i : ℕ} → Filled (length row) (at row) old new i → length row ≡ length old → length row ≤ i → new ≡ row
-row_copied {row} {old} {new} F e l =
-    ext_get_or 0 new row (F.same ∙ sym e)
-    (λ j k. ap (λ (z : List ℕ). get_or z j 0) (filled_done F l) ∙ getD_overwrite (at row) old (length row) j 0 (omega (arith, F.same)))
 
 module _ (s : State) (x : ℕ) (row : List ℕ) {d g : List ℕ} (long : length row ≡ s.dataset.n) (room : s.dataset.n < 120) (L : Long s)
     (rest : List ℕ) (put : d ≡ take (s.dataset.n * 120) s.distances ++ (row ++ rest)) (kept : g ≡ set s.settings s.dataset.n x) where
@@ -130,17 +122,18 @@ settles : (s : State) (x : ℕ) (row : List ℕ) {v w : Verdict} → v ≡ w
     → settled v (entering x row (contents_of s)) (contents_of s) ≡ settled w (entering x row (contents_of s)) (contents_of s)
 settles s x row e = ap (λ u. settled u (entering x row (contents_of s)) (contents_of s)) e
 
-module _ (s : State) (x : ℕ) (row : List ℕ) (M : Measuring s) {a : Answer} (v : verdict_of a ≡ first_of (measured_reasons (study_of s) x row)) where
+module _ (s : State) (x : ℕ) (row : List ℕ) (M : Measuring s) where
   -- a refused tide leaves what was there
-  pub measure_refused : {r : Refusal} → a ≡ Refused r → Took RuleCase.Measured s x row a s
+  pub measure_refused : {r : Result Unit Refusal} {why : Refusal} → r ≡ Err why → refused (numbered why) ≡ first_of (measured_reasons (study_of s) x row)
+      → Took RuleCase.Measured s x row r s
   unfolding contents_of
-  measure_refused e = record { verdict = v; contents = settles s x row (sym (ap verdict_of e) ∙ v); held = M }
+  measure_refused e v = record { verdict = ap verdict_of e ∙ v; contents = settles s x row v; held = M }
 
-  module _ (e : a ≡ Done) where
+  module _ (v : accepted ≡ first_of (measured_reasons (study_of s) x row)) where
     pub measure_accepted : MeasureAccepted s x row
     unfolding study_of
     measure_accepted =
-        let A = measures (study_of s) x row (sym v ∙ ap verdict_of e) in
+        let A = measures (study_of s) x row (sym v) in
         record {
           room = omega (arith, A.room, study_size s);
           length_is = A.length_is ∙ study_size s;
@@ -150,7 +143,7 @@ module _ (s : State) (x : ℕ) (row : List ℕ) (M : Measuring s) {a : Answer} (
 
     -- an accepted one stands in its row, which ys is; `rest` is the memory past it
     pub measure_done : (ys rest : List ℕ) → ys ≡ row → length (take (s.dataset.n * 120) s.distances ++ (ys ++ rest)) ≡ length s.distances
-        → Took RuleCase.Measured s x row a
+        → Took RuleCase.Measured s x row (Ok tt)
         (state_of (set_size (s.dataset.n + 1) s.dataset) (take (s.dataset.n * 120) s.distances ++ (ys ++ rest)) (set s.settings s.dataset.n x))
     unfolding contents_of entering
     measure_done ys rest copied same =
@@ -162,7 +155,7 @@ module _ (s : State) (x : ℕ) (row : List ℕ) (M : Measuring s) {a : Answer} (
         let kept : 120 ≤ length (set s.settings s.dataset.n x) = simp length-set L.settings in
         record {
           verdict = v;
-          contents = (λ i. record { study = study i; withdrawals = s.dataset.withdrawn }) ∙ settles s x row (sym (ap verdict_of e) ∙ v);
+          contents = (λ i. record { study = study i; withdrawals = s.dataset.withdrawn }) ∙ settles s x row v;
           held = record {
             not_short = short_no _ fits kept;
             study = subst MeasuredStudy (sym study) A.study;

@@ -7,30 +7,34 @@ use mathlib.Core.Path.{◌≡◌, refl, sym, ap, ◌∙◌, subst}
 use mathlib.Core.List.{List, [], ◌∷◌, ◌++◌}
 use lib.ListN.{length, take, set}
 use lib.Seq.{take-suc-set, take_all}
-use Rattle.study_text.specs.declared.Packed.{Packed}
+use Rattle.std.specs.Prelude.{Result, Ok, Err}
+use Rattle.study_text.specs.declared.TextError.{TextError}
 use Rattle.text_words.specs.declared.Cursor.{Cursor}
 use Rattle.text_words.specs.declared.Word.{Word}
 use Rattle.text_words.specs.declared.Word.TheVariants as WordCase
-use Rattle.study_text.specs.declared.numbers.Given.{Given}
-use Rattle.study_text.specs.declared.numbers.Given.TheVariants as GivenCase
+use Rattle.text_words.specs.declared.WordError.{WordError}
 use Rattle.text_words.specs.Words.{next_of, CursorWithin}
 use Rattle.text_words.proofs.WordLaws.{next_within}
-use Rattle.study_text.specs.Packing.{Report, report_of, Got, got, stop, number_from, number_of, onward, numbers_of}
-use Rattle.study_text.specs.Steps.{given_of}
+use Rattle.study_text.specs.Packing.{Report, error_report, no_number, Got, got, stop, number_from, number_of, onward, numbers_of}
 
 -- ---- one number
 
-pub number_is : {g : Got ℕ} (text : List ℕ) (c : Cursor) {w v : Word} → w ≡ next_of text c → w ≡ v → g ≡ number_from v → g ≡ number_of text c
+pub number_is : {g : Got ℕ} (text : List ℕ) (c : Cursor) {w v : Result Word WordError} → w ≡ next_of text c → w ≡ v → g ≡ number_from v → g ≡ number_of text c
 unfolding number_of
 number_is text c e f h = h ∙ ap number_from (sym f ∙ e)
 
+-- a word that is no number stops the reading
+pub number_stops : {w : WordError} (x : TextError) (text : List ℕ) (c : Cursor) → error_report x ≡ no_number w.line w.why → Err w ≡ next_of text c
+    → stop (error_report x) ≡ number_of text c
+unfolding number_of
+number_stops x text c h e = ap stop h ∙ ap number_from e
+
 -- ---- a row of numbers
 
-number_from_lem : (w : Word) {x : ℕ} {d : Cursor} → number_from w ≡ got x d → w ≡ WordCase.Number x d
-number_from_lem (WordCase.Number y e) h = cc
-number_from_lem (WordCase.End l) h = absurd (let z : ◌≡◌ {A = ℕ} 0 1 = cc in omega arith)
-number_from_lem (WordCase.Bad l) h = absurd (let z : ◌≡◌ {A = ℕ} 0 1 = cc in omega arith)
-number_from_lem (WordCase.TooLarge l) h = absurd (let z : ◌≡◌ {A = ℕ} 0 1 = cc in omega arith)
+number_from_lem : (w : Result Word WordError) {x : ℕ} {d : Cursor} → number_from w ≡ got x d → w ≡ Ok (WordCase.Number x d)
+number_from_lem (Ok (WordCase.Number y e)) h = cc
+number_from_lem (Ok (WordCase.End l)) h = absurd (let z : ◌≡◌ {A = ℕ} 0 1 = cc in omega arith)
+number_from_lem (Err e) h = absurd (let z : ◌≡◌ {A = ℕ} 0 1 = cc in omega arith)
 
 pub number_within : {text : List ℕ} {c d : Cursor} {x : ℕ} → CursorWithin text c → number_of text c ≡ got x d → CursorWithin text d
 unfolding number_of
@@ -52,26 +56,25 @@ module _ {text : List ℕ} {from : Cursor} where
   unfolding numbers_of
   row_none w = record { is = refl; within = w }
 
-  pub row_more : {row : List ℕ} {i x : ℕ} {c d : Cursor} {g : Given} → ReadTo text from i row c → given_of g ≡ number_of text c → g ≡ GivenCase.Number x d
-      → i < length row → ReadTo text from (i + 1) (set row i x) d
+  pub row_more : {row : List ℕ} {i x : ℕ} {c d : Cursor} → ReadTo text from i row c → got x d ≡ number_of text c → i < length row
+      → ReadTo text from (i + 1) (set row i x) d
   unfolding numbers_of
-  row_more {row} {i} {x} {c} {d} {g} e f h l =
+  row_more {row} {i} {x} {c} {d} e f l =
       record {
         is = ap (λ k. numbers_of text k from) (add-one i)
-            ∙ rw (e.is, ← f, h) (ap (λ xs. got xs d) (sym (ap (λ k. take k (set row i x)) (add-one i) ∙ take-suc-set row i x l)));
-        within = number_within e.within (sym f ∙ ap given_of h);
+            ∙ rw (e.is, ← f) (ap (λ xs. got xs d) (sym (ap (λ k. take k (set row i x)) (add-one i) ∙ take-suc-set row i x l)));
+        within = number_within e.within (sym f);
       }
 
-  one_stops : {row : List ℕ} {i : ℕ} {c : Cursor} {g : Given} {p : Packed} → ReadTo text from i row c → given_of g ≡ number_of text c → g ≡ GivenCase.Stopped p
-      → numbers_of text (suc i) from ≡ stop (report_of p)
+  one_stops : {row : List ℕ} {i : ℕ} {c : Cursor} {t : Report} → ReadTo text from i row c → stop t ≡ number_of text c → numbers_of text (suc i) from ≡ stop t
   unfolding numbers_of
-  one_stops e f h = rw (e.is, ← f, h)
+  one_stops e f = rw (e.is, ← f)
 
-  pub row_stops : {row : List ℕ} {i : ℕ} {c : Cursor} {g : Given} {p : Packed} (n : ℕ) → ReadTo text from i row c → given_of g ≡ number_of text c
-      → g ≡ GivenCase.Stopped p → i < n → stop (report_of p) ≡ numbers_of text n from
-  row_stops {row} {i} {c} {g} {p} n e f h l =
+  pub row_stops : {row : List ℕ} {i : ℕ} {c : Cursor} {t : Report} (n : ℕ) → ReadTo text from i row c → stop t ≡ number_of text c → i < n
+      → stop t ≡ numbers_of text n from
+  row_stops {i = i} n e f l =
       let there : n - suc i + suc i ≡ n = omega arith in
-      sym (ap (λ k. numbers_of text k from) (sym there) ∙ stays text from (suc i) (n - suc i) (one_stops e f h))
+      sym (ap (λ k. numbers_of text k from) (sym there) ∙ stays text from (suc i) (n - suc i) (one_stops e f))
 
   pub row_read : {row : List ℕ} {i n : ℕ} {c : Cursor} → ReadTo text from i row c → i ≡ length row → length row ≡ n → got row c ≡ numbers_of text n from
   row_read {row} {i} {n} {c} e f h =

@@ -4,6 +4,7 @@ use native.Mathlib.Nat.{zero-add, suc-add}
 use native.Mathlib.Omega.{arith}
 use mathlib.Core.Path.{◌≡◌, refl, sym, ap, ◌∙◌, subst}
 use mathlib.Core.List.{List}
+use Rattle.std.specs.Prelude.{Option, Some, None, Result, Ok, Err}
 use Rattle.study.specs.declared.Dataset.{Dataset}
 use Rattle.study.specs.Study.{Contents, size}
 use Rattle.study.specs.Refusals.{Verdict, accepted, refused, first_of}
@@ -11,44 +12,70 @@ use Rattle.study.specs.Calls.{open_reasons, opened, opening, minima_reasons, wit
 use Rattle.study.proofs.CallLaws.{entered_size}
 use Rattle.validity.specs.Memory.{State, state_of, contents_of}
 use Rattle.validity.proofs.ValidityLaws.{study_size}
-use Rattle.study_text.specs.declared.Packed.{Packed}
+use Rattle.std.specs.Result.{IsErrAnd}
+use Rattle.std.proofs.lemmas.Result.{err_from_is_err_and}
+use Rattle.study_text.specs.declared.TextError.{TextError}
 use Rattle.study_text.specs.declared.Rule.{Rule}
 use Rattle.study_text.specs.declared.Rule.TheVariants as RuleCase
 use Rattle.text_words.specs.declared.Cursor.{Cursor}
 use Rattle.text_words.specs.declared.Word.{Word}
 use Rattle.text_words.specs.declared.Word.TheVariants as WordCase
-use Rattle.study_text.specs.declared.calls.Over.{Over}
-use Rattle.study_text.specs.declared.calls.Over.TheVariants as OverCase
-use Rattle.study_text.specs.declared.calls.Step.TheVariants as StepCase
-use Rattle.study_text.specs.declared.calls.Reached.{Reached}
-use Rattle.text_words.specs.Words.{next_of, CursorWithin}
-use Rattle.study_text.specs.Packing.{report_of, Got, got, stop, number_of, numbers_of, onward, called, minima_from}
+use Rattle.text_words.specs.declared.WordError.{WordError}
+use Rattle.study_text.specs.declared.calls.Finished.{Finished}
+use Rattle.text_words.specs.Words.{next_of}
+use Rattle.study_text.specs.Packing.{Report, error_report, no_number, Got, got, stop, number_of, numbers_of, onward, called, minima_from}
 use Rattle.study_text.specs.Packing.{opening_of, minima_of, head_of, tide_reasons, tide_of, Turn, going, ended, stopped, entered}
 use Rattle.study_text.specs.Packing.{turn_from, turn_of, further, turns_of, text_of}
-use Rattle.study_text.specs.Reached.{over_is, step_is, reached_of, Held, Reaches, Begins, Finishes, stopped_at}
-use Rattle.study_text.proofs.ReachedLaws.{held_by, held_few}
+use Rattle.study_text.specs.Reached.{Held, Alive, Reaches, TurnReached, Midway, Ended, Finishes}
+use Rattle.study_text.proofs.ReachedLaws.{never_err, same_ok, same_err, held_by, held_few}
 
 -- ---- one turn
 
-module _ (rule : Rule) (text : List ℕ) (c : Cursor) {w : Word} (e : w ≡ next_of text c) where
-  turn_is : (H : Contents) {v : Word} → w ≡ v → turn_from rule text H v ≡ turn_of rule text H c
+module _ {rule : Rule} {text : List ℕ} (s : State) (c : Cursor) {t : State} {d : Cursor} where
+  -- where it stops, in whatever state
+  stops_turn : {r : Result (Option ℕ) TextError} {x : TextError} → r ≡ Err x → turn_of rule text (contents_of s) c ≡ stopped (error_report x)
+      → TurnReached rule text r t d (turn_of rule text (contents_of s) c)
+  stops_turn e f =
+      record {
+        goes = λ q. absurd (never_err (sym q ∙ e));
+        ends = λ q. absurd (never_err (sym q ∙ e));
+        stops = λ q. f ∙ ap (λ x. stopped (error_report x)) (same_err (sym e ∙ q));
+      }
+
+  pub turn_stops : {r : Result (Option ℕ) TextError} {w : WordError} → IsErrAnd r (λ x. error_report x ≡ no_number w.line w.why) → Err w ≡ next_of text c
+      → TurnReached rule text r t d (turn_of rule text (contents_of s) c)
   unfolding turn_of
-  turn_is H h = ap (turn_from rule text H) (sym h ∙ e)
+  turn_stops {r} h e =
+      let p = err_from_is_err_and r h in stops_turn p.1 (sym (ap (turn_from rule text (contents_of s)) e) ∙ ap stopped (sym p.2))
 
-  pub turn_goes : (H : Contents) {x : ℕ} {f : Cursor} {r : Reached} {d s : List ℕ} → w ≡ WordCase.Number x f
-      → Reaches rule text r d s (entered (tide_of rule text H x f)) → Reaches rule text r d s (turn_of rule text H c)
-  turn_goes H h R = record { is = R.is ∙ turn_is H h; alive = R.alive }
+  pub turn_tide_stops : {r : Result (Option ℕ) TextError} {x : TextError} {y : ℕ} {f : Cursor} → r ≡ Err x → Ok (WordCase.Number y f) ≡ next_of text c
+      → Reaches rule text (Err x) t d (tide_of rule text (contents_of s) y f) → TurnReached rule text r t d (turn_of rule text (contents_of s) c)
+  unfolding turn_of
+  turn_tide_stops e w R = stops_turn e (sym (ap (turn_from rule text (contents_of s)) w) ∙ ap entered (R.stops refl))
 
-  module _ {r : Dataset} {d s : List ℕ} (W : CursorWithin text c) (P : Held rule (state_of r d s)) where
-    pub turn_ends : {l : ℕ} → w ≡ WordCase.End l
-        → Reaches rule text (record { step = StepCase.Over (OverCase.End l); dataset = r; cursor = c }) d s (turn_of rule text (contents_of (state_of r d s)) c)
-    turn_ends h = record { is = turn_is (contents_of (state_of r d s)) h; alive = record { held = P; within = W } }
+  pub turn_goes : {done : Unit} {y : ℕ} {f : Cursor} → Ok (WordCase.Number y f) ≡ next_of text c
+      → Reaches rule text (Ok done) t d (tide_of rule text (contents_of s) y f) → TurnReached rule text (Ok None) t d (turn_of rule text (contents_of s) c)
+  unfolding turn_of
+  turn_goes w R =
+      let read = R.goes refl in
+      record {
+        goes = λ q. (read.0, sym (ap (turn_from rule text (contents_of s)) w) ∙ ap entered read.1);
+        ends = λ q. absurd (let z : ◌≡◌ {A = ℕ} 0 1 = cc in omega arith);
+        stops = λ q. absurd (never_err q);
+      }
 
-    pub turn_stops : {v : Word} {p : Packed} {q : Reached} → w ≡ v → stopped (report_of p) ≡ turn_from rule text (contents_of (state_of r d s)) v
-        → q ≡ stopped_at p r c → Reaches rule text q d s (turn_of rule text (contents_of (state_of r d s)) c)
-    turn_stops h f k =
-        subst (λ q. Reaches rule text q d s (turn_of rule text (contents_of (state_of r d s)) c)) (sym k)
-        (record { is = f ∙ turn_is (contents_of (state_of r d s)) h; alive = record { held = P; within = W } })
+same_some : {x y : ℕ} → ◌≡◌ {A = Option ℕ} (Some x) (Some y) → x ≡ y
+same_some q = cc
+
+pub turn_ends : {rule : Rule} {text : List ℕ} {s : State} {c d : Cursor} {l : ℕ} → Alive rule text s c → Ok (WordCase.End l) ≡ next_of text c
+    → TurnReached rule text (Ok (Some l)) s d (turn_of rule text (contents_of s) c)
+unfolding turn_of
+turn_ends {rule} {text} {s} A w =
+    record {
+      goes = λ q. absurd (let z : ◌≡◌ {A = ℕ} 0 1 = cc in omega arith);
+      ends = λ {l = m} q. (A.held, sym (ap (turn_from rule text (contents_of s)) w) ∙ ap (ended (contents_of s)) (same_some (same_ok q)));
+      stops = λ q. absurd (never_err q);
+    }
 
 -- ---- each turn brings one tide
 
@@ -80,11 +107,10 @@ turn_size : (rule : Rule) (text : List ℕ) (H : Contents) (c : Cursor) {K : Con
 unfolding turn_of
 turn_size rule text H c {K} {d} = by (next_of text c)
   where
-    by : (w : Word) → turn_from rule text H w ≡ going K d → size K.study ≡ suc (size H.study)
-    by (WordCase.Number x e) h = tide_size rule text H x e (entered_got (tide_of rule text H x e) h)
-    by (WordCase.End l) h = absurd (let z : ◌≡◌ {A = ℕ} 0 1 = cc in omega arith)
-    by (WordCase.Bad l) h = absurd (let z : ◌≡◌ {A = ℕ} 0 1 = cc in omega arith)
-    by (WordCase.TooLarge l) h = absurd (let z : ◌≡◌ {A = ℕ} 0 1 = cc in omega arith)
+    by : (w : Result Word WordError) → turn_from rule text H w ≡ going K d → size K.study ≡ suc (size H.study)
+    by (Ok (WordCase.Number x e)) h = tide_size rule text H x e (entered_got (tide_of rule text H x e) h)
+    by (Ok (WordCase.End l)) h = absurd (let z : ◌≡◌ {A = ℕ} 0 1 = cc in omega arith)
+    by (Err e) h = absurd (let z : ◌≡◌ {A = ℕ} 0 1 = cc in omega arith)
 
 abbrev Empty : Contents → Type 0
 Empty K = size K.study ≡ 0
@@ -110,123 +136,105 @@ head_empty text =
 
 -- ---- the head
 
-over_stop : (g : Got Contents) (o : Over) (H : Contents) (f : Contents → Cursor → Got Contents) → over_is o H ≡ entered g → entered g ≡ entered (onward g f)
-over_stop (stop t) o H f e = refl
-over_stop (got K c) (OverCase.End l) H f e = absurd (let z : ◌≡◌ {A = ℕ} 0 1 = cc in omega arith)
-over_stop (got K c) (OverCase.Stopped p) H f e = absurd (let z : ◌≡◌ {A = ℕ} 0 1 = cc in omega arith)
+pub head_stops : (text : List ℕ) {t : Report} → opening_of text (record { at = 0; line = 1 }) ≡ stop t → head_of text ≡ stop t
+unfolding head_of
+head_stops text e = ap (λ (g : Got Contents). onward g (minima_of text)) e
 
-module _ {text : List ℕ} {r : Reached} {d s : List ℕ} where
-  -- where it stops
-  begins_over : {g : Got Contents} {o : Over} → Begins text r d s g → r.step ≡ StepCase.Over o → over_is o (contents_of (state_of r.dataset d s)) ≡ entered g
-  begins_over B h = sym (ap (λ t. step_is t (contents_of (state_of r.dataset d s)) r.cursor) h) ∙ B.is
-
-  -- what goes on
-  begins_got : (g : Got Contents) → Begins text r d s g → r.step ≡ StepCase.Going → g ≡ got (contents_of (state_of r.dataset d s)) r.cursor
-  begins_got g B h = entered_got g (sym B.is ∙ ap (λ t. step_is t (contents_of (state_of r.dataset d s)) r.cursor) h)
-
-  pub head_stops : {o : Over} → Begins text r d s (opening_of text (record { at = 0; line = 1 })) → r.step ≡ StepCase.Over o → Begins text r d s (head_of text)
-  unfolding head_of
-  head_stops {o} B h =
-      record {
-        is = B.is ∙ over_stop (opening_of text (record { at = 0; line = 1 })) o (contents_of (state_of r.dataset d s)) (minima_of text) (begins_over B h);
-        alive = λ k. absurd (let z : ◌≡◌ {A = ℕ} 0 1 = cc in omega arith);
-      }
-
-  pub head_goes : {q : Reached} → Begins text r d s (opening_of text (record { at = 0; line = 1 })) → r.step ≡ StepCase.Going
-      → Reaches RuleCase.Entered text q d s (entered (minima_of text (contents_of (state_of r.dataset d s)) r.cursor)) → Begins text q d s (head_of text)
-  unfolding head_of
-  head_goes {q} B h R =
-      record {
-        is = R.is ∙ sym (ap (λ g. entered (onward g (minima_of text))) (begins_got (opening_of text (record { at = 0; line = 1 })) B h));
-        alive = λ k. R.alive;
-      }
+pub head_goes : (text : List ℕ) {H : Contents} {c : Cursor} → opening_of text (record { at = 0; line = 1 }) ≡ got H c → head_of text ≡ minima_of text H c
+unfolding head_of
+head_goes text e = ap (λ (g : Got Contents). onward g (minima_of text)) e
 
 -- ---- turn after turn
 
--- no more turns after the end
-pub turns_over : (rule : Rule) (text : List ℕ) (t : Turn) (o : Over) (H : Contents) (m n : ℕ) → over_is o H ≡ turns_of rule text m t
-    → over_is o H ≡ turns_of rule text (n + m) t
+-- a turn after which there is none, after more of them
+pub turns_over : (rule : Rule) (text : List ℕ) (t : Turn) {u : Turn} (m n : ℕ) → further u (turn_of rule text) ≡ u → turns_of rule text m t ≡ u
+    → turns_of rule text (n + m) t ≡ u
 unfolding turns_of
-turns_over rule text t o H m zero e = e ∙ ap (λ k. turns_of rule text k t) (sym (zero-add m))
-turns_over rule text t o H m (suc n) e =
-    still o ∙ ap (λ u. further u (turn_of rule text)) (turns_over rule text t o H m n e) ∙ ap (λ k. turns_of rule text k t) (sym (suc-add n m))
-  where
-    still : (o : Over) → over_is o H ≡ further (over_is o H) (turn_of rule text)
-    still (OverCase.End l) = refl
-    still (OverCase.Stopped p) = refl
-
-pub record Midway (rule : Rule) (text : List ℕ) (r : Dataset) (d s : List ℕ) (c : Cursor) : Type 0 where
-  pub within : CursorWithin text c
-  pub held : Held rule (state_of r d s)
-  pub turns : turns_of rule text r.n (entered (head_of text)) ≡ going (contents_of (state_of r d s)) c
+turns_over rule text t m zero still e = ap (λ k. turns_of rule text k t) (zero-add m) ∙ e
+turns_over rule text t m (suc n) still e =
+    ap (λ k. turns_of rule text k t) (suc-add n m) ∙ ap (λ u. further u (turn_of rule text)) (turns_over rule text t m n still e) ∙ still
 
 contents_size : (s : State) → size (contents_of s).study ≡ s.dataset.n
 unfolding contents_of
 contents_size s = study_size s
 
-module _ {rule : Rule} {text : List ℕ} {q : Dataset} {d s : List ℕ} {c : Cursor} {r : Reached} {e g : List ℕ} (M : Midway rule text q d s c)
-    (R : Reaches rule text r e g (turn_of rule text (contents_of (state_of q d s)) c)) where
-  next_turn : turns_of rule text (suc q.n) (entered (head_of text)) ≡ reached_of r e g
+-- the code's end of the text, by the turn that the text comes to
+module _ {rule : Rule} {s : State} {t : Turn} where
+  pub text_stopped : {r : Result ℕ TextError} {x : TextError} → r ≡ Err x → t ≡ stopped (error_report x) → Ended rule r s t
+  text_stopped e f =
+      record {
+        ends = λ q. absurd (never_err (sym q ∙ e));
+        stops = λ q. f ∙ ap (λ x. stopped (error_report x)) (same_err (sym e ∙ q));
+      }
+
+  text_ended : {l : ℕ} → Held rule s → t ≡ ended (contents_of s) l → Ended rule (Ok l) s t
+  text_ended P f =
+      record {
+        ends = λ {l = m} q. (P, f ∙ ap (ended (contents_of s)) (same_ok q));
+        stops = λ q. absurd (never_err q);
+      }
+
+module _ {rule : Rule} {text : List ℕ} {s t : State} {c d : Cursor} {r : Result (Option ℕ) TextError} (M : Midway rule text s c)
+    (R : TurnReached rule text r t d (turn_of rule text (contents_of s) c)) where
+  next_turn : turns_of rule text (suc s.dataset.n) (entered (head_of text)) ≡ turn_of rule text (contents_of s) c
   unfolding turns_of
-  next_turn = ap (λ t. further t (turn_of rule text)) M.turns ∙ sym R.is
+  next_turn = ap (λ t. further t (turn_of rule text)) M.turns
 
-  reached_going : r.step ≡ StepCase.Going → reached_of r e g ≡ going (contents_of (state_of r.dataset e g)) r.cursor
-  reached_going h = ap (λ t. step_is t (contents_of (state_of r.dataset e g)) r.cursor) h
+  pub midway_size : r ≡ Ok None → t.dataset.n ≡ s.dataset.n + 1
+  midway_size h = omega (arith, contents_size t, contents_size s, turn_size rule text (contents_of s) c (R.goes h).1)
 
-  pub midway_size : r.step ≡ StepCase.Going → r.dataset.n ≡ q.n + 1
-  midway_size h =
-      omega (
-        arith,
-        contents_size (state_of r.dataset e g),
-        contents_size (state_of q d s),
-        turn_size rule text (contents_of (state_of q d s)) c (sym R.is ∙ reached_going h),
-      )
-
-  pub midway_more : r.step ≡ StepCase.Going → Midway rule text r.dataset e g r.cursor
+  pub midway_more : r ≡ Ok None → Midway rule text t d
   midway_more h =
-      let n : r.dataset.n ≡ suc q.n = omega (arith, midway_size h) in
+      let n : t.dataset.n ≡ suc s.dataset.n = omega (arith, midway_size h) in
       record {
-        within = R.alive.within;
-        held = R.alive.held;
-        turns = ap (λ k. turns_of rule text k (entered (head_of text))) n ∙ next_turn ∙ reached_going h;
+        alive = (R.goes h).0;
+        turns = ap (λ k. turns_of rule text k (entered (head_of text))) n ∙ next_turn ∙ (R.goes h).1;
       }
 
-  pub midway_ends : {o : Over} → r.step ≡ StepCase.Over o → Finishes rule (record { over = o; dataset = r.dataset }) e g (text_of rule text)
+  -- the turn after which there is none is the text's
+  last_turn : {u : Turn} → further u (turn_of rule text) ≡ u → turn_of rule text (contents_of s) c ≡ u → text_of rule text ≡ u
   unfolding text_of
-  midway_ends {o} h =
-      let H = contents_of (state_of r.dataset e g) in
-      let most : 120 - q.n + suc q.n ≡ 121 = omega (arith, held_few rule (state_of q d s) M.held) in
-      record {
-        is = turns_over rule text (entered (head_of text)) o H (suc q.n) (120 - q.n) (sym (next_turn ∙ ap (λ t. step_is t H r.cursor) h))
-            ∙ ap (λ k. turns_of rule text k (entered (head_of text))) most;
-        live = λ l k. R.alive.held;
-      }
+  last_turn still e =
+      let most : 120 - s.dataset.n + suc s.dataset.n ≡ 121 = omega (arith, held_few rule s M.alive.held) in
+      sym (ap (λ k. turns_of rule text k (entered (head_of text))) most)
+      ∙ turns_over rule text (entered (head_of text)) (suc s.dataset.n) (120 - s.dataset.n) still (next_turn ∙ e)
+
+  pub midway_ends : {l : ℕ} → r ≡ Ok (Some l) → Ended rule (Ok l) t (text_of rule text)
+  midway_ends h = text_ended (R.ends h).0 (last_turn refl (R.ends h).1)
+
+  pub midway_stops : {q : Result ℕ TextError} {x : TextError} → q ≡ Err x → r ≡ Err x → Ended rule q t (text_of rule text)
+  midway_stops e h = text_stopped e (last_turn refl (R.stops h))
 
 -- ---- the whole text
 
--- the head has no end of the text
-head_lasts : (g : Got Contents) (l : ℕ) (H : Contents) → ended H l ≡ entered g → ⊥
-head_lasts (got K c) l H e = let z : ◌≡◌ {A = ℕ} 0 1 = cc in omega arith
-head_lasts (stop t) l H e = let z : ◌≡◌ {A = ℕ} 0 1 = cc in omega arith
-
-module _ (rule : Rule) {text : List ℕ} {r : Reached} {d s : List ℕ} (B : Begins text r d s (head_of text)) where
-  pub text_begins : r.step ≡ StepCase.Going → Midway rule text r.dataset d s r.cursor
+module _ (rule : Rule) (text : List ℕ) where
+  pub text_begins : {s : State} {c : Cursor} → Alive RuleCase.Entered text s c → head_of text ≡ got (contents_of s) c → Midway rule text s c
   unfolding turns_of
-  text_begins h =
-      let n : 0 ≡ r.dataset.n = sym (head_empty text (begins_got (head_of text) B h)) ∙ contents_size (state_of r.dataset d s) in
+  text_begins {s} {c} A e =
+      let n : 0 ≡ s.dataset.n = sym (head_empty text e) ∙ contents_size s in
       record {
-        within = (B.alive h).within;
-        held = held_by rule (B.alive h).held;
-        turns = ap (λ k. turns_of rule text k (entered (head_of text))) (sym n) ∙ sym B.is
-            ∙ ap (λ t. step_is t (contents_of (state_of r.dataset d s)) r.cursor) h;
+        alive = record { held = held_by rule A.held; within = A.within };
+        turns = ap (λ k. turns_of rule text k (entered (head_of text))) (sym n) ∙ ap entered e;
       }
 
-  pub text_stops : {o : Over} → r.step ≡ StepCase.Over o → Finishes rule (record { over = o; dataset = r.dataset }) d s (text_of rule text)
+  -- what stops the head stops the text
+  pub text_stops : {t : Report} → head_of text ≡ stop t → text_of rule text ≡ stopped t
   unfolding text_of turns_of
-  text_stops {o} h =
+  text_stops e = turns_over rule text (entered (head_of text)) 0 121 refl (ap entered e)
+
+module _ {rule : Rule} {d g : List ℕ} {t : Turn} where
+  pub finish_stops : {r : Result Finished TextError} {x : TextError} → r ≡ Err x → t ≡ stopped (error_report x) → Finishes rule r d g t
+  finish_stops e f =
       record {
-        is = turns_over rule text (entered (head_of text)) o (contents_of (state_of r.dataset d s)) 0 121 (begins_over B h);
-        live = λ l k.
-            let H = contents_of (state_of r.dataset d s) in
-            absurd (head_lasts (head_of text) l H (sym (ap (λ p. over_is p H) k) ∙ begins_over B h));
+        ends = λ q. absurd (never_err (sym q ∙ e));
+        stops = λ q. f ∙ ap (λ x. stopped (error_report x)) (same_err (sym e ∙ q));
+      }
+
+  pub finish_ends : {dataset : Dataset} {l : ℕ} → Ended rule (Ok l) (state_of dataset d g) t
+      → Finishes rule (Ok (record { dataset = dataset; line = l })) d g t
+  finish_ends {dataset} {l} E =
+      record {
+        ends = λ {f} q.
+            subst (λ (f : Finished). Held rule (state_of f.dataset d g) × (t ≡ ended (contents_of (state_of f.dataset d g)) f.line)) (same_ok q) (E.ends refl);
+        stops = λ q. absurd (never_err q);
       }

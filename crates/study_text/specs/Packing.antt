@@ -1,7 +1,7 @@
 -- A study as text: k, the minima b0 and b1 to bk, then each tide's setting and its distances to the earlier tides. The calls that the
 -- text makes, in its order, what they come to, and the study file. A tide comes in by Enter; or as measured, where the triangle
 -- inequality may fail and a tide may be a duplicate: there all but these is asked. Assumes nothing.
-use Rattle.std.specs.Prelude.{ℕ, zero, suc, cond, List, [], ◌∷◌, ◌++◌, ltb, length, drop, get_or}
+use Rattle.std.specs.Prelude.{ℕ, zero, suc, cond, List, [], ◌∷◌, ◌++◌, ltb, length, drop, get_or, Result, Ok, Err}
 use Rattle.lists.specs.Lists.{tabulate}
 use Rattle.study.specs.Limits.{max_settings}
 use Rattle.study.specs.declared.Minima.{Minima}
@@ -9,13 +9,16 @@ use Rattle.study.specs.Study.{Study, Contents, size}
 use Rattle.study.specs.Refusals.{Numbered, number, numbered, Verdict, accepted, refused, Reason, first_of}
 use Rattle.study.specs.Calls.{open_reasons, opening, minima_reasons, setting_minima, enter_reasons, measured_reasons, entering}
 use Rattle.file_format.specs.File.{file_of}
-use Rattle.study_text.specs.declared.Packed.{Packed}
-use Rattle.study_text.specs.declared.Packed.TheVariants as PackedCase
+use Rattle.study_text.specs.declared.TextError.{TextError}
+use Rattle.study_text.specs.declared.TextError.TheVariants as TextErrorCase
 use Rattle.study_text.specs.declared.Rule.{Rule}
 use Rattle.study_text.specs.declared.Rule.TheVariants as RuleCase
 use Rattle.text_words.specs.declared.Cursor.{Cursor}
 use Rattle.text_words.specs.declared.Word.{Word}
 use Rattle.text_words.specs.declared.Word.TheVariants as WordCase
+use Rattle.text_words.specs.declared.NumeralError.{NumeralError}
+use Rattle.text_words.specs.declared.NumeralError.TheVariants as NumeralErrorCase
+use Rattle.text_words.specs.declared.WordError.{WordError}
 use Rattle.text_words.specs.Words.{newlines, next_of}
 
 -- what is said of a text: the file's length, or a line and what is wrong there
@@ -27,14 +30,18 @@ pub data Report : Type 0 where
   missing : ℕ → Report
   too_long : ℕ → Report
 
--- the code's answer, by document 01's numbers
-abbrev pub report_of : Packed → Report
-report_of (PackedCase.Done n) = done n
-report_of (PackedCase.Refused l r) = refused_at l (numbered r)
-report_of (PackedCase.NotANumber l) = not_number l
-report_of (PackedCase.TooLarge l) = too_large l
-report_of (PackedCase.Missing l) = missing l
-report_of (PackedCase.TooLong l) = too_long l
+-- the code's error, by document 01's numbers
+abbrev pub error_report : TextError → Report
+error_report (TextErrorCase.Refused l r) = refused_at l (numbered r)
+error_report (TextErrorCase.NotANumber l) = not_number l
+error_report (TextErrorCase.TooLarge l) = too_large l
+error_report (TextErrorCase.Missing l) = missing l
+error_report (TextErrorCase.TooLong l) = too_long l
+
+-- and its answer
+abbrev pub report_of : Result ℕ TextError → Report
+report_of (Ok n) = done n
+report_of (Err e) = error_report e
 
 -- ---- numbers that must stand next
 
@@ -43,12 +50,16 @@ pub data Got (A : Type 0) : Type 0 where
   got : A → Cursor → Got A
   stop : Report → Got A
 
+-- a word on this line that is no number
+abbrev pub no_number : ℕ → NumeralError → Report
+no_number l NumeralErrorCase.NotANumber = not_number l
+no_number l NumeralErrorCase.TooLarge = too_large l
+
 -- a word where a number must stand
-abbrev pub number_from : Word → Got ℕ
-number_from (WordCase.Number x c) = got x c
-number_from (WordCase.End l) = stop (missing l)
-number_from (WordCase.Bad l) = stop (not_number l)
-number_from (WordCase.TooLarge l) = stop (too_large l)
+abbrev pub number_from : Result Word WordError → Got ℕ
+number_from (Ok (WordCase.Number x c)) = got x c
+number_from (Ok (WordCase.End l)) = stop (missing l)
+number_from (Err e) = stop (no_number e.line e.why)
 
 -- the number that stands next
 unfoldable pub number_of : List ℕ → Cursor → Got ℕ
@@ -114,11 +125,10 @@ entered (got H c) = going H c
 entered (stop t) = stopped t
 
 -- a turn by its first word: a tide's setting, the text's end, or no number
-abbrev pub turn_from : Rule → List ℕ → Contents → Word → Turn
-turn_from rule text H (WordCase.Number x c) = entered (tide_of rule text H x c)
-turn_from rule text H (WordCase.End l) = ended H l
-turn_from rule text H (WordCase.Bad l) = stopped (not_number l)
-turn_from rule text H (WordCase.TooLarge l) = stopped (too_large l)
+abbrev pub turn_from : Rule → List ℕ → Contents → Result Word WordError → Turn
+turn_from rule text H (Ok (WordCase.Number x c)) = entered (tide_of rule text H x c)
+turn_from rule text H (Ok (WordCase.End l)) = ended H l
+turn_from rule text H (Err e) = stopped (no_number e.line e.why)
 
 -- the turn from a place on
 unfoldable pub turn_of : Rule → List ℕ → Contents → Cursor → Turn

@@ -1,61 +1,34 @@
-// Numbers that the text must have next.
+// Numbers that the text must have next. The cursor moves past them; it is free where something stops the reading.
 ghost use Rattle.std.specs.Prelude.{◌≡◌, length};
 ghost use Rattle.study_text.specs.Packing.{number_of, numbers_of};
 ghost use Rattle.study_text.specs.Steps.{given_of, read_of};
 ghost use Rattle.text_words.specs.Words.{CursorWithin};
 
-use crate::Packed;
+use crate::TextError;
 use text_words::{Cursor, Word, next};
 
-// The number that stands next, or what stops the reading.
-#[derive(Clone, Copy)]
-pub enum Given {
-    // The number and the place after it.
-    Number(u32, Cursor),
-    Stopped(Packed),
-}
-
-// A row of numbers that was read, or what stops the reading.
-#[derive(Clone, Copy)]
-pub enum Row {
-    // The place after the last number.
-    Read(Cursor),
-    Stopped(Packed),
-}
-
 // One number.
-pub fn number(text: &[u8], from: Cursor) -> Given
-    requires { CursorWithin text.now from }
-    ensures { given_of result ≡ number_of text.now from }
+pub fn number(text: &[u8], cursor: &mut Cursor) -> Result<u32, TextError>
+    requires { CursorWithin text.now cursor.old }
+    ensures { given_of result cursor.new ≡ number_of text.now cursor.old }
 {
-    let word = next(text, from);
+    let word = next(text, *cursor)?;
     match word {
-        Word::Number(x, after) => Given::Number(x, after),
-        Word::End(line) => Given::Stopped(Packed::Missing(line)),
-        Word::Bad(line) => Given::Stopped(Packed::NotANumber(line)),
-        Word::TooLarge(line) => Given::Stopped(Packed::TooLarge(line)),
+        Word::Number(x, after) => {
+            *cursor = after;
+            Ok(x)
+        }
+        Word::End(line) => Err(TextError::Missing(line)),
     }
 }
 
 // As many numbers as the row is long; the row is free where something stops the reading.
-pub fn read_row(text: &[u8], from: Cursor, row: &mut [u32]) -> Row
-    requires { CursorWithin text.now from }
-    ensures { read_of result row.new ≡ numbers_of text.now (length row.old) from }
+pub fn read_row(text: &[u8], cursor: &mut Cursor, row: &mut [u32]) -> Result<(), TextError>
+    requires { CursorWithin text.now cursor.old }
+    ensures { read_of result row.new cursor.new ≡ numbers_of text.now (length row.old) cursor.old }
 {
-    let mut cursor = from;
-    let mut i: usize = 0;
-    while i < row.len() {
-        let given = number(text, cursor);
-        match given {
-            Given::Stopped(why) => {
-                return Row::Stopped(why);
-            }
-            Given::Number(x, after) => {
-                row[i] = x;
-                cursor = after;
-                i += 1;
-            }
-        }
+    for i in 0..row.len() {
+        row[i] = number(text, cursor)?;
     }
-    Row::Read(cursor)
+    Ok(())
 }

@@ -1,26 +1,22 @@
 // Document 01's cases 7 to 9, case 8 also as document 02, 2.7 writes it: what Enter, Read, Write and Withdraw give.
 use crate::cases::line;
-use study::{Dataset, MAX_TIDES, MAX_USERS, Outcome, TABLE_SIZE};
-use study_file::Written;
-use test_tools::samples::{entered, has_counts, nonsense, opened};
-use test_tools::slices::front;
-use test_tools::tally;
+use study::{Dataset, MAX_TIDES, MAX_USERS, Refusal, TABLE_SIZE};
+use test_tools::book::Book;
 use test_tools::tally::Tally;
 
 // A third tide beside two at 3.
-fn third(first: u32, second: u32) -> Outcome {
-    let mut distances = [7u32; 14403];
-    let mut settings = [9u8; 123];
-    let two = line(2, [0, 3, 0, 0, 0, 0, 0], 1).held(&mut distances, &mut settings);
-    dataset::enter(two, &mut distances, &mut settings, 1, &[first, second])
+fn third(first: u32, second: u32) -> Result<(), Refusal> {
+    let mut book = line(2, [0, 3, 0, 0, 0, 0, 0], 1).book()?;
+    book.enter(1, &[first, second])
 }
 
 pub fn case_7() -> Tally {
-    tally::new()
-        .outcome(third(1, 2), 0)
-        .outcome(third(1, 4), 0)
-        .pair(third(1, 1), 1, 2)
-        .pair(third(1, 5), 1, 2)
+    let broken = Err(Refusal::TriangleInequality(1, 2));
+    Tally::default()
+        .see(third(1, 2) == Ok(()))
+        .see(third(1, 4) == Ok(()))
+        .see(third(1, 1) == broken)
+        .see(third(1, 5) == broken)
 }
 
 // Case 8's file, as it is written and as document 01 has it; then each with its last byte 1.
@@ -32,93 +28,89 @@ const NEW_FILL: [u8; 13] = [0x55, 0, 0x20, 0x40, 0, 0, 0, 0, 0, 0, 0, 0, 1];
 
 const OLD_FILL: [u8; 7] = [0x54, 0, 0x20, 0x40, 0, 0, 1];
 
-fn is_length(written: Written, length: usize) -> bool {
-    match written {
-        Written::Done(n) => n == length,
-        Written::Refused(_) => false,
-    }
-}
-
 // Open and then Write; the bytes past the file stay.
 fn written_empty(so_far: Tally) -> Tally {
-    let mut distances = [7u32; 14403];
-    let mut settings = [9u8; 123];
-    let mut file = [170u8; 15];
-    let empty = opened(&mut distances, &mut settings, 1);
-    let written = study_file::write(empty, &distances, &settings, &mut file);
+    let Ok(book) = Book::opened(1) else {
+        return so_far.see(false);
+    };
+    let mut file = [170; 15];
+    let length = study_file::write(book.view(), &mut file);
     so_far
-        .see(is_length(written, 13))
-        .see(check::same(front(&file, 13), &NEW))
+        .see(length == Ok(13))
+        .see(file[..13] == NEW[..])
         .see(file[13] == 170 && file[14] == 170)
 }
 
-fn read(file: &[u8]) -> Outcome {
-    let mut distances = [7u32; 14403];
-    let mut settings = [9u8; 123];
-    study_file::read(nonsense(), &mut distances, &mut settings, file)
+// Read's answer, and the record that it leaves.
+fn read(file: &[u8]) -> (Result<(), Refusal>, Dataset) {
+    let mut book = Book::nonsense();
+    let answer = book.read(file);
+    (answer, book.dataset)
 }
 
 fn is_empty(dataset: Dataset) -> bool {
-    let minima = dataset.minima;
-    dataset.k == 1 && dataset.n == 0 && minima.b0 == 1 && has_counts(dataset, [0; MAX_USERS])
+    dataset.k == 1
+        && dataset.n == 0
+        && dataset.minima.b0 == 1
+        && dataset.withdrawn == [0; MAX_USERS]
 }
 
 // The file comes in; with a fill bit set, and with six bytes, it is refused.
-fn files(so_far: Tally, file: &[u8], filled: &[u8]) -> Tally {
-    let empty = read(file);
+fn files(so_far: Tally, file: &[u8], filled: &[u8], short: &[u8]) -> Tally {
+    let (answer, dataset) = read(file);
+    let (with_fill, _) = read(filled);
+    let (cut_off, _) = read(short);
     so_far
-        .outcome(empty, 0)
-        .see(is_empty(empty.dataset))
-        .outcome(read(filled), 11)
-        .outcome(read(front(file, 6)), 8)
+        .see(answer == Ok(()))
+        .see(is_empty(dataset))
+        .see(with_fill == Err(Refusal::FillBits))
+        .see(cut_off == Err(Refusal::FileLength))
 }
 
 pub fn case_8() -> Tally {
-    let t = files(written_empty(tally::new()), &NEW, &NEW_FILL);
-    files(t, &OLD, &OLD_FILL)
+    let t = files(written_empty(Tally::default()), &NEW, &NEW_FILL, &NEW[..6]);
+    files(t, &OLD, &OLD_FILL, &OLD[..6])
 }
 
-// As many tides as the row is long, each at the row's distances from those before it.
-fn enter_all(empty: Dataset, distances: &mut [u32], settings: &mut [u8], row: &[u32]) -> Dataset {
-    let mut next = empty;
-    let mut n: usize = 0;
-    while n < row.len() {
-        next = entered(next, distances, settings, 1, &row[..n]);
-        n += 1;
+// A dataset of as many tides as the row is long, each at the row's distances from those before it.
+fn filled(row: &[u32]) -> Result<Book, Refusal> {
+    let mut book = Book::opened(1)?;
+    for n in 0..row.len() {
+        book.enter(1, &row[..n])?;
     }
-    next
+    Ok(book)
 }
 
-// A call's answer; the record's tides, and its count for user 4 alone; where the rows of tides 119 and 120 begin, and what stands past the memory.
-fn left(
-    so_far: Tally,
-    call: Outcome,
-    number: u32,
-    n: usize,
-    count: u16,
-    distances: &[u32],
-    last: u32,
-) -> Tally {
-    let dataset = call.dataset;
+// The record's tides, and its count for user 4 alone; where the rows of tides 119 and 120 begin, and what stands past the memory.
+fn left(so_far: Tally, book: &Book, n: usize, count: u16, last: u32) -> Tally {
+    let Dataset {
+        n: tides,
+        withdrawn,
+        ..
+    } = book.dataset;
     so_far
-        .outcome(call, number)
-        .see(dataset.n == n && has_counts(dataset, [0, 0, 0, count]))
-        .place(distances, 14160, 1)
-        .place(distances, 14280, last)
-        .place(distances, TABLE_SIZE, 7)
+        .see(tides == n && withdrawn == [0, 0, 0, count])
+        .see(book.distances[14160] == 1)
+        .see(book.distances[14280] == last)
+        .see(book.distances[TABLE_SIZE] == 7)
 }
 
 // 120 tides, each at 1 from every other: tide 120 has entered. Another is refused, whatever its setting and row; after user 4 withdraws tide 5,
 // one at 2 from all enters.
 pub fn case_9() -> Tally {
-    let mut distances = [7u32; 14403];
-    let mut settings = [9u8; 123];
-    let empty = opened(&mut distances, &mut settings, 1);
-    let full = enter_all(empty, &mut distances, &mut settings, &[1; MAX_TIDES]);
-    let refused = dataset::enter(full, &mut distances, &mut settings, 9, &[5]);
-    let before = left(tally::new(), refused, 22, MAX_TIDES, 0, &distances, 1);
-    let gone = dataset::withdraw(full, &mut distances, &mut settings, 4, 5);
-    let between = left(before, gone, 0, 119, 1, &distances, 0);
-    let again = dataset::enter(gone.dataset, &mut distances, &mut settings, 1, &[2; 119]);
-    left(between, again, 0, MAX_TIDES, 1, &distances, 2)
+    let Ok(mut book) = filled(&[1; MAX_TIDES]) else {
+        return Tally::default().see(false);
+    };
+    let refused = book.enter(9, &[5]);
+    let t = left(
+        Tally::default().see(refused == Err(Refusal::Full)),
+        &book,
+        MAX_TIDES,
+        0,
+        1,
+    );
+    let gone = book.withdraw(4, 5);
+    let t = left(t.see(gone == Ok(())), &book, 119, 1, 0);
+    let again = book.enter(1, &[2; 119]);
+    left(t.see(again == Ok(())), &book, MAX_TIDES, 1, 2)
 }

@@ -1,14 +1,11 @@
 // Document 01's cases 1 to 6 and studies for document 02, 2.6, through the calls. A place of a list past the last tide is 0 here.
 use crate::comparing::{agrees, blocked, is_list};
 use blocking::judge::judge;
-use study::{BlockRecord, Judged, MAX_TIDES, Minima};
+use study::{Figures, Minima, Refusal};
 use test_exhaustive::exhaustive;
 use test_exhaustive::exhaustive::Order;
 use test_exhaustive::small::{Small, table};
 use test_exhaustive::stored::has_duplicate;
-use test_tools::answers::{blocked_number, is_done};
-use test_tools::slices::front;
-use test_tools::tally;
 use test_tools::tally::Tally;
 
 // Tides in a plane, k = 1 and each b 0.
@@ -29,71 +26,60 @@ pub fn line(n: usize, positions: [u8; 7], b0: u8) -> Small {
 // What Block is to give: a diameter past the last block is 0.
 #[derive(Clone, Copy)]
 struct Expected {
-    count: usize,
-    radius: u32,
-    widest: u32,
+    figures: Figures,
     diameters: [u32; 3],
     list: [u8; 7],
 }
 
-fn has_diameters(records: [BlockRecord; MAX_TIDES], diameters: [u32; 3]) -> bool {
-    let first = records[0];
-    let second = records[1];
-    let third = records[2];
-    first.diameter == diameters[0]
-        && second.diameter == diameters[1]
-        && third.diameter == diameters[2]
+fn figures(blocks: usize, radius: u32, widest: u32) -> Figures {
+    Figures {
+        blocks,
+        radius,
+        widest,
+    }
 }
 
 // Answer, list and diameters; and the plain blocker gives the same.
 fn blocks(so_far: Tally, small: Small, expected: Expected) -> Tally {
-    let given = blocked(small);
-    let answer = given.answer;
-    let places = given.list;
-    let records = given.records;
-    let list = expected.list;
-    let diameters = expected.diameters;
+    let Ok(given) = blocked(small) else {
+        return so_far.see(false);
+    };
+    let [first, second, third, ..] = given.records;
+    let diameters = [first.diameter, second.diameter, third.diameter];
     so_far
-        .see(is_done(answer, expected.count, expected.radius, expected.widest))
-        .see(is_list(places, small.n, list))
-        .see(has_diameters(records, diameters))
+        .see(given.answer == Ok(expected.figures))
+        .see(is_list(given.list, small.n, expected.list))
+        .see(diameters == expected.diameters)
         .see(agrees(small, exhaustive::block(small)))
 }
 
 // The list and the records of a refusal are as before, by `agrees`.
-fn refused(so_far: Tally, small: Small, number: u32) -> Tally {
-    let given = blocked(small);
-    let answer = given.answer;
+fn refused(so_far: Tally, small: Small, why: Refusal) -> Tally {
+    let Ok(given) = blocked(small) else {
+        return so_far.see(false);
+    };
     so_far
-        .see(blocked_number(answer) == number)
+        .see(given.answer == Err(why))
         .see(agrees(small, exhaustive::block(small)))
 }
 
 fn has_assignment(small: Small, g: u32) -> bool {
-    let found = exhaustive::assignment(small, g, Order::Preference);
-    found.found
+    exhaustive::assignment(small, g, Order::Preference).is_some()
 }
 
-// Whether Judge approves the list's first n numbers, with this diameter.
-fn approves(small: Small, list: [u8; 7], expected: u32) -> bool {
-    let mut distances = [7u32; 14403];
-    let mut settings = [9u8; 123];
-    let dataset = small.held(&mut distances, &mut settings);
-    match judge(dataset, &distances, &settings, front(&list, small.n)) {
-        Judged::Approved(widest) => widest == expected,
-        _ => false,
-    }
+// Judge's answer to the list's first n numbers.
+fn judged(small: Small, list: [u8; 7]) -> Result<Option<u32>, Refusal> {
+    let book = small.book()?;
+    judge(book.view(), &list[..small.n.min(7)])
 }
 
 pub fn case_1() -> Tally {
     let small = line(6, [2, 5, 0, 1, 3, 7, 0], 3);
     let t = blocks(
-        tally::new(),
+        Tally::default(),
         small,
         Expected {
-            count: 2,
-            radius: 2,
-            widest: 4,
+            figures: figures(2, 2, 4),
             diameters: [2, 4, 0],
             list: [1, 2, 1, 1, 2, 2, 0],
         },
@@ -119,42 +105,40 @@ fn pairs(b0: u8) -> Small {
 // With b0 = 1, which Minima takes as 2 (document 02, 2.2), Block gives the same.
 pub fn case_2() -> Tally {
     let expected = Expected {
-        count: 2,
-        radius: 1,
-        widest: 1,
+        figures: figures(2, 1, 1),
         diameters: [1, 1, 0],
         list: [1, 1, 2, 2, 0, 0, 0],
     };
-    blocks(blocks(tally::new(), pairs(2), expected), pairs(1), expected)
+    blocks(
+        blocks(Tally::default(), pairs(2), expected),
+        pairs(1),
+        expected,
+    )
 }
 
 // Cases 3, 4 and 5 hold a duplicate, so that they come in by file (document 02, 2.8).
 pub fn case_3() -> Tally {
     let small = line(4, [2, 0, 2, 4, 0, 0, 0], 2);
     let t = blocks(
-        tally::new(),
+        Tally::default(),
         small,
         Expected {
-            count: 1,
-            radius: 2,
-            widest: 4,
+            figures: figures(1, 2, 4),
             diameters: [4, 0, 0],
             list: [1, 1, 1, 1, 0, 0, 0],
         },
     );
-    t.see(approves(small, [1, 1, 2, 2, 0, 0, 0], 2))
+    t.see(judged(small, [1, 1, 2, 2, 0, 0, 0]) == Ok(Some(2)))
         .see(has_duplicate(small))
 }
 
 pub fn case_4() -> Tally {
     let small = line(5, [0, 10, 5, 5, 5, 0, 0], 2);
     blocks(
-        tally::new().see(has_duplicate(small)),
+        Tally::default().see(has_duplicate(small)),
         small,
         Expected {
-            count: 2,
-            radius: 5,
-            widest: 5,
+            figures: figures(2, 5, 5),
             diameters: [5, 5, 0],
             list: [1, 2, 1, 1, 2, 0, 0],
         },
@@ -164,12 +148,10 @@ pub fn case_4() -> Tally {
 pub fn case_5() -> Tally {
     let small = line(3, [0; 7], 1);
     let t = blocks(
-        tally::new().see(has_duplicate(small)),
+        Tally::default().see(has_duplicate(small)),
         small,
         Expected {
-            count: 1,
-            radius: 0,
-            widest: 0,
+            figures: figures(1, 0, 0),
             diameters: [0, 0, 0],
             list: [1, 1, 1, 0, 0, 0, 0],
         },
@@ -178,9 +160,7 @@ pub fn case_5() -> Tally {
         t,
         line(2, [0, 5, 0, 0, 0, 0, 0], 1),
         Expected {
-            count: 2,
-            radius: 0,
-            widest: 0,
+            figures: figures(2, 0, 0),
             diameters: [0, 0, 0],
             list: [1, 2, 0, 0, 0, 0, 0],
         },
@@ -188,14 +168,16 @@ pub fn case_5() -> Tally {
 }
 
 pub fn case_6() -> Tally {
-    let t = refused(tally::new(), line(2, [0, 5, 0, 0, 0, 0, 0], 3), 25);
+    let t = refused(
+        Tally::default(),
+        line(2, [0, 5, 0, 0, 0, 0, 0], 3),
+        Refusal::TooFewTides,
+    );
     blocks(
         t,
         line(2, [0, 5, 0, 0, 0, 0, 0], 2),
         Expected {
-            count: 1,
-            radius: 5,
-            widest: 5,
+            figures: figures(1, 5, 5),
             diameters: [5, 0, 0],
             list: [1, 1, 0, 0, 0, 0, 0],
         },
@@ -210,9 +192,7 @@ fn second_choice(so_far: Tally) -> Tally {
         so_far,
         plane(6, [0, 50, 40, 50, 40, 30, 0], [20, 0, 0, 30, 40, 60, 0], 2),
         Expected {
-            count: 3,
-            radius: 60,
-            widest: 60,
+            figures: figures(3, 60, 60),
             diameters: [60, 10, 50],
             list: [1, 2, 2, 3, 1, 3, 0],
         },
@@ -223,12 +203,10 @@ fn second_choice(so_far: Tally) -> Tally {
 // 1 2 1 2. In the second tide 4 is at 1 from block 1's centre; by number the list would be 1 2 1 1 2 2.
 pub fn nearest_first() -> Tally {
     let one = blocks(
-        tally::new(),
+        Tally::default(),
         line(4, [0, 41, 40, 40, 0, 0, 0], 2),
         Expected {
-            count: 2,
-            radius: 40,
-            widest: 40,
+            figures: figures(2, 40, 40),
             diameters: [40, 1, 0],
             list: [1, 2, 2, 1, 0, 0, 0],
         },
@@ -237,9 +215,7 @@ pub fn nearest_first() -> Tally {
         one,
         line(6, [0, 41, 40, 1, 40, 40, 0], 3),
         Expected {
-            count: 2,
-            radius: 40,
-            widest: 40,
+            figures: figures(2, 40, 40),
             diameters: [40, 1, 0],
             list: [1, 2, 2, 1, 2, 1, 0],
         },

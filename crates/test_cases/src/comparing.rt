@@ -1,71 +1,61 @@
 // Block beside the plain blocker: answer, list, records, and the places past the last tide and block.
-use blocking::records::block_by_value;
+use blocking::records::{Blocking, block_by_value};
 use std::io;
 use std::io::Write;
-use study::{BlockRecord, Blocked, MAX_TIDES, wide};
+use study::{BlockRecord, Figures, MAX_TIDES, Refusal};
 use test_exhaustive::centres::Centres;
 use test_exhaustive::exhaustive::{Order, Plain};
-use test_exhaustive::partitions::{diameter, members};
+use test_exhaustive::partitions::{diameter, members, widest};
 use test_exhaustive::small::Small;
 use test_exhaustive::stored::has_duplicate;
-use test_exhaustive::{centres, exhaustive, studies};
+use test_exhaustive::{exhaustive, studies};
 use test_random::next;
-use test_tools::answers::{blocked_number, is_done};
-use test_tools::tally;
 use test_tools::tally::Tally;
+
+// A record with no block in it.
+const BLANK: BlockRecord = BlockRecord {
+    centre: 0,
+    tides: 0,
+    diameter: 0,
+};
 
 // Block's answer, records, and a list of nine places that held 170.
 #[derive(Clone, Copy)]
 pub struct Given {
-    pub answer: Blocked,
+    pub answer: Result<Figures, Refusal>,
     pub records: [BlockRecord; MAX_TIDES],
     pub list: [u8; 9],
 }
 
-pub fn blocked(small: Small) -> Given {
-    let mut distances = [7u32; 14403];
-    let mut settings = [9u8; 123];
-    let mut list = [170u8; 9];
-    let dataset = small.held(&mut distances, &mut settings);
-    let blocked = block_by_value(dataset, &distances, &settings, &mut list);
-    let answer = blocked.answer;
-    let records = blocked.records;
-    Given {
+// What Block gives for a study that the other calls took.
+pub fn blocked(small: Small) -> Result<Given, Refusal> {
+    let book = small.book()?;
+    let mut list = [170; 9];
+    let Blocking { answer, records } = block_by_value(book.view(), &mut list);
+    Ok(Given {
         answer,
         records,
         list,
-    }
+    })
 }
 
 // Whether the first n places hold the block numbers, and the others still 170.
 pub fn is_list(given: [u8; 9], n: usize, list: [u8; 7]) -> bool {
-    let mut expected = [170u8; 9];
-    let mut t: usize = 0;
-    while t < n {
-        if 7 <= t {
-            return false;
-        }
-        expected[t] = list[t];
-        t += 1;
-    }
-    check::same(&given, &expected)
+    let mut expected = [170; 9];
+    let front = n.min(7);
+    expected[..front].copy_from_slice(&list[..front]);
+    n <= 7 && given == expected
 }
 
 // Whether this is the record of block m, counted from 0; past the last block nothing was written.
 fn right_record(record: BlockRecord, small: Small, list: [u8; 7], centres: Centres, m: u8) -> bool {
-    if centres.count <= m {
-        return record.centre == 0 && record.tides == 0 && record.diameter == 0;
-    }
-    if record.centre < 1 {
-        return false;
-    }
-    if wide(record.centre) - 1 != centres.tide(wide(m)) {
-        return false;
-    }
-    if wide(record.tides) != members(small, list, m + 1, 0) {
-        return false;
-    }
-    record.diameter == diameter(small, list, m + 1)
+    let Some(centre) = centres.tide(m) else {
+        return record == BLANK;
+    };
+    let block = m.saturating_add(1);
+    usize::from(record.centre).checked_sub(1) == Some(centre)
+        && usize::from(record.tides) == members(small, list, block, None)
+        && record.diameter == diameter(small, list, block)
 }
 
 fn right_records(
@@ -74,52 +64,52 @@ fn right_records(
     list: [u8; 7],
     centres: Centres,
 ) -> bool {
-    let mut m: u8 = 0;
-    while m < 120 {
-        let record = records[m as usize];
-        if !right_record(record, small, list, centres, m) {
+    for m in 0..120u8 {
+        if !right_record(records[usize::from(m)], small, list, centres, m) {
             return false;
         }
-        m += 1;
     }
     true
 }
 
+// Whether Block gave these blocks.
+fn gave(given: Given, small: Small, plain: Plain) -> bool {
+    let Plain { radius, list } = plain;
+    let centres = Centres::at_radius(small, radius);
+    let figures = Figures {
+        blocks: usize::from(centres.count),
+        radius,
+        widest: widest(small, list),
+    };
+    given.answer == Ok(figures)
+        && is_list(given.list, small.n, list)
+        && right_records(given.records, small, list, centres)
+}
+
 // Whether Block gives what the plain blocker gives; a refusal leaves list and records as they were.
-pub fn agrees(small: Small, plain: Plain) -> bool {
-    let given = blocked(small);
-    let answer = given.answer;
-    let places = given.list;
-    let records = given.records;
-    let list = plain.list;
-    if plain.refusal != 0 {
-        let no_blocks = Centres {
-            count: 0,
-            tides: [7; 7],
-        };
-        return blocked_number(answer) == plain.refusal
-            && is_list(places, 0, list)
-            && right_records(records, small, list, no_blocks);
+pub fn agrees(small: Small, plain: Result<Plain, Refusal>) -> bool {
+    let Ok(given) = blocked(small) else {
+        return false;
+    };
+    match plain {
+        Ok(blocks) => gave(given, small, blocks),
+        Err(why) => {
+            given.answer == Err(why)
+                && given.list == [170; 9]
+                && given.records == [BLANK; MAX_TIDES]
+        }
     }
-    let centres = centres::at_radius(small, plain.radius);
-    let count = wide(centres.count);
-    is_done(answer, count, plain.radius, diameter(small, list, 0))
-        && is_list(places, small.n, list)
-        && right_records(records, small, list, centres)
 }
 
 // Whether another list would come first at the plain blocker's radius if each tide took the blocks by number.
 fn other_by_number(small: Small, plain: Plain) -> bool {
-    let by_number = exhaustive::assignment(small, plain.radius, Order::Number);
-    let first = by_number.list;
-    let list = plain.list;
-    !check::same(&first, &list)
+    exhaustive::assignment(small, plain.radius, Order::Number) != Some(plain.list)
 }
 
 // Studies in which Block gives what the plain blocker gives, those of them that are refused 24 and 25, that have several blocks,
 // in which a candidate above the radius has no assignment, in which Minima raises b0, in which the order by number would give another list,
 // and which hold a duplicate, so that they come in by file.
-#[derive(Clone, Copy)]
+#[derive(Clone, Copy, Default)]
 pub struct Compared {
     agreed: Tally,
     no_tides: Tally,
@@ -146,16 +136,22 @@ struct Kinds {
 
 fn compare(small: Small) -> Kinds {
     let plain = exhaustive::block(small);
-    let done = plain.refusal == 0;
-    let centres = centres::at_radius(small, plain.radius);
+    let (several, gap, by_number) = match plain {
+        Ok(blocks) => (
+            1 < Centres::at_radius(small, blocks.radius).count,
+            exhaustive::gap_above(small, blocks.radius),
+            other_by_number(small, blocks),
+        ),
+        Err(_) => (false, false, false),
+    };
     Kinds {
         agreed: agrees(small, plain),
-        no_tides: plain.refusal == 24,
-        too_few: plain.refusal == 25,
-        several: done && 1 < centres.count,
-        gap: done && exhaustive::gap_above(small, plain.radius),
+        no_tides: matches!(plain, Err(Refusal::NoTides)),
+        too_few: matches!(plain, Err(Refusal::TooFewTides)),
+        several,
+        gap,
         raised: studies::is_below(small.minima),
-        by_number: done && other_by_number(small, plain),
+        by_number,
         by_file: has_duplicate(small),
     }
 }
@@ -175,36 +171,24 @@ impl Compared {
     }
 
     pub fn print<O: Write>(self, out: &mut O) -> io::Result<()> {
-        self.agreed.print(out, b"block as the plain blocker")?;
-        self.no_tides.print(out, b"with no tides")?;
-        self.too_few.print(out, b"with too few tides")?;
-        self.several.print(out, b"with several blocks")?;
+        self.agreed.print(out, "block as the plain blocker")?;
+        self.no_tides.print(out, "with no tides")?;
+        self.too_few.print(out, "with too few tides")?;
+        self.several.print(out, "with several blocks")?;
         self.gaps
-            .print(out, b"with no assignment at a greater candidate")?;
-        self.raised.print(out, b"with b0 below the sum of the b's")?;
-        self.by_number.print(out, b"with another list by number")?;
-        self.by_file.print(out, b"with a duplicate, by file")
+            .print(out, "with no assignment at a greater candidate")?;
+        self.raised.print(out, "with b0 below the sum of the b's")?;
+        self.by_number.print(out, "with another list by number")?;
+        self.by_file.print(out, "with a duplicate, by file")
     }
 }
 
 pub fn trials(count: u32) -> Compared {
-    let none = tally::new();
-    let mut all = Compared {
-        agreed: none,
-        no_tides: none,
-        too_few: none,
-        several: none,
-        gaps: none,
-        raised: none,
-        by_number: none,
-        by_file: none,
-    };
-    let mut seed: u64 = 20240229;
-    let mut i: u32 = 0;
-    while i < count {
+    let mut all = Compared::default();
+    let mut seed = 20240229;
+    for _ in 0..count {
         seed = next(seed);
         all = all.and(compare(studies::study(seed)));
-        i += 1;
     }
     all
 }

@@ -12,18 +12,18 @@ use std::io;
 
 fn main(rt: HostRuntime) -> io::Result<()> {
     let mut out = rt.stdout();
-    cases::case_1().print(&mut out, b"case 1")?;
-    cases::case_2().print(&mut out, b"case 2")?;
-    cases::case_3().print(&mut out, b"case 3")?;
-    cases::case_4().print(&mut out, b"case 4")?;
-    cases::case_5().print(&mut out, b"case 5")?;
-    cases::case_6().print(&mut out, b"case 6")?;
-    calls::case_7().print(&mut out, b"case 7")?;
-    calls::case_8().print(&mut out, b"case 8")?;
-    calls::case_9().print(&mut out, b"case 9")?;
-    cases::nearest_first().print(&mut out, b"nearest first")?;
-    lent::block_trials().print(&mut out, b"lent records")?;
-    lent::tariff_trials().print(&mut out, b"lent records of the tariff")?;
-    part::trials().print(&mut out, b"returned part")?;
+    cases::case_1().print(&mut out, "case 1")?;
+    cases::case_2().print(&mut out, "case 2")?;
+    cases::case_3().print(&mut out, "case 3")?;
+    cases::case_4().print(&mut out, "case 4")?;
+    cases::case_5().print(&mut out, "case 5")?;
+    cases::case_6().print(&mut out, "case 6")?;
+    calls::case_7().print(&mut out, "case 7")?;
+    calls::case_8().print(&mut out, "case 8")?;
+    calls::case_9().print(&mut out, "case 9")?;
+    cases::nearest_first().print(&mut out, "nearest first")?;
+    lent::block_trials().print(&mut out, "lent records")?;
+    lent::tariff_trials().print(&mut out, "lent records of the tariff")?;
+    part::trials().print(&mut out, "returned part")?;
     comparing::trials(6000).print(&mut out)
 }

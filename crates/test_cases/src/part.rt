@@ -3,8 +3,6 @@
 use blocking::centres::centres;
 use study::Minima;
 use test_exhaustive::small::{Small, table};
-use test_tools::slices::same_front;
-use test_tools::tally;
 use test_tools::tally::Tally;
 
 // Four tides on a line, at 0, 10, 5 and 10, the last of setting 2.
@@ -20,8 +18,8 @@ fn four_tides() -> Small {
 
 // Writes 77 into the second place, where there is one.
 fn mark(part: &mut [u8]) {
-    if 1 < part.len() {
-        part[1] = 77;
+    if let Some(place) = part.get_mut(1) {
+        *place = 77;
     }
 }
 
@@ -35,47 +33,38 @@ fn handed_back(
     part: &[u8],
     number: u8,
 ) -> Tally {
-    let mut distances = [7u32; 14403];
-    let mut settings = [9u8; 123];
-    let held = four_tides().held(&mut distances, &mut settings);
-    let mut refusal: u8 = 99;
-    let front = centres(
-        held,
-        &distances,
-        &settings,
-        5,
-        list,
-        nearest,
-        away,
-        &mut refusal,
-    );
-    let same = check::same(front, part);
+    let Ok(book) = four_tides().book() else {
+        return so_far.see(false);
+    };
+    let mut refusal = 99;
+    let front = centres(book.view(), 5, list, nearest, away, &mut refusal);
+    let same = *front == *part;
     mark(front);
     so_far.see(same).see(refusal == number)
 }
 
 // Two centres, both equally near to the third tide.
 fn accepted(so_far: Tally) -> Tally {
-    let mut list = [170u8; 6];
-    let mut nearest = [171u8; 6];
-    let mut away = [172u32; 6];
+    let mut list = [170; 6];
+    let mut nearest = [171; 6];
+    let mut away = [172; 6];
     let t = handed_back(so_far, &mut list, &mut nearest, &mut away, &[1, 2], 0);
-    t.see(check::same(&list, &[1, 77, 170, 170, 170, 170]))
-        .see(check::same(&nearest, &[1, 2, 1, 2, 171, 171]))
-        .see(same_front(&away, &[0, 0, 5, 0, 172, 172]))
+    t.see(list == [1, 77, 170, 170, 170, 170])
+        .see(nearest == [1, 2, 1, 2, 171, 171])
+        .see(away == [0, 0, 5, 0, 172, 172])
 }
 
 // The third list has a place less than there are tides: the part is empty, and nothing is written.
 fn refused(so_far: Tally) -> Tally {
-    let mut list = [170u8; 6];
-    let mut nearest = [171u8; 6];
-    let mut away = [172u32; 3];
+    let mut list = [170; 6];
+    let mut nearest = [171; 6];
+    let mut away = [172; 3];
     let t = handed_back(so_far, &mut list, &mut nearest, &mut away, &[], 1);
-    t.see(check::same(&list, &[170; 6]))
-        .see(check::same(&nearest, &[171; 6]))
-        .see(same_front(&away, &[172, 172, 172]))
+    t.see(list == [170; 6])
+        .see(nearest == [171; 6])
+        .see(away == [172; 3])
 }
 
 pub fn trials() -> Tally {
-    refused(accepted(tally::new()))
+    refused(accepted(Tally::default()))
 }

@@ -5,119 +5,83 @@ use crate::small::Small;
 #[derive(Clone, Copy)]
 pub struct Centres {
     pub count: u8,
-    pub tides: [usize; 7],
+    tides: [usize; 7],
 }
 
 impl Centres {
-    // The centre of a block, the blocks counted from 0.
-    pub fn tide(self, m: usize) -> usize {
-        if 7 <= m {
-            return 7;
+    // In tide order, a tide is a centre if it is farther than g from every earlier centre.
+    pub fn at_radius(small: Small, g: u32) -> Centres {
+        let mut found = Centres {
+            count: 0,
+            tides: [7; 7],
+        };
+        for t in 0..small.n {
+            if found.all_farther(small, g, t) {
+                found = found.with(t);
+            }
         }
-        self.tides[m]
+        found
+    }
+
+    // The centre of a block, the blocks counted from 0.
+    pub fn tide(self, m: u8) -> Option<usize> {
+        if self.count <= m {
+            return None;
+        }
+        let tides = self.tides;
+        tides.get(usize::from(m)).copied()
     }
 
     fn with(self, t: usize) -> Centres {
-        let i = self.count as usize;
-        let mut tides = self.tides;
-        if 7 <= i {
+        let Centres { count, mut tides } = self;
+        if 7 <= count {
             return self;
         }
-        tides[i] = t;
+        tides[usize::from(count)] = t;
         Centres {
-            count: self.count + 1,
+            count: count + 1,
             tides,
+        }
+    }
+
+    // How far a tide is from the centre of a block, the blocks numbered from 1; 0 where there is no such block.
+    fn away(self, small: Small, t: usize, block: u8) -> u32 {
+        if block < 1 {
+            return 0;
+        }
+        match self.tide(block - 1) {
+            Some(centre) => small.distance(t, centre),
+            None => 0,
         }
     }
 
     // Whether a tide is farther than g from every centre so far.
     fn all_farther(self, small: Small, g: u32, t: usize) -> bool {
-        let count = self.count as usize;
-        let mut m: usize = 0;
-        while m < count {
-            if small.distance(t, self.tide(m)) <= g {
-                return false;
-            }
-            m += 1;
-        }
-        true
-    }
-
-    fn after(self, small: Small, g: u32, t: usize) -> Centres {
-        if self.all_farther(small, g, t) {
-            return self.with(t);
-        }
-        self
-    }
-
-    // How far a tide is from the centre of a block, the blocks numbered from 1; 0 where the number is 0.
-    fn away(self, small: Small, t: usize, block: u8) -> u32 {
-        if block < 1 {
-            return 0;
-        }
-        small.distance(t, self.tide(block as usize - 1))
+        (1..=self.count).all(|m| g < self.away(small, t, m))
     }
 
     // Whether a tide is at most g from the centre of a block, the blocks numbered from 1.
     pub fn near(self, small: Small, g: u32, t: usize, block: u8) -> bool {
-        if block < 1 {
-            return false;
-        }
-        self.away(small, t, block) <= g
+        1 <= block && self.away(small, t, block) <= g
     }
 
     // Whether a tide prefers a block to another (document 02, 2.6): its centre is nearer, or equally near and its number lower.
     fn prefers(self, small: Small, t: usize, block: u8, other: u8) -> bool {
         let x = self.away(small, t, block);
         let y = self.away(small, t, other);
-        if x == y {
-            return block < other;
-        }
-        x < y
+        x < y || x == y && block < other
     }
 
     // How many blocks a tide prefers to this one.
-    fn preferred(self, small: Small, t: usize, block: u8) -> u8 {
-        let count = self.count;
-        let mut sum: u8 = 0;
-        let mut m: u8 = 0;
-        while m < count {
-            m += 1;
-            if self.prefers(small, t, m, block) {
-                sum += 1;
-            }
-        }
-        sum
+    fn preferred(self, small: Small, t: usize, block: u8) -> usize {
+        (1..=self.count)
+            .filter(|m| self.prefers(small, t, *m, block))
+            .count()
     }
 
-    // A tide's choice at a place, from 1: the block to which it prefers exactly place - 1 others; 0 where there is none.
-    pub fn choice(self, small: Small, t: usize, place: u8) -> u8 {
-        if place < 1 {
-            return 0;
-        }
-        let count = self.count;
-        let mut m: u8 = 0;
-        while m < count {
-            m += 1;
-            if self.preferred(small, t, m) == place - 1 {
-                return m;
-            }
-        }
-        0
+    // A tide's choice at a place, from 1: the block to which it prefers exactly place - 1 others.
+    pub fn choice(self, small: Small, t: usize, place: u8) -> Option<u8> {
+        let others = place.checked_sub(1)?;
+        (1..=self.count).find(|m| self.preferred(small, t, *m) == usize::from(others))
     }
-}
-
-// In tide order, a tide is a centre if it is farther than g from every earlier centre.
-pub fn at_radius(small: Small, g: u32) -> Centres {
-    let n = small.n;
-    let mut found = Centres {
-        count: 0,
-        tides: [7; 7],
-    };
-    let mut t: usize = 0;
-    while t < n {
-        found = found.after(small, g, t);
-        t += 1;
-    }
-    found
 }

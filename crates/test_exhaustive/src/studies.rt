@@ -1,36 +1,18 @@
 // Small studies from a fixed generator: up to seven tides on a line or in a plane, with tight minima.
 use crate::small::{Small, table};
-use study::{Minima, wide};
+use study::Minima;
 use test_random::{between, next};
 use validity::sum_minima;
 
 // Seven numbers from low to high.
 fn numbers(seed: u64, low: u8, high: u8) -> [u8; 7] {
-    let mut drawn = [0u8; 7];
+    let mut drawn = [0; 7];
     let mut state = seed;
-    let mut i: usize = 0;
-    while i < 7 {
+    for number in drawn.iter_mut() {
         state = next(state);
-        drawn[i] = between(state, low, high);
-        i += 1;
+        *number = between(state, low, high);
     }
     drawn
-}
-
-// x, or the greatest where x is above it.
-fn at_most(x: u8, greatest: u8) -> u8 {
-    if greatest < x {
-        return greatest;
-    }
-    x
-}
-
-// What x has above low, or 0.
-fn above(x: u8, low: u8) -> u8 {
-    if x < low {
-        return 0;
-    }
-    x - low
 }
 
 fn record(b0: u8, first: u8, second: u8, third: u8) -> Minima {
@@ -61,9 +43,9 @@ fn crowded(seed: u64) -> Small {
     let s3 = next(s2);
     let k = between(s1, 1, 3);
     let x = numbers(s2 + 1000, 0, between(s2, 1, 9));
-    let y = numbers(s3 + 2000, 0, above(between(s3, 0, 5), 2));
+    let y = numbers(s3 + 2000, 0, between(s3, 0, 5).saturating_sub(2));
     Small {
-        n: at_most(between(seed, 0, 9), 7) as usize,
+        n: usize::from(between(seed, 0, 9).min(7)),
         k,
         minima: minima(s3 + 4000, k, between(s3 + 5000, 1, 4)),
         settings: numbers(s1 + 3000, 1, k),
@@ -78,7 +60,7 @@ fn spread(seed: u64) -> Small {
     let b0 = between(s1, 2, 3);
     let b = between(s2, 0, 1);
     Small {
-        n: between(seed, 6, 7) as usize,
+        n: usize::from(between(seed, 6, 7)),
         k: 2,
         minima: record(b0, b, b, 0),
         settings: numbers(s1 + 1000, 1, 2),
@@ -91,16 +73,14 @@ fn spread(seed: u64) -> Small {
 
 // Whether b0 is below the sum of the b's, so that Minima raises it (document 02, 2.2).
 pub fn is_below(minima: Minima) -> bool {
-    let b = minima.b;
-    wide(minima.b0) < sum_minima(b)
+    usize::from(minima.b0) < sum_minima(minima.b)
 }
 
 // A b0 that is the sum of the b's, written as any number from 1 to it: the same minima to Minima, and to the plain blocker the same blocks,
 // since one with each b has their sum of tides.
 fn lowered(seed: u64, minima: Minima) -> Minima {
-    let b0 = minima.b0;
-    let b = minima.b;
-    if wide(b0) != sum_minima(b) {
+    let Minima { b0, b } = minima;
+    if usize::from(b0) != sum_minima(b) {
         return minima;
     }
     Minima {
@@ -118,8 +98,8 @@ fn drawn(seed: u64) -> Small {
 
 pub fn study(seed: u64) -> Small {
     let small = drawn(seed);
-    let mut given = small;
-    let minima = lowered(next(seed) + 6000, small.minima);
-    given.minima = minima;
-    given
+    Small {
+        minima: lowered(next(seed) + 6000, small.minima),
+        ..small
+    }
 }

@@ -26,5 +26,5 @@ pub fn between(seed: u64, low: u8, high: u8) -> u8
     if high < low {
         return low;
     }
-    low + draw(seed, (high - low) as u64 + 1)
+    low + draw(seed, u64::from(high - low) + 1)
 }

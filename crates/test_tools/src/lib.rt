@@ -1,7 +1,5 @@
-// What the trial programs share: tests of answers, datasets, parts of slices, counts.
+// What the trial programs share: datasets to try the calls on, and counts of what came out as expected.
 #![tactic(auto)]
 
-pub mod answers;
-pub mod samples;
-pub mod slices;
+pub mod book;
 pub mod tally;

@@ -8,8 +8,7 @@ ghost use Rattle.text_report.specs.Report.{said, said_refused, output_of, error_
 use std::io;
 use std::io::Write;
 use study::Refusal;
-use study::refusals::number_of;
-use study_text::Packed;
+use study_text::TextError;
 
 // A line of the text, and what is wrong there.
 pub fn say<E: Write>(err: &mut E, line: usize, words: &[u8]) -> io::Result<()>
@@ -23,7 +22,7 @@ pub fn say<E: Write>(err: &mut E, line: usize, words: &[u8]) -> io::Result<()>
 pub fn say_refused<E: Write>(err: &mut E, what: &[u8], why: Refusal) -> io::Result<()>
     ensures { OnOk result (Appends (E.contents err.old) (E.contents err.new) (said_refused what.now why)) }
 {
-    let number = number_of(why);
+    let number = why.number();
     err.write_all(what)?;
     writeln!(err, "refused {number}")
 }
@@ -50,21 +49,21 @@ pub fn write_front<O: Write>(out: &mut O, bytes: &[u8], n: usize) -> io::Result<
 pub fn write_report<O: Write, E: Write>(
     out: &mut O,
     err: &mut E,
-    packed: Packed,
+    made: Result<usize, TextError>,
     bytes: &[u8],
 ) -> io::Result<()>
-    ensures output { OnOk result (Appends (O.contents out.old) (O.contents out.new) (output_of packed bytes.now)) }
-    ensures error { OnOk result (Appends (E.contents err.old) (E.contents err.new) (error_of packed)) }
+    ensures output { OnOk result (Appends (O.contents out.old) (O.contents out.new) (output_of made bytes.now)) }
+    ensures error { OnOk result (Appends (E.contents err.old) (E.contents err.new) (error_of made)) }
 {
-    match packed {
-        Packed::Done(length) => write_front(out, bytes, length),
-        Packed::Refused(line, why) => {
+    match made {
+        Ok(length) => write_front(out, bytes, length),
+        Err(TextError::Refused(line, why)) => {
             say(err, line, b"")?;
             say_refused(err, b"", why)
         }
-        Packed::NotANumber(line) => say(err, line, b"not a number\n"),
-        Packed::TooLarge(line) => say(err, line, b"number too large\n"),
-        Packed::Missing(line) => say(err, line, b"number missing\n"),
-        Packed::TooLong(line) => say(err, line, b"text too long\n"),
+        Err(TextError::NotANumber(line)) => say(err, line, b"not a number\n"),
+        Err(TextError::TooLarge(line)) => say(err, line, b"number too large\n"),
+        Err(TextError::Missing(line)) => say(err, line, b"number missing\n"),
+        Err(TextError::TooLong(line)) => say(err, line, b"text too long\n"),
     }
 }

@@ -1,21 +1,26 @@
 -- The steps of reading a word, at places of a text. Assumes nothing.
-use Prim.Native.Nat.{ℕ, suc, ◌+◌, ◌-◌, ◌*◌, ◌≤◌, ◌<◌}
+use Prim.Native.Nat.{ℕ, suc, ◌+◌, ◌-◌, ◌*◌, ◌≤◌, ◌<◌, min}
 use native.Mathlib.Omega.{arith}
 use native.Mathlib.Numerals.{add-one}
-use mathlib.Core.Path.{◌≡◌, refl, sym, ap, ◌∙◌, subst}
+use mathlib.Core.Path.{◌≡◌, refl, sym, ap, ap₂, ◌∙◌, subst}
 use mathlib.Core.Logic.{⊎_elim}
 use mathlib.Core.Bool.{Bool, true, false, cond}
 use mathlib.Core.List.{List, [], ◌∷◌}
 use lib.Dec.{eqb}
 use lib.ListN.{length, take, drop, get_or, length-drop}
-use lib.Seq.{drop-cons, drop-length}
-use borrow.Author.Tests.{lt-ltb, le-ltb, le-leb, lt-leb, eq-eqb, ne_eqb, eqb-false}
+use lib.Seq.{drop-cons, drop-length, take-length}
+use borrow.Author.Tests.{lt-ltb, le-ltb, le-leb, lt-leb, eqb-false}
+use Rattle.std.specs.Prelude.{Option, MatchOption, Result, Ok, Err, count_by}
+use Rattle.std.specs.List.{AllWithin, HoldsAt}
+use Rattle.std.specs.Option.{unwrap_or}
+use Rattle.std.proofs.lemmas.Iterator.{index_from_first}
+use Rattle.std.proofs.lemmas.List.Sums.{sum_by-cons}
 use Rattle.lists.specs.Lists.{bit, between, all_of}
 use Rattle.lists.proofs.Tests.{split, between-T, true-T}
 use Rattle.text_words.specs.declared.Cursor.{Cursor}
 use Rattle.text_words.specs.declared.Word.TheVariants as WordCase
-use Rattle.text_words.specs.declared.Numeral.{Numeral}
-use Rattle.text_words.specs.declared.Numeral.TheVariants as NumeralCase
+use Rattle.text_words.specs.declared.NumeralError.{NumeralError}
+use Rattle.text_words.specs.declared.NumeralError.TheVariants as NumeralErrorCase
 use Rattle.text_words.specs.Words.{newline, newlines, ends_word, begins, comment_after, past, start_of, word_of}
 use Rattle.text_words.specs.Words.{digit, with_digit, value_from, numeral_of, word_from, word_at, next_of, CursorWithin, capped}
 
@@ -35,17 +40,20 @@ left text i h = drop-cons text i 0 h ∙ ap (λ n. get_or text i 0 ∷ drop n te
 none_left : (text : List ℕ) (i : ℕ) → i ≡ length text → drop i text ≡ []
 none_left text i e = ap (λ n. drop n text) e ∙ drop-length text
 
+-- what is left, as the code takes it
+all_left : (text : List ℕ) (i : ℕ) → take (length text - i) (drop i text) ≡ drop i text
+all_left text i = ap (λ n. take n (drop i text)) (sym (length-drop i text)) ∙ take-length (drop i text)
+
 -- ---- lines
 
-module _ (text : List ℕ) (lines i : ℕ) where
-  pub lines_more : {n : ℕ} → i < length text → n ≡ newline (get_or text i 0) → lines + newlines (drop i text) ≡ newlines text
-      → lines + n + newlines (drop (i + 1) text) ≡ newlines text
-  unfolding newlines
-  lines_more {n} h e f = omega (arith, e, ap newlines (left text i h), f)
-
-  pub lines_all : i ≡ length text → lines + newlines (drop i text) ≡ newlines text → lines ≡ newlines text
-  unfolding newlines
-  lines_all e f = omega (arith, ap newlines (none_left text i e), f)
+pub lines_counted : (text : List ℕ) → count_by (λ b. eqb b 10) text ≡ newlines text
+unfolding newlines
+lines_counted [] = refl
+lines_counted (b ∷ bs) = sum_by-cons (λ x. cond (eqb x 10) 1 0) b bs ∙ ap₂ (λ x y. x + y) (as_bit (eqb b 10)) (lines_counted bs)
+  where
+    as_bit : (t : Bool) → cond t 1 0 ≡ bit t
+    as_bit true = refl
+    as_bit false = refl
 
 -- ---- the start of a word
 
@@ -69,18 +77,15 @@ module _ (text : List ℕ) (comment : Bool) (i l : ℕ) where
 
 -- ---- the end of a word
 
-module _ (text : List ℕ) (i : ℕ) where
-  pub word_more : i < length text → ends_word (get_or text i 0) ≡ false → length (word_of (drop i text)) ≡ 1 + length (word_of (drop (i + 1) text))
-  unfolding word_of
-  word_more h t = rw (left text i h, t) (omega arith)
-
-  pub word_ends : i < length text → ends_word (get_or text i 0) ≡ true → length (word_of (drop i text)) ≡ 0
-  unfolding word_of
-  word_ends h t = rw (left text i h, t)
-
-  pub word_none : i ≡ length text → length (word_of (drop i text)) ≡ 0
-  unfolding word_of
-  word_none e = rw (none_left text i e)
+-- where the first byte stands that ends it, or the text ends
+pub word_length : (bs : List ℕ) (first : Option ℕ)
+    → MatchOption first (AllWithin (λ b. ends_word b ≡ false) bs 0 (length bs))
+    (λ i. (i < length bs) × HoldsAt (λ b. ends_word b ≡ true) bs i × AllWithin (λ b. ends_word b ≡ false) bs 0 i)
+    → length (word_of bs) ≡ unwrap_or first (length bs)
+unfolding word_of
+word_length =
+    index_from_first (λ bs. length (word_of bs)) (λ b. ends_word b ≡ true) (λ b. ends_word b ≡ false) refl (λ x xs h. rw h refl)
+    (λ x xs h. rw h (omega arith))
 
 -- ---- numbers
 
@@ -94,6 +99,10 @@ capped_large x h = rw (le-ltb x 4294967296 h)
 
 pub capped_most : (x : ℕ) → capped x ≤ 4294967296
 capped_most x = ⊎_elim (λ (h : x < 4294967296). omega (arith, capped_small x h)) (λ (h : 4294967296 ≤ x). omega (arith, capped_large x h)) (split x 4294967296)
+
+pub capped_is : (x : ℕ) → min x 4294967296 ≡ capped x
+capped_is x =
+    ⊎_elim (λ (h : x < 4294967296). omega (arith, capped_small x h)) (λ (h : 4294967296 ≤ x). omega (arith, capped_large x h)) (split x 4294967296)
 
 -- nothing is lost by capping before each digit
 capped_digit : (x b : ℕ) → capped (with_digit (capped x) b) ≡ capped (with_digit x b)
@@ -129,7 +138,8 @@ module _ (word : List ℕ) (i : ℕ) where
   unfolding value_from
   value_more v h e f = rw e (capped_value (with_digit v (get_or word i 0)) (drop (i + 1) word) ∙ sym (rw (left word i h)) ∙ f)
 
-  pub numeral_bad : i < length word → digit (get_or word i 0) ≡ false → all_of digit (drop i word) ≡ all_of digit word → NumeralCase.Bad ≡ numeral_of word
+  pub numeral_bad : i < length word → digit (get_or word i 0) ≡ false → all_of digit (drop i word) ≡ all_of digit word
+      → Err NumeralErrorCase.NotANumber ≡ numeral_of word
   unfolding numeral_of
   numeral_bad h t e = let f : all_of digit word ≡ false = sym e ∙ rw (left word i h, t) in rw f
 
@@ -142,7 +152,7 @@ module _ (word : List ℕ) (i : ℕ) where
     unfolding value_from
     value_is = sym (rw (none_left word i end)) ∙ told
 
-    pub numeral_number : v < 4294967296 → NumeralCase.Number v ≡ numeral_of word
+    pub numeral_number : v < 4294967296 → Ok v ≡ numeral_of word
     unfolding numeral_of
     numeral_number h = rw (all_digits, ← same, le-leb v 4294967295 (omega arith))
       where
@@ -152,7 +162,7 @@ module _ (word : List ℕ) (i : ℕ) where
             (λ (g : 4294967296 ≤ value_from 0 word). omega (arith, capped_small v h, value_is, capped_large (value_from 0 word) g))
             (split (value_from 0 word) 4294967296)
 
-    pub numeral_large : 4294967296 ≤ v → NumeralCase.TooLarge ≡ numeral_of word
+    pub numeral_large : 4294967296 ≤ v → Err NumeralErrorCase.TooLarge ≡ numeral_of word
     unfolding numeral_of
     numeral_large h =
         let large : 4294967295 < value_from 0 word =
@@ -183,10 +193,7 @@ start_within {text} {c} w =
     let p = start_place false c (drop c.at text) w.line_low in
     record { short = w.short; inside = omega (arith, p.high, length-drop c.at text, w.inside); line_low = p.line_low }
 
-pub start_inside : {text : List ℕ} {c start : Cursor} → CursorWithin text c → start ≡ start_of false c (drop c.at text) → start.at ≤ length text
-start_inside {text} {c} w e = omega (arith, (start_within w).inside, ap (λ (s : Cursor). s.at) e)
-
-word_front : (bs : List ℕ) → take (length (word_of bs)) bs ≡ word_of bs
+pub word_front : (bs : List ℕ) → take (length (word_of bs)) bs ≡ word_of bs
 unfolding word_of
 word_front [] = refl
 word_front (b ∷ bs) = by (ends_word b) (word_front bs)
@@ -195,33 +202,31 @@ word_front (b ∷ bs) = by (ends_word b) (word_front bs)
     by true e = refl
     by false e = ap (λ w. b ∷ w) e
 
-module _ (text : List ℕ) (c : Cursor) {start : Cursor} (e : start ≡ start_of false c (drop c.at text)) (end : ℕ)
-    (f : end ≡ start.at + length (word_of (drop start.at text))) where
-  pub next_end : end ≡ start.at → WordCase.End start.line ≡ next_of text c
-  unfolding next_of word_at
-  next_end h = rw (← e, eq-eqb (length (word_of (drop start.at text))) 0 (omega arith))
+module _ (text : List ℕ) (c : Cursor) {start : Cursor} (e : start ≡ start_of false c (drop c.at text)) {word : List ℕ}
+    (part : word ≡ word_of (take (length text - start.at) (drop start.at text))) where
+  f : word ≡ word_of (drop start.at text)
+  f = part ∙ ap word_of (all_left text start.at)
 
-  module _ (h : end ≡ start.at → ⊥) {found : Numeral} (g : found ≡ numeral_of (take (end - start.at) (drop start.at text))) where
-    next_word : word_from start (end - start.at) found ≡ next_of text c
+  tested : {t : Bool} → eqb (length word) 0 ≡ t → eqb (length (word_of (drop start.at text))) 0 ≡ t
+  tested h = sym (ap (λ w. eqb (length w) 0) f) ∙ h
+
+  pub next_end : eqb (length word) 0 ≡ true → Ok (WordCase.End start.line) ≡ next_of text c
+  unfolding next_of word_at
+  next_end h = rw (← e, tested h)
+
+  module _ (h : eqb (length word) 0 ≡ false) {found : Result ℕ NumeralError} (g : found ≡ numeral_of word) where
+    next_word : word_from start (length word) found ≡ next_of text c
     unfolding next_of word_at
     next_word =
-        rw (← e, ne_eqb (length (word_of (drop start.at text))) 0 (λ z. h (omega arith)))
-        (ap (word_from start (end - start.at)) (g ∙ ap numeral_of (ap (λ n. take n (drop start.at text)) long ∙ word_front (drop start.at text)))
-        ∙ ap (λ n. word_from start n (numeral_of (word_of (drop start.at text)))) long)
-      where
-        long : end - start.at ≡ length (word_of (drop start.at text))
-        long = omega arith
+        rw (← e, tested h)
+        (ap (word_from start (length word)) (g ∙ ap numeral_of f)
+        ∙ ap (λ n. word_from start n (numeral_of (word_of (drop start.at text)))) (ap length f))
 
-    pub next_number : {x : ℕ} → found ≡ NumeralCase.Number x → WordCase.Number x (record { at = end; line = start.line }) ≡ next_of text c
-    next_number {x} k =
-        let there : end ≡ start.at + (end - start.at) = omega arith in
-        ap (λ n. WordCase.Number x (record { at = n; line = start.line })) there ∙ sym (ap (word_from start (end - start.at)) k) ∙ next_word
+    pub next_number : {x : ℕ} → found ≡ Ok x → Ok (WordCase.Number x (record { at = start.at + length word; line = start.line })) ≡ next_of text c
+    next_number k = sym (ap (word_from start (length word)) k) ∙ next_word
 
-    pub next_bad : found ≡ NumeralCase.Bad → WordCase.Bad start.line ≡ next_of text c
-    next_bad k = sym (ap (word_from start (end - start.at)) k) ∙ next_word
-
-    pub next_large : found ≡ NumeralCase.TooLarge → WordCase.TooLarge start.line ≡ next_of text c
-    next_large k = sym (ap (word_from start (end - start.at)) k) ∙ next_word
+    pub next_wrong : {why : NumeralError} → found ≡ Err why → Err (record { line = start.line; why = why }) ≡ next_of text c
+    next_wrong k = sym (ap (word_from start (length word)) k) ∙ next_word
 
 -- ---- the place after a number
 
@@ -239,24 +244,23 @@ record NumberAt (text : List ℕ) (start d : Cursor) : Type 0 where
   some_digit : 0 < length (word_of (drop start.at text))
   after : record { at = start.at + length (word_of (drop start.at text)); line = start.line } ≡ d
 
-number_at : (text : List ℕ) (start : Cursor) {d : Cursor} {x : ℕ} → word_at text start ≡ WordCase.Number x d → NumberAt text start d
+number_at : (text : List ℕ) (start : Cursor) {d : Cursor} {x : ℕ} → word_at text start ≡ Ok (WordCase.Number x d) → NumberAt text start d
 unfolding word_at
 number_at text start {d} {x} e = by (eqb (length w) 0) (numeral_of w) refl e
   where
     w : List ℕ
     w = word_of (drop start.at text)
 
-    by : (t : Bool) (f : Numeral) → eqb (length (word_of (drop start.at text))) 0 ≡ t
-        → cond t (WordCase.End start.line) (word_from start (length (word_of (drop start.at text))) f) ≡ WordCase.Number x d → NumberAt text start d
+    by : (t : Bool) (f : Result ℕ NumeralError) → eqb (length (word_of (drop start.at text))) 0 ≡ t
+        → cond t (Ok (WordCase.End start.line)) (word_from start (length (word_of (drop start.at text))) f) ≡ Ok (WordCase.Number x d) → NumberAt text start d
     by true f q h = absurd (let z : ◌≡◌ {A = ℕ} 0 1 = cc in omega arith)
-    by false (NumeralCase.Number y) q h =
+    by false (Ok y) q h =
         let some : length (word_of (drop start.at text)) ≡ 0 → ⊥ = eqb-false (length (word_of (drop start.at text))) 0 q in
         record { some_digit = omega arith; after = cc }
-    by false NumeralCase.Bad q h = absurd (let z : ◌≡◌ {A = ℕ} 0 1 = cc in omega arith)
-    by false NumeralCase.TooLarge q h = absurd (let z : ◌≡◌ {A = ℕ} 0 1 = cc in omega arith)
+    by false (Err e) q h = absurd (let z : ◌≡◌ {A = ℕ} 0 1 = cc in omega arith)
 
 -- a place of the text again
-pub next_within : {text : List ℕ} {c d : Cursor} {x : ℕ} → CursorWithin text c → next_of text c ≡ WordCase.Number x d → CursorWithin text d
+pub next_within : {text : List ℕ} {c d : Cursor} {x : ℕ} → CursorWithin text c → next_of text c ≡ Ok (WordCase.Number x d) → CursorWithin text d
 unfolding next_of
 next_within {text} {c} {d} w e =
     let start = start_of false c (drop c.at text) in
@@ -269,7 +273,7 @@ next_within {text} {c} {d} w e =
     })
 
 -- and further on
-pub next_further : {text : List ℕ} {c d : Cursor} {x : ℕ} → CursorWithin text c → next_of text c ≡ WordCase.Number x d → c.at < d.at
+pub next_further : {text : List ℕ} {c d : Cursor} {x : ℕ} → CursorWithin text c → next_of text c ≡ Ok (WordCase.Number x d) → c.at < d.at
 unfolding next_of
 next_further {text} {c} {d} w e =
     let start = start_of false c (drop c.at text) in

@@ -1,11 +1,12 @@
 -- The words of a text: what stands next at a place. Bytes are ASCII. Assumes nothing.
-use Rattle.std.specs.Prelude.{ℕ, ◌+◌, ◌-◌, ◌*◌, ◌≤◌, Bool, false, cond, not, ◌&&◌, ◌||◌, List, [], ◌∷◌, leb, eqb, ltb, length, drop}
+use Rattle.std.specs.Prelude.{ℕ, ◌+◌, ◌-◌, ◌*◌, ◌≤◌, Bool, false, cond, not, ◌&&◌, ◌||◌, List, [], ◌∷◌, leb, eqb, ltb, length, drop, Result, Ok, Err}
 use Rattle.lists.specs.Lists.{between, bit, all_of}
 use Rattle.text_words.specs.declared.Cursor.{Cursor}
 use Rattle.text_words.specs.declared.Word.{Word}
 use Rattle.text_words.specs.declared.Word.TheVariants as WordCase
-use Rattle.text_words.specs.declared.Numeral.{Numeral}
-use Rattle.text_words.specs.declared.Numeral.TheVariants as NumeralCase
+use Rattle.text_words.specs.declared.NumeralError.{NumeralError}
+use Rattle.text_words.specs.declared.NumeralError.TheVariants as NumeralErrorCase
+use Rattle.text_words.specs.declared.WordError.{WordError}
 
 -- 1 for a line's end
 abbrev pub newline : ℕ → ℕ
@@ -58,25 +59,25 @@ value_from v [] = v
 value_from v (b ∷ bs) = value_from (with_digit v b) bs
 
 -- a word as a number: digits alone, and of 32 bits
-unfoldable pub numeral_of : List ℕ → Numeral
-numeral_of w = cond (all_of digit w) (cond (leb (value_from 0 w) 4294967295) (NumeralCase.Number (value_from 0 w)) NumeralCase.TooLarge) NumeralCase.Bad
+unfoldable pub numeral_of : List ℕ → Result ℕ NumeralError
+numeral_of w =
+    cond (all_of digit w) (cond (leb (value_from 0 w) 4294967295) (Ok (value_from 0 w)) (Err NumeralErrorCase.TooLarge)) (Err NumeralErrorCase.NotANumber)
 
 -- ---- words
 
 -- a word of so many bytes
-abbrev pub word_from : Cursor → ℕ → Numeral → Word
-word_from start n (NumeralCase.Number x) = WordCase.Number x (record { at = start.at + n; line = start.line })
-word_from start n NumeralCase.Bad = WordCase.Bad start.line
-word_from start n NumeralCase.TooLarge = WordCase.TooLarge start.line
+abbrev pub word_from : Cursor → ℕ → Result ℕ NumeralError → Result Word WordError
+word_from start n (Ok x) = Ok (WordCase.Number x (record { at = start.at + n; line = start.line }))
+word_from start n (Err e) = Err (record { line = start.line; why = e })
 
 -- the word that begins at a place; without one the text ends there
-unfoldable pub word_at : List ℕ → Cursor → Word
+unfoldable pub word_at : List ℕ → Cursor → Result Word WordError
 word_at text start =
     let w = word_of (drop start.at text) in
-    cond (eqb (length w) 0) (WordCase.End start.line) (word_from start (length w) (numeral_of w))
+    cond (eqb (length w) 0) (Ok (WordCase.End start.line)) (word_from start (length w) (numeral_of w))
 
 -- the next word from a place on
-unfoldable pub next_of : List ℕ → Cursor → Word
+unfoldable pub next_of : List ℕ → Cursor → Result Word WordError
 next_of text c = word_at text (start_of false c (drop c.at text))
 
 -- a place in a text that is not too long; a byte ends at most one line

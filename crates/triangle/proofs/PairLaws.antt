@@ -1,6 +1,8 @@
 -- The search for the first pair of tides that violates the triangle inequality with a new tide: at each turn, the violations that are
 -- still to come begin with the answer. Assumes nothing.
-use Rattle.std.proofs.Common.{◌≡◌, ℕ, suc, ◌+◌, ◌-◌, ◌*◌, ◌<◌, ◌≤◌, Bool, true, false, cond, not, T, List, [], ◌∷◌, ◌++◌, map, length, get_or, take, drop, sym, refl, ap, ◌∙◌, ap₂, add-one, arith, length-drop, length-take, get_or-drop, get_or-take}
+use Rattle.std.proofs.Common.{◌≡◌, ℕ, suc, ◌+◌, ◌-◌, ◌*◌, ◌<◌, ◌≤◌, Bool, true, false, cond, not, T, List, [], ◌∷◌}
+use Rattle.std.proofs.Common.{◌++◌, map, length, get_or, take, drop, sym, refl, ap, ◌∙◌, ap₂, add-one, arith}
+use Rattle.std.proofs.Common.{length-drop, length-take, get_or-drop, get_or-take}
 use mathlib.Core.List.Memᴰ.{head as here}
 use mathlib.Core.List.Memᴰ.{tail as there}
 use mathlib.Core.List.{flat_map}
@@ -9,21 +11,28 @@ use Rattle.lists.proofs.Members.{range_mem}
 use Rattle.study.specs.Limits.{cell}
 use Rattle.study.specs.Refusals.{seven}
 use Rattle.study.specs.Calls.{triangle, Pair, violations, first_violation}
-use Rattle.triangle.specs.declared.Violation.{Violation}
-use Rattle.triangle.specs.declared.Violation.TheVariants as ViolationCase
+use Rattle.std.specs.Prelude.{Option, Some, None, is_some}
 use Rattle.triangle.specs.Pairs.{violation_of}
 
-pub found_nothing : (ps : List Pair) → violation_of ps ≡ ViolationCase.Nothing → is_empty ps ≡ true
+pub found_nothing : (ps : List Pair) → violation_of ps ≡ None → is_empty ps ≡ true
 found_nothing [] e = refl
-found_nothing (p ∷ ps) e = let z : ◌≡◌ {A = ℕ} 0 1 = cc in absurd (omega arith)
+found_nothing (p ∷ ps) e = cc
 
-pub nothing_found : (ps : List Pair) → T (is_empty ps) → ViolationCase.Nothing ≡ violation_of ps
+pub found_tells : (ps : List Pair) (b : Bool) → is_some (violation_of ps) ≡ not b → b ≡ is_empty ps
+found_tells [] true e = refl
+found_tells [] false e = cc
+found_tells (p ∷ ps) true e = cc
+found_tells (p ∷ ps) false e = refl
+
+pub nothing_found : (ps : List Pair) → T (is_empty ps) → None ≡ violation_of ps
 nothing_found [] t = refl
 nothing_found (p ∷ ps) t = absurd t
 
-pub found_pair : (ps : List Pair) (i j : ℕ) → violation_of ps ≡ ViolationCase.Pair i j → (is_empty ps ≡ false) × (first_violation ps ≡ seven i j)
-found_pair [] i j e = let z : ◌≡◌ {A = ℕ} 0 1 = cc in absurd (omega arith)
-found_pair (p ∷ ps) i j e = (refl, cc)
+pub found_pair : (ps : List Pair) (i j : ℕ) → violation_of ps ≡ Some (i, j) → (is_empty ps ≡ false) × (first_violation ps ≡ seven i j)
+found_pair [] i j e = cc
+found_pair (p ∷ ps) i j e =
+    let same : ◌≡◌ {A = ℕ × ℕ} (i, j) (suc p.lower, suc p.upper) = cc in
+    (refl, ap (λ (q : ℕ × ℕ). seven q.0 q.1) (sym same))
 
 -- ---- turn by turn, of a row against the distances in memory
 
@@ -73,7 +82,7 @@ module _ (d row : List ℕ) where
   unfolding pairs_at
   violation_passes i j l q = rw (add-one j) (at_j i j l false q)
 
-  pub violation_finds : (i j : ℕ) → j < n → violates? i j ≡ true → ViolationCase.Pair (i + 1) (j + 1) ≡ violation_of (pairs_at i j)
+  pub violation_finds : (i j : ℕ) → j < n → violates? i j ≡ true → Some (i + 1, j + 1) ≡ violation_of (pairs_at i j)
   violation_finds i j l q = rw (add-one i, add-one j) (sym (ap violation_of (at_j i j l true q)))
 
   pub violation_leaves : (i j : ℕ) → n ≤ j → pairs_at i j ≡ pairs_from (i + 1)
@@ -82,7 +91,7 @@ module _ (d row : List ℕ) where
       let e : n - j ≡ 0 = omega arith in
       rw (add-one i) (ap (λ (k : ℕ). with i (iota j k) ++ pairs_from (suc i)) e)
 
-  pub violation_ends : (i : ℕ) → n ≤ i → ViolationCase.Nothing ≡ violation_of (pairs_from i)
+  pub violation_ends : (i : ℕ) → n ≤ i → None ≡ violation_of (pairs_from i)
   unfolding pairs_from flat_map
   violation_ends i l = let e : n - i ≡ 0 = omega arith in sym (ap (λ (k : ℕ). violation_of (after i k)) e)
 
@@ -131,6 +140,6 @@ module _ (d : List ℕ) (t : ℕ) (fits : 14400 ≤ length d) (held : t < 120) w
       ∙ violations_same (cell d) (cell d) t (λ i. get_or (row_in d t) i 0) (cell d t) (λ i j a b. refl) part_at
 
   -- what the search finds for that part, it finds for tide t
-  pub part_found : {r : Violation} → r ≡ violation_of (violations (cell d) (length (row_in d t)) (λ i. get_or (row_in d t) i 0))
+  pub part_found : {r : Option (ℕ × ℕ)} → r ≡ violation_of (violations (cell d) (length (row_in d t)) (λ i. get_or (row_in d t) i 0))
       → r ≡ violation_of (violations (cell d) t (cell d t))
   part_found e = e ∙ ap violation_of part_violations

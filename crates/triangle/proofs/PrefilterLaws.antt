@@ -1,6 +1,7 @@
 -- The prefilter: where it raises no flag, no pair violates the triangle inequality; where no pair violates it, distances of 20 bits
 -- raise no flag. Assumes nothing.
-use Rattle.std.proofs.Common.{◌≡◌, ℕ, ◌+◌, ◌-◌, ◌*◌, ◌/◌, ◌%◌, ◌<◌, ◌≤◌, List, length, get_or, take, drop, ap, ◌∙◌, subst, ⊎_elim, arith, length-drop, length-take, get_or-drop, get_or-take}
+use Rattle.std.proofs.Common.{◌≡◌, ℕ, ◌+◌, ◌-◌, ◌*◌, ◌/◌, ◌%◌, ◌<◌, ◌≤◌, List, length, get_or, take, drop, ap, ◌∙◌, subst, ⊎_elim, arith}
+use Rattle.std.proofs.Common.{length-drop, length-take, get_or-drop, get_or-take}
 use Rattle.lists.proofs.Tests.{split}
 use Rattle.study.specs.Limits.{cell}
 use Rattle.study.specs.Calls.{violations}
@@ -9,7 +10,7 @@ use Rattle.study.proofs.TriangleLaws.{obeyed_of}
 use Rattle.triangle.specs.Prefilter.{SmallTriple, TripleFlags, RowFlags, Obeys, SmallRow}
 use Rattle.triangle.specs.Pairs.{violation_of}
 use Rattle.triangle.proofs.PairLaws.{nothing_found}
-use Rattle.triangle.specs.declared.Violation.TheVariants as ViolationCase
+use Rattle.std.specs.Prelude.{None}
 
 -- ---- one triple
 
@@ -167,6 +168,6 @@ module _ (d row : List ℕ) where
       (λ j k. let m : i + 1 + j < n = omega (arith, rest_length i) in
       rw (line_at i j m, rest_at i j m) (U.rule i (i + 1 + j) l (omega arith) m))
 
-  pub obeys_found : Obeys d row n → ViolationCase.Nothing ≡ violation_of (violations (cell d) n (λ i. get_or row i 0))
+  pub obeys_found : Obeys d row n → None ≡ violation_of (violations (cell d) n (λ i. get_or row i 0))
   obeys_found U =
       nothing_found (violations (cell d) n (λ i. get_or row i 0)) (obeyed_of (cell d) n (λ i. get_or row i 0) (λ u v a b. U.rule u v (omega arith) a b))

@@ -1,10 +1,8 @@
 -- The answer of the search for the first pair of tides that violates the triangle inequality with a new tide. Assumes nothing.
-use Rattle.std.specs.Prelude.{suc, List, [], ◌∷◌}
+use Rattle.std.specs.Prelude.{ℕ, suc, List, [], ◌∷◌, Option, Some, None}
 use Rattle.study.specs.Calls.{Pair}
-use Rattle.triangle.specs.declared.Violation.{Violation}
-use Rattle.triangle.specs.declared.Violation.TheVariants as ViolationCase
 
--- the first of these pairs, its tides numbered from 1; nothing where there is none
-abbrev pub violation_of : List Pair → Violation
-violation_of [] = ViolationCase.Nothing
-violation_of (p ∷ ps) = ViolationCase.Pair (suc p.lower) (suc p.upper)
+-- the first of these pairs, its tides numbered from 1; none where there is none
+abbrev pub violation_of : List Pair → Option (ℕ × ℕ)
+violation_of [] = None
+violation_of (p ∷ ps) = Some (suc p.lower, suc p.upper)

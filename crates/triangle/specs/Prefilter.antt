@@ -31,7 +31,8 @@ pub record RowFlags (line : List ℕ) (y : ℕ) (row : List ℕ) (j total : ℕ)
   -- no violation passes without a flag
   pub rule : total ≡ 0 → (i : ℕ) → i < j → Triangle (slice_index line i) y (slice_index row i)
   -- and, of distances of 20 bits, nothing else raises one
-  pub clear : ((i : ℕ) → i < j → SmallTriple (slice_index line i) y (slice_index row i)) → ((i : ℕ) → i < j → Triangle (slice_index line i) y (slice_index row i)) → total ≡ 0
+  pub clear : ((i : ℕ) → i < j → SmallTriple (slice_index line i) y (slice_index row i))
+      → ((i : ℕ) → i < j → Triangle (slice_index line i) y (slice_index row i)) → total ≡ 0
 
 -- ---- a tide at a row's distances from all others, which are cell d's from each other
 

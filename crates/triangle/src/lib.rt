@@ -10,30 +10,13 @@ ghost use Rattle.triangle.specs.Prefilter.{TripleFlags, RowFlags, Obeys, SmallRo
 use std::num::{wrapping_add_u32, wrapping_sub_u32};
 use study::MAX_TIDES;
 
-// A pair of tides that violates the triangle inequality with a new tide, numbered from 1, the lower number first; or that there is none.
-#[derive(Clone, Copy)]
-pub enum Violation {
-    Pair(usize, usize),
-    Nothing,
-}
-
 // Whether three distances violate the triangle inequality: one exceeds the sum of the other two.
+#[tactic(auto, unfolding(study::specs::Calls::triangle))]
 fn violates(x: u32, y: u32, z: u32) -> bool
     ensures { result ≡ not (triangle x y z) }
 {
-    let a = x as u64;
-    let b = y as u64;
-    let c = z as u64;
-    if b + c < a {
-        return true;
-    }
-    if a + c < b {
-        return true;
-    }
-    if a + b < c {
-        return true;
-    }
-    false
+    let (a, b, c) = (u64::from(x), u64::from(y), u64::from(z));
+    !(a <= b + c && b <= a + c && c <= a + b)
 }
 
 // The top bit: 0 for a number below 2 ^ 31, else 1.
@@ -63,12 +46,9 @@ fn row_flags(line: &[u32], y: u32, row: &[u32]) -> u32
     requires row_len_bound { length row.now ≤ max_tides }
     ensures { RowFlags line.now y row.now (length row.now) result }
 {
-    let n = row.len();
     let mut total: u32 = 0;
-    let mut j: usize = 0;
-    while j < n {
+    for j in 0..row.len() {
         total += triple_flags(line[j], y, row[j]);
-        j += 1;
     }
     total
 }
@@ -83,51 +63,44 @@ fn prefilter(distances: &[u32], row: &[u32]) -> bool
         → Obeys distances.now row.now (length row.now) → result ≡ true }
 {
     let n = row.len();
-    let mut i: usize = 0;
-    while i < n {
+    for i in 0..n {
         let line = i * MAX_TIDES;
-        if 0 < row_flags(&distances[line + i + 1..line + n], row[i], &row[i + 1..n]) {
+        if 0 < row_flags(&distances[line + i + 1..line + n], row[i], &row[i + 1..]) {
             return false;
         }
-        i += 1;
     }
     true
 }
 
 // The first pair that violates the triangle inequality with a tide at the row's distances, by a test of pair after pair.
-fn find_violation(distances: &[u32], row: &[u32]) -> Violation
+fn find_violation(distances: &[u32], row: &[u32]) -> Option<(usize, usize)>
     requires table_size_in_bounds { table_size ≤ length distances.now }
     requires row_len_bound { length row.now ≤ max_tides }
     ensures { result ≡ violation_of (violations (cell distances.now) (length row.now) (λ i. slice_index row.now i)) }
 {
     let n = row.len();
-    let mut found = Violation::Nothing;
-    let mut i: usize = 0;
-    'search: while i < n {
-        let x = row[i];
+    let mut found = None;
+    'search: for i in 0..n {
         let line = i * MAX_TIDES;
-        let mut j: usize = i + 1;
-        while j < n {
-            if violates(distances[line + j], x, row[j]) {
-                found = Violation::Pair(i + 1, j + 1);
+        for j in i + 1..n {
+            if violates(distances[line + j], row[i], row[j]) {
+                found = Some((i + 1, j + 1));
                 break 'search;
             }
-            j += 1;
         }
-        i += 1;
     }
     found
 }
 
-// The first pair, in order of the lower number and then the higher, that violates the triangle inequality with a tide at the row's
-// distances.
-pub fn first_violation(distances: &[u32], row: &[u32]) -> Violation
+// The first pair of tides, in order of the lower number and then the higher, that violates the triangle inequality with a tide at the
+// row's distances. Both are numbered from 1, the lower number first.
+pub fn first_violation(distances: &[u32], row: &[u32]) -> Option<(usize, usize)>
     requires table_size_in_bounds { table_size ≤ length distances.now }
     requires row_len_bound { length row.now ≤ max_tides }
     ensures { result ≡ violation_of (violations (cell distances.now) (length row.now) (λ i. slice_index row.now i)) }
 {
     if prefilter(distances, row) {
-        return Violation::Nothing;
+        return None;
     }
     find_violation(distances, row)
 }

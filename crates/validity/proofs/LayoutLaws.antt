@@ -16,7 +16,8 @@ use Rattle.study.specs.Limits.{cell}
 use Rattle.study.specs.Study.{Tide, Study, Contents, size, no_tide, tide, distance}
 use Rattle.study.specs.Theorems.{ValidContents}
 use Rattle.study.proofs.StudyLaws.{valid_minima-T, distance_both_ways, distance_itself}
-use Rattle.validity.specs.Memory.{State, state_of, set_size, is_too_short, short, is_dataset, tide_of, study_of, contents_of, record_of, distances_of, settings_of, stored}
+use Rattle.validity.specs.Memory.{State, state_of, set_size, is_too_short, short, is_dataset, tide_of, study_of, contents_of, record_of}
+use Rattle.validity.specs.Memory.{distances_of, settings_of, stored}
 use Rattle.validity.specs.Validity.{IsStudy, Long}
 use Rattle.validity.proofs.ValidityLaws.{is_dataset-T, study_size, study_setting, study_distance}
 

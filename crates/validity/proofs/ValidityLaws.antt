@@ -22,10 +22,9 @@ use Rattle.study.specs.Theorems.{ValidContents}
 use Rattle.study.proofs.StudyLaws.{valid_minima-T, distance_both_ways, distance_itself}
 use Rattle.study.specs.Triangle.{Triangle}
 use Rattle.study.proofs.TriangleLaws.{obeyed, obeyed_of, ordered_triangle}
-use Rattle.triangle.specs.declared.Violation.{Violation}
-use Rattle.triangle.specs.declared.Violation.TheVariants as ViolationCase
+use Rattle.std.specs.Prelude.{Option, is_some}
 use Rattle.triangle.specs.Pairs.{violation_of}
-use Rattle.triangle.proofs.PairLaws.{found_nothing, found_pair, row_in, part_found}
+use Rattle.triangle.proofs.PairLaws.{found_tells, row_in, part_found}
 use Rattle.validity.specs.Memory.{State, valid_setting, valid_place, valid_row, is_study, valid_counts, is_dataset, tide_of, study_of, contents_of}
 use Rattle.validity.specs.Validity.{IsStudy, IsDataset}
 
@@ -321,15 +320,11 @@ module _ (k : ℕ) (M : Minima) where
 
 -- ---- the triangle rule of a tide, by what the search finds
 
-module _ (d : List ℕ) (t : ℕ) (fits : 14400 ≤ length d) (held : t < 120) {r : Violation}
+module _ (d : List ℕ) (t : ℕ) (fits : 14400 ≤ length d) (held : t < 120) {r : Option (ℕ × ℕ)}
     (e : r ≡ violation_of (violations (cell d) (length (row_in d t)) (λ i. get_or (row_in d t) i 0))) where
-  pub row_holds : r ≡ ViolationCase.Nothing → true ≡ valid_row d t
+  pub row_tested : {b : Bool} → is_some r ≡ not b → b ≡ valid_row d t
   unfolding valid_row
-  row_holds q = sym (found_nothing (violations (cell d) t (cell d t)) (sym (part_found d t fits held e) ∙ q))
-
-  pub row_breaks : {i j : ℕ} → r ≡ ViolationCase.Pair i j → false ≡ valid_row d t
-  unfolding valid_row
-  row_breaks {i} {j} q = sym (found_pair (violations (cell d) t (cell d t)) i j (sym (part_found d t fits held e) ∙ q)).0
+  row_tested {b} q = found_tells (violations (cell d) t (cell d t)) b (ap is_some (sym (part_found d t fits held e)) ∙ q)
 
 -- ---- the contents of a dataset
 

@@ -15,4 +15,4 @@ returns c =
     let args = c.args in
     ap (λ x. eqb x 0)
     (last_bits args.bytes.now (λ i. (c.type_inv.bytes i).fits) args.width (omega arith) (omega arith)
-    c.wide-last.result c.wide-last.ensures.0)
+    c.from-last.result c.from-last.ensures)

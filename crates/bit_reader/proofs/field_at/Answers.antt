@@ -2,7 +2,7 @@
 -- on hold the field.
 use Prim.Native.Nat.{◌+◌}
 use native.Mathlib.Omega.{arith}
-use Rattle.bit_reader.proofs.FieldLaws.{inside, outside, field_value, field_read, end_read}
+use Rattle.bit_reader.proofs.FieldLaws.{inside, outside, field_value, field_read, none_read}
 use Rattle.std.proofs.lemmas.Bool.{not_from_false, not_from_true}
 use Rattle.bit_reader.proofs.field_at.Goals as goal
 
@@ -13,10 +13,10 @@ returns-then-not-long_enough c n here =
     let end = n + args.width in
     let past = c.past-next.ensures n here in
     let short = outside args.bytes.now end (c.long_enough.ensures end past) (not_from_false _ c.if-not-long_enough.true) in
-    record { field = end_read args.bytes.now n args.width short; past = past }
+    record { field = none_read args.bytes.now n args.width short; past = past }
 
-pub bounds-bytes-i : goal.bounds-bytes-i
-bounds-bytes-i c =
+pub word_at-requires : goal.word_at-requires
+word_at-requires c =
     let asked = c.requires in
     let end = asked.read + c.args.width in
     let past = c.past-next.ensures asked.read asked.here in
@@ -30,11 +30,8 @@ returns c n here =
     record {
       field = field_read record {
         inside = inside c.args.bytes.now end (c.long_enough.ensures end past) (not_from_true _ c.if-not-long_enough.false);
-        is = field_value c.args.bytes.now c.args.place here c.args.width c.requires.narrow
-            (λ i. (c.type_inv.bytes i).fits)
-            c.wide.result c.byte_at.result c.byte_at-2.result c.byte_at-3.result
-            c.wide.ensures.0 c.byte_at.ensures.0 c.byte_at-2.ensures.0 c.byte_at-3.ensures.0;
-        past = past;
+        is = field_value c.args.bytes.now c.args.place here c.args.width c.requires.narrow (λ i. (c.type_inv.bytes i).fits)
+            c.word_at.ensures;
       };
       past = past;
     }

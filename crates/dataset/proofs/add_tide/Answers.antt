@@ -1,5 +1,5 @@
--- `add_tide` meets its contract: what it writes lays out the study with one tide more. Assumes nothing.
-use mathlib.Core.Path.{refl}
+-- `add_tide` meets its contract: what `entered_state` says of row, setting and number. Assumes nothing.
+use Rattle.std.proofs.Common.{refl}
 use Rattle.dataset.proofs.AnswerLaws.{entered_state}
 use Rattle.dataset.proofs.add_tide.Goals as goal
 

@@ -1,26 +1,24 @@
--- `enter` meets its contract: a refused call leaves everything, an accepted one what `add_tide` ensures. Assumes nothing.
+-- `enter` meets its contract: what the checks answer, and what `add_tide` makes. Assumes nothing.
+use Rattle.lists.proofs.Results.{handed_on}
 use Rattle.access.specs.Calls.{nobody}
-use Rattle.access.proofs.AccessLaws.{passed, stays, update_refused}
+use Rattle.access.proofs.AccessLaws.{passed, unmoved, update_refused}
 use Rattle.dataset.specs.Calls.{enters_tide}
 use Rattle.dataset.proofs.AnswerLaws.{enter_accepted}
 use Rattle.dataset.proofs.enter.Goals as goal
 
-pub returns-in_default-clause-answer : goal.returns-in_default-clause-answer
+-- short memory, or no dataset
+pub returns-in_err-check : goal.returns-in_err-check
 unfolding enters_tide
-returns-in_default-clause-answer c =
-    (update_refused _ _ c.in_default.is c.check-first.ensures).0
+returns-in_err-check c =
+    let told = update_refused _ _ (handed_on c.from_residual.ensures.1) c.in_err-check.ensures in
+    record { answer = told.0; leaves = told.1 }
 
-pub returns-in_default-clause-leaves : goal.returns-in_default-clause-leaves
-unfolding enters_tide
-returns-in_default-clause-leaves c =
-    (update_refused _ _ c.in_default.is c.check-first.ensures).1
+pub enter_answer-requires : goal.enter_answer-requires
+enter_answer-requires c = passed _ nobody c.in_ok-check.was c.check.ensures
 
-pub enter_answer-answer-requires : goal.enter_answer-answer-requires
-enter_answer-answer-requires c = passed _ nobody c.in-Done.is c.check-first.ensures
+-- a reason of its own
+pub returns-in_err-enter_answer-clause-leaves : goal.returns-in_err-enter_answer-clause-leaves
+returns-in_err-enter_answer-clause-leaves c = unmoved _ _ c.in_err-enter_answer.ensures
 
-pub returns-in_default-answer-clause-leaves : goal.returns-in_default-answer-clause-leaves
-returns-in_default-answer-clause-leaves c =
-    stays _ _ c.in_default-answer.is c.enter_answer-answer.ensures
-
-pub add_tide-next-requires : goal.add_tide-next-requires
-add_tide-next-requires c = enter_accepted _ _ _ c.in-Done-answer.is c.enter_answer-answer.ensures
+pub add_tide-requires : goal.add_tide-requires
+add_tide-requires c = enter_accepted _ _ _ c.in_ok-enter_answer.was c.enter_answer.ensures

@@ -10,17 +10,17 @@ put_distances-requires-clause-tables c =
 
 pub put_distances-requires-clause-remaining : goal.put_distances-requires-clause-remaining
 put_distances-requires-clause-remaining c =
-    joining_remaining (accepted_joining _ _ _ _ _ c.requires c.find_rest-m.ensures)
+    joining_remaining (accepted_joining _ _ _ _ _ c.requires c.find_rest-rest.ensures)
 
 pub put_settings-requires-clause-remaining : goal.put_settings-requires-clause-remaining
 put_settings-requires-clause-remaining c =
-    joining_remaining (accepted_joining _ _ _ _ _ c.requires c.find_rest-m.ensures)
+    joining_remaining (accepted_joining _ _ _ _ _ c.requires c.find_rest-rest.ensures)
 
-pub overflow_add-next : goal.overflow_add-next
-overflow_add-next c =
-    omega (arith, (accepted_joining _ _ _ _ _ c.requires c.find_rest-m.ensures).few)
+pub overflow_add-into : goal.overflow_add-into
+overflow_add-into c =
+    omega (arith, (accepted_joining _ _ _ _ _ c.requires c.find_rest-rest.ensures).few)
 
 pub returns : goal.returns
 returns c =
-    merged_state _ _ _ _ _ c.requires c.find_rest-m.ensures c.added_counts-sums.ensures
+    merged_state _ _ _ _ _ c.requires c.find_rest-rest.ensures c.added_counts-into.ensures
     c.put_distances.ensures c.put_settings.ensures

@@ -2,42 +2,27 @@
 use Rattle.merge_text.proofs.JoiningLaws.{join_tells, first_refused_lem, second_refused_lem, both_read}
 use Rattle.merge_text.proofs.join.Goals as goal
 
-pub returns-in-Refused-clause-told : goal.returns-in-Refused-clause-told
-returns-in-Refused-clause-told c =
+-- the first file is refused
+pub returns-in-Err : goal.returns-in-Err
+returns-in-Err c =
     let a = c.args in
-    (join_tells a.first.now a.second.now a.pairs.now
-    (first_refused_lem a.first.now a.second.now a.pairs.now c.read_dataset-one.ensures c.in-Refused.is)).0
+    let K = first_refused_lem a.first.now a.second.now a.pairs.now c.read_dataset.ensures c.in-Err.is in
+    let told = join_tells a.first.now a.second.now a.pairs.now K in
+    record { told = told.0; leaves = told.1 }
 
-pub returns-in-Refused-clause-leaves : goal.returns-in-Refused-clause-leaves
-returns-in-Refused-clause-leaves c =
+-- the second is
+pub returns-in-Err-read_dataset : goal.returns-in-Err-read_dataset
+returns-in-Err-read_dataset c =
     let a = c.args in
-    (join_tells a.first.now a.second.now a.pairs.now
-    (first_refused_lem a.first.now a.second.now a.pairs.now c.read_dataset-one.ensures c.in-Refused.is)).1
+    let K = second_refused_lem a.first.now a.second.now a.pairs.now c.read_dataset.ensures c.in_default.is c.read_dataset-2.ensures c.in-Err-read_dataset.is in
+    let told = join_tells a.first.now a.second.now a.pairs.now K in
+    record { told = told.0; leaves = told.1 }
 
-pub returns-in-Refused-reply-clause-told : goal.returns-in-Refused-reply-clause-told
-returns-in-Refused-reply-clause-told c =
+-- both are read
+pub returns : goal.returns
+returns c =
     let a = c.args in
-    (join_tells a.first.now a.second.now a.pairs.now
-    (second_refused_lem a.first.now a.second.now a.pairs.now c.read_dataset-one.ensures c.in_default.is
-    c.read_dataset-other.ensures c.in-Refused-reply.is)).0
-
-pub returns-in-Refused-reply-clause-leaves : goal.returns-in-Refused-reply-clause-leaves
-returns-in-Refused-reply-clause-leaves c =
-    let a = c.args in
-    (join_tells a.first.now a.second.now a.pairs.now
-    (second_refused_lem a.first.now a.second.now a.pairs.now c.read_dataset-one.ensures c.in_default.is
-    c.read_dataset-other.ensures c.in-Refused-reply.is)).1
-
-pub returns-clause-told : goal.returns-clause-told
-returns-clause-told c =
-    let a = c.args in
-    (join_tells a.first.now a.second.now a.pairs.now
-    (both_read a.first.now a.second.now a.pairs.now c.read_dataset-one.ensures c.in_default.is
-    c.read_dataset-other.ensures c.in_default-reply.is c.join_datasets.ensures)).0
-
-pub returns-clause-leaves : goal.returns-clause-leaves
-returns-clause-leaves c =
-    let a = c.args in
-    (join_tells a.first.now a.second.now a.pairs.now
-    (both_read a.first.now a.second.now a.pairs.now c.read_dataset-one.ensures c.in_default.is
-    c.read_dataset-other.ensures c.in_default-reply.is c.join_datasets.ensures)).1
+    let K = both_read a.first.now a.second.now a.pairs.now c.read_dataset.ensures c.in_default.is c.read_dataset-2.ensures c.in_default-read_dataset.is
+    c.join_datasets.ensures in
+    let told = join_tells a.first.now a.second.now a.pairs.now K in
+    record { told = told.0; leaves = told.1 }

@@ -4,5 +4,7 @@ use Rattle.merge_text.proofs.merge_datasets.Goals as goal
 
 pub returns : goal.returns
 returns c =
-    merge_brings c.requires.passed.0 c.requires.passed.1 c.args.firsts.now c.args.seconds.now _ c.requires.table_size_in_bounds.0 c.requires.table_size_in_bounds.1
-    c.merge.result.answer (c.merge.ensures.answer, c.merge.ensures.leaves)
+    let both = c.requires.passed in
+    let room = c.requires.table_size_in_bounds in
+    let sources = c.args.sources.now in
+    merge_brings both.0 both.1 sources.firsts.now sources.seconds.now _ room.0 room.1 c.merge.result (c.merge.ensures.answer, c.merge.ensures.leaves)

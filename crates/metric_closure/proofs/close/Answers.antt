@@ -1,54 +1,29 @@
--- `close` meets its contract: one law for each way out. Assumes nothing.
-use Rattle.lists.proofs.Scans.{test_passes, test_fails}
-use Rattle.metric_closure.proofs.CallLaws.{near_of, refused_10, refused_1, refused_6, refused_13, closed}
-use Rattle.std.proofs.lemmas.Bool.{not_from_false, not_from_true}
+-- What is refused stays as it was; what is accepted has at most 120 tides, room and distances in range, and is closed. Assumes nothing.
+use mathlib.Core.Path.{sym}
+use Rattle.std.proofs.lemmas.Result.{err_from_is_err_and}
+use Rattle.metric_closure.proofs.TableLaws.{places_near}
+use Rattle.metric_closure.proofs.CallLaws.{refused_so, closed_so}
+use Rattle.metric_closure.proofs.Proofs.{for_call}
 use Rattle.metric_closure.proofs.close.Goals as goal
 
-pub returns-then-n-gt-MAX_TIDES-clause-answer : goal.returns-then-n-gt-MAX_TIDES-clause-answer
-returns-then-n-gt-MAX_TIDES-clause-answer c = (refused_10 _ _ c.if-n-gt-MAX_TIDES.true).0
+pub returns-in_err-check-clause-answer : goal.returns-in_err-check-clause-answer
+returns-in_err-check-clause-answer c =
+    let p = err_from_is_err_and c.from_residual.result c.from_residual.ensures.1 in
+    rw (p.1, p.2) (refused_so _ _ c.in_err-check.ensures).0
 
-pub returns-then-n-gt-MAX_TIDES-clause-leaves : goal.returns-then-n-gt-MAX_TIDES-clause-leaves
-returns-then-n-gt-MAX_TIDES-clause-leaves c = (refused_10 _ _ c.if-n-gt-MAX_TIDES.true).1
+pub returns-in_err-check-clause-leaves : goal.returns-in_err-check-clause-leaves
+returns-in_err-check-clause-leaves c = (refused_so _ _ c.in_err-check.ensures).1
 
-pub returns-then-table-size-clause-answer : goal.returns-then-table-size-clause-answer
-returns-then-table-size-clause-answer c = (refused_1 _ _ c.if-n-gt-MAX_TIDES.false c.if-table-size.true).0
+pub close_counted-requires-clause-fits : goal.close_counted-requires-clause-fits
+close_counted-requires-clause-fits c =
+    let accepted = (for_call c.args.n c.args.table.now).exactly.0 (sym c.in_ok-check.ensures) in record { few = accepted.few; fits = accepted.fits }
 
-pub returns-then-table-size-clause-leaves : goal.returns-then-table-size-clause-leaves
-returns-then-table-size-clause-leaves c = (refused_1 _ _ c.if-n-gt-MAX_TIDES.false c.if-table-size.true).1
-
-pub returns-then-not-in_range-clause-answer : goal.returns-then-not-in_range-clause-answer
-returns-then-not-in_range-clause-answer c =
-    (refused_6 _ _ c.if-n-gt-MAX_TIDES.false c.if-table-size.false (test_fails c.in_range.ensures (not_from_false _ c.if-not-in_range.true))).0
-
-pub returns-then-not-in_range-clause-leaves : goal.returns-then-not-in_range-clause-leaves
-returns-then-not-in_range-clause-leaves c =
-    (refused_6 _ _ c.if-n-gt-MAX_TIDES.false c.if-table-size.false (test_fails c.in_range.ensures (not_from_false _ c.if-not-in_range.true))).1
-
-pub returns-then-not-symmetric-clause-answer : goal.returns-then-not-symmetric-clause-answer
-returns-then-not-symmetric-clause-answer c =
-    let passed = test_passes c.in_range.ensures (not_from_true _ c.if-not-in_range.false) in
-    (refused_13 _ _ c.if-n-gt-MAX_TIDES.false c.if-table-size.false passed (test_fails c.symmetric.ensures (not_from_false _ c.if-not-symmetric.true))).0
-
-pub returns-then-not-symmetric-clause-leaves : goal.returns-then-not-symmetric-clause-leaves
-returns-then-not-symmetric-clause-leaves c =
-    let passed = test_passes c.in_range.ensures (not_from_true _ c.if-not-in_range.false) in
-    (refused_13 _ _ c.if-n-gt-MAX_TIDES.false c.if-table-size.false passed (test_fails c.symmetric.ensures (not_from_false _ c.if-not-symmetric.true))).1
-
-pub close_counted-lowered-requires-clause-in_range : goal.close_counted-lowered-requires-clause-in_range
-close_counted-lowered-requires-clause-in_range c =
-    let passed = test_passes c.in_range.ensures (not_from_true _ c.if-not-in_range.false) in
-    near_of _ _ passed
+pub close_counted-requires-clause-in_range : goal.close_counted-requires-clause-in_range
+close_counted-requires-clause-in_range c =
+    let accepted = (for_call c.args.n c.args.table.now).exactly.0 (sym c.in_ok-check.ensures) in places_near _ _ accepted.near
 
 pub returns-clause-answer : goal.returns-clause-answer
-returns-clause-answer c =
-    let passed = test_passes c.in_range.ensures (not_from_true _ c.if-not-in_range.false) in
-    let both_ways = test_passes c.symmetric.ensures (not_from_true _ c.if-not-symmetric.false) in
-    let ensures = c.close_counted-lowered.ensures in
-    (closed _ _ c.if-n-gt-MAX_TIDES.false c.if-table-size.false passed both_ways ensures.value ensures.table_after).0
+returns-clause-answer c = (closed_so _ _ c.in_ok-check.ensures c.close_counted.ensures.value c.close_counted.ensures.table_after).0
 
 pub returns-clause-leaves : goal.returns-clause-leaves
-returns-clause-leaves c =
-    let passed = test_passes c.in_range.ensures (not_from_true _ c.if-not-in_range.false) in
-    let both_ways = test_passes c.symmetric.ensures (not_from_true _ c.if-not-symmetric.false) in
-    let ensures = c.close_counted-lowered.ensures in
-    (closed _ _ c.if-n-gt-MAX_TIDES.false c.if-table-size.false passed both_ways ensures.value ensures.table_after).1
+returns-clause-leaves c = (closed_so _ _ c.in_ok-check.ensures c.close_counted.ensures.value c.close_counted.ensures.table_after).1

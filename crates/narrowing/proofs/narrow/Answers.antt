@@ -1,12 +1,9 @@
--- `narrow` meets its contract: below 256, or 255. Assumes nothing.
+-- `narrow` meets its contract: a byte, or too great for one. Assumes nothing.
+use Rattle.std.proofs.Common.{arith}
+use Rattle.std.proofs.lemmas.Bool.Decides.{nat_tests}
 use Rattle.narrowing.specs.Narrowing.{narrowed}
-use borrow.Author.Tests.{lt-ltb, le-ltb}
 use Rattle.narrowing.proofs.narrow.Goals as goal
-
-pub returns-then-x-lt256 : goal.returns-then-x-lt256
-unfolding narrowed
-returns-then-x-lt256 c = rw (lt-ltb _ 256 c.if-x-lt256.true)
 
 pub returns : goal.returns
 unfolding narrowed
-returns c = rw (le-ltb _ 256 c.if-x-lt256.false)
+returns c = grind (arith, nat_tests)

@@ -1,4 +1,4 @@
--- The first t places of both lists hold the nearest centres' numbers and distances, and the others stay; n - t falls. Assumes nothing.
+-- The first t places of both lists hold the nearest centres' numbers and distances, and the others stay. Assumes nothing.
 use Rattle.lists.proofs.Fills.{filled_none, filled_more}
 use Rattle.nearest_centre.proofs.put_nearest.Goals as goal
 

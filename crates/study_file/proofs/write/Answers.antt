@@ -1,24 +1,15 @@
--- `write` meets its contract: what the test of a dataset refuses, Write refuses.
-use Rattle.study_file.proofs.WriteCallLaws.{write_refused}
+-- `write` meets its contract: what the test of a dataset refuses, Write refuses. Assumes nothing.
+use Rattle.lists.proofs.Results.{handed_on}
 use Rattle.access.specs.Calls.{nobody}
 use Rattle.access.proofs.AccessLaws.{passed}
-use Rattle.validity.specs.Memory.{state_of}
+use Rattle.study_file.proofs.WriteCallLaws.{write_refused}
 use Rattle.study_file.proofs.write.Goals as goal
 
 pub write_file-requires : goal.write_file-requires
-write_file-requires c =
-    let args = c.args in
-    let σ = state_of args.dataset args.distances.now args.settings.now in
-    passed σ nobody c.in-Done.is c.check-answer.ensures
+write_file-requires c = passed _ nobody c.in_ok-check.was c.check.ensures
 
-pub returns-in-Refused-clause-reply : goal.returns-in-Refused-clause-reply
-returns-in-Refused-clause-reply c =
-    let args = c.args in
-    let σ = state_of args.dataset args.distances.now args.settings.now in
-    (write_refused σ args.file.now c.in-Refused.is c.check-answer.ensures).0
-
-pub returns-in-Refused-clause-leaves : goal.returns-in-Refused-clause-leaves
-returns-in-Refused-clause-leaves c =
-    let args = c.args in
-    let σ = state_of args.dataset args.distances.now args.settings.now in
-    (write_refused σ args.file.now c.in-Refused.is c.check-answer.ensures).1
+-- short memory, or no dataset
+pub returns-in_err-check : goal.returns-in_err-check
+returns-in_err-check c =
+    let told = write_refused _ _ (handed_on c.from_residual.ensures.1) c.in_err-check.ensures in
+    record { reply = told.0; leaves = told.1 }

@@ -1,26 +1,17 @@
--- `next` meets its contract: start, end and number of the word. Assumes nothing.
-use Rattle.text_words.proofs.WordLaws.{start_inside, next_end, next_number, next_bad, next_large}
+-- Start, end and number of the word. Assumes nothing.
+use mathlib.Core.Path.{sym, ◌∙◌}
+use Rattle.text_words.proofs.WordLaws.{next_end, next_number, next_wrong}
 use Rattle.text_words.proofs.next.Goals as goal
 
-pub word_end-end-requires : goal.word_end-end-requires
-word_end-end-requires c = start_inside c.requires c.skip-start.ensures
+pub returns-then-is_empty : goal.returns-then-is_empty
+returns-then-is_empty c = next_end _ _ c.skip-start.ensures.start c.word_of-word.ensures.word (sym c.is_empty.ensures ∙ c.if-is_empty.true)
 
-pub returns-then-end-at : goal.returns-then-end-at
-returns-then-end-at c =
-    next_end _ _ c.skip-start.ensures c.word_end-end.result
-    c.word_end-end.ensures.0 c.if-end-at.true
+pub returns-in-Ok : goal.returns-in-Ok
+returns-in-Ok c =
+    next_number _ _ c.skip-start.ensures.start c.word_of-word.ensures.word (sym c.is_empty.ensures ∙ c.if-is_empty.false)
+    c.numeral_of.ensures c.in-Ok.is
 
-pub returns-in-Number : goal.returns-in-Number
-returns-in-Number c =
-    next_number _ _ c.skip-start.ensures c.word_end-end.result c.word_end-end.ensures.0 c.if-end-at.false
-    c.numeral_of-found.ensures c.in-Number.is
-
-pub returns-in-Bad : goal.returns-in-Bad
-returns-in-Bad c =
-    next_bad _ _ c.skip-start.ensures c.word_end-end.result c.word_end-end.ensures.0 c.if-end-at.false
-    c.numeral_of-found.ensures c.in-Bad.is
-
-pub returns-in-TooLarge : goal.returns-in-TooLarge
-returns-in-TooLarge c =
-    next_large _ _ c.skip-start.ensures c.word_end-end.result c.word_end-end.ensures.0 c.if-end-at.false
-    c.numeral_of-found.ensures c.in-TooLarge.is
+pub returns-in-Err : goal.returns-in-Err
+returns-in-Err c =
+    next_wrong _ _ c.skip-start.ensures.start c.word_of-word.ensures.word (sym c.is_empty.ensures ∙ c.if-is_empty.false)
+    c.numeral_of.ensures c.in-Err.is

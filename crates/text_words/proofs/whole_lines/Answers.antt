@@ -1,16 +1,11 @@
--- `whole_lines` meets its contract. The loop's invariant: the lines counted and those to come are all; length - i falls. Assumes nothing.
-use native.Mathlib.Omega.{arith}
-use lib.ListN.{get_or}
-use Rattle.text_words.proofs.WordLaws.{newline_small, lines_more, lines_all}
+-- A line ends with each line feed. Assumes nothing.
+use borrow.Author.Rules.{rules}
+use mathlib.Core.Path.{◌≡◌, ◌∙◌}
+use lib.Dec.{eqb}
+use Rattle.std.specs.Prelude.{count_by}
+use Rattle.text_words.proofs.WordLaws.{lines_counted}
 use Rattle.text_words.proofs.whole_lines.Goals as goal
 
-pub loop-i-preserved : goal.loop-i-preserved
-loop-i-preserved c = (
-  omega arith,
-  omega (arith, newline_small (get_or c.args.text.now c.loop-i.i 0)),
-  lines_more c.args.text.now c.loop-i.lines
-      c.loop-i.i c.loop-i-test.true c.newline-lines.ensures c.loop-i.invariant.2,
-)
-
 pub returns : goal.returns
-returns c = lines_all c.args.text.now c.loop-i.lines c.loop-i.i (omega arith) c.loop-i.invariant.2
+returns c =
+    let counted : c.count.result ≡ count_by (λ b. eqb b 10) c.args.text.now = search rules in counted ∙ lines_counted c.args.text.now

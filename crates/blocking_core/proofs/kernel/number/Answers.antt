@@ -1,4 +1,4 @@
--- The first t places hold the blocks' numbers; the rest is as it was. What falls is n - t. Assumes nothing.
+-- The first t places hold the blocks' numbers; the rest is as it was. Assumes nothing.
 use native.Mathlib.Omega.{arith}
 use Rattle.lists.proofs.Fills.{filled_none, filled_more}
 use Rattle.study.specs.Problem.{labels}

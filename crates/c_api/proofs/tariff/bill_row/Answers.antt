@@ -1,12 +1,10 @@
--- The eight shares in order. No loop. Assumes nothing.
-use borrow.Author.Rules.{rules}
-use Rattle.std.specs.Prelude.{◌≡◌, ◌∷◌, length}
-use mathlib.Core.Path.{ap}
+-- `bill_row` meets its contract: the eight shares one by one are the list. Assumes nothing.
+use Rattle.std.proofs.Common.{◌≡◌, ◌∷◌, length, ap, rules}
 use Rattle.c_api.proofs.TariffLaws.{eight_places}
 use Rattle.c_api.proofs.tariff.bill_row.Goals as goal
 
 pub returns : goal.returns
 returns c =
-    let given = c.args in
-    let e : length given.priced.shares ≡ 8 = search rules in
-    ap (λ l. given.blocks ∷ given.radius ∷ given.widest ∷ given.priced.total ∷ l) (eight_places given.priced.shares e)
+    let P = c.args.priced in
+    let e : length P.shares ≡ 8 = search rules in
+    ap (λ l. P.figures.blocks ∷ P.figures.radius ∷ P.figures.widest ∷ P.total ∷ l) (eight_places P.shares e)

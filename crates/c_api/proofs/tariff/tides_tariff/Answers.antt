@@ -1,86 +1,54 @@
--- The ways out are those of tides_block, and cite the same laws, with Block's reply taken out of the bill; the twelve numbers are the bill's.
--- No loop. Assumes nothing.
-use native.Mathlib.Omega.{arith}
+-- One law for each way out: a list that is too short, a refusal, an answer. Assumes nothing.
+use Rattle.std.proofs.Common.{refl, arith}
 use Rattle.priced_blocks.specs.Calls.{prices_blocks}
 use Rattle.c_api.proofs.CallLaws.{lacks_yes, record_short, list_short}
 use Rattle.c_api.proofs.BlockLaws.{block_narrow, count_is, blocks_small, columns_fit, blocks_too_short, blocks_refused, blocks_done}
-use Rattle.c_api.proofs.TariffLaws.{prices_lent, bill_reply, bill_why, bill_numbers, bill_eight, bill_rows, written_bill}
+use Rattle.c_api.proofs.TariffLaws.{prices_lent, refused_as_block, priced_as_block, tariff_why, tariff_numbers, bill_eight, bill_rows, written_bill}
 use Rattle.c_api.proofs.tariff.tides_tariff.Goals as goal
 
-pub returns-then-numbers-lt-RECORD_SIZE-clause-code : goal.returns-then-numbers-lt-RECORD_SIZE-clause-code
-returns-then-numbers-lt-RECORD_SIZE-clause-code c =
-    (blocks_too_short 12 _ _ (prices_blocks _) (prices_lent _) (record_short _ _ c.if-numbers-lt-RECORD_SIZE.true)).0
+-- the record is too short
+pub returns-then-numbers-lt-RECORD_SIZE : goal.returns-then-numbers-lt-RECORD_SIZE
+returns-then-numbers-lt-RECORD_SIZE c =
+    let told = blocks_too_short 12 _ _ (prices_blocks _) (prices_lent _) (record_short _ _ c.if-numbers-lt-RECORD_SIZE.true) in
+    record { code = told.0; leaves = told.1 }
 
-pub returns-then-numbers-lt-RECORD_SIZE-clause-leaves : goal.returns-then-numbers-lt-RECORD_SIZE-clause-leaves
-returns-then-numbers-lt-RECORD_SIZE-clause-leaves c =
-    (blocks_too_short 12 _ _ (prices_blocks _) (prices_lent _) (record_short _ _ c.if-numbers-lt-RECORD_SIZE.true)).1
-
-pub returns-then-res-lt12-clause-code : goal.returns-then-res-lt12-clause-code
-returns-then-res-lt12-clause-code c =
-    (blocks_too_short 12 _ _ (prices_blocks _) (prices_lent _) (list_short _ (lacks_yes 12 _ c.if-res-lt12.true))).0
-
-pub returns-then-res-lt12-clause-leaves : goal.returns-then-res-lt12-clause-leaves
-returns-then-res-lt12-clause-leaves c =
-    (blocks_too_short 12 _ _ (prices_blocks _) (prices_lent _) (list_short _ (lacks_yes 12 _ c.if-res-lt12.true))).1
+-- the result is
+pub returns-then-res-lt12 : goal.returns-then-res-lt12
+returns-then-res-lt12 c =
+    let told = blocks_too_short 12 _ _ (prices_blocks _) (prices_lent _) (list_short _ (lacks_yes 12 _ c.if-res-lt12.true)) in
+    record { code = told.0; leaves = told.1 }
 
 pub refusal_code-requires : goal.refusal_code-requires
-refusal_code-requires c =
-    let core = c.price_core-computed in
-    block_narrow _ _ _ _ (bill_reply _ _ _ core.result.priced core.ensures.answer) c.in-Refused.is
+refusal_code-requires c = block_narrow _ _ _ _ (refused_as_block _ _ _ c.in-Err.ensures.answer) refl
 
 pub put_columns-requires : goal.put_columns-requires
 put_columns-requires c =
-    let core = c.price_core-computed in
-    let e = core.ensures in
-    let P = core.result.priced in
-    columns_fit _ _ _ _ (bill_reply _ _ _ P e.answer) c.in-Done.is (bill_rows _ _ _ P e.answer e.rows) _ _ _
-    c.least-room.ensures
+    let told = c.in-Ok.ensures in
+    columns_fit _ _ _ _ (priced_as_block _ _ _ _ told.answer) refl (bill_rows _ _ _ told.rows) _ _ _ c.least-room.ensures
 
-pub overflow_cast-count : goal.overflow_cast-count
-overflow_cast-count c =
-    let core = c.price_core-computed in
-    let e = core.ensures in
-    let P = core.result.priced in
-    omega (arith, blocks_small _ _ _ _ (bill_reply _ _ _ P e.answer) c.in-Done.is (bill_rows _ _ _ P e.answer e.rows))
+pub bill_row-requires : goal.bill_row-requires
+bill_row-requires c =
+    let told = c.in-Ok.ensures in
+    omega (arith, blocks_small _ _ _ _ (priced_as_block _ _ _ _ told.answer) refl (bill_rows _ _ _ told.rows))
 
-pub returns-in-Refused-clause-code : goal.returns-in-Refused-clause-code
-returns-in-Refused-clause-code c =
-    let core = c.price_core-computed in
-    let e = core.ensures in
-    (blocks_refused 12 _ _ (prices_blocks _) (prices_lent _)
+-- refused
+pub returns-in-Err : goal.returns-in-Err
+returns-in-Err c =
+    let told =
+    blocks_refused 12 _ _ (prices_blocks _) (prices_lent _)
     (record { room = c.if-numbers-lt-RECORD_SIZE.false; enough = c.if-res-lt12.false; held = c.dataset_of.ensures })
-    c.least-room.ensures e.list (bill_why _ _ _ core.result.priced e.answer c.in-Refused.is) c.refusal_code.ensures).0
+    c.least-room.ensures c.price_core.ensures.list (tariff_why _ _ _ c.in-Err.ensures.answer) c.refusal_code.ensures in
+    record { code = told.0; leaves = told.1 }
 
-pub returns-in-Refused-clause-leaves : goal.returns-in-Refused-clause-leaves
-returns-in-Refused-clause-leaves c =
-    let core = c.price_core-computed in
-    let e = core.ensures in
-    (blocks_refused 12 _ _ (prices_blocks _) (prices_lent _)
+-- priced
+pub returns-in-Ok : goal.returns-in-Ok
+returns-in-Ok c =
+    let core = c.in-Ok.ensures in
+    let put = c.put_columns.ensures in
+    let told =
+    blocks_done 12 _ _ (prices_blocks _) (prices_lent _)
     (record { room = c.if-numbers-lt-RECORD_SIZE.false; enough = c.if-res-lt12.false; held = c.dataset_of.ensures })
-    c.least-room.ensures e.list (bill_why _ _ _ core.result.priced e.answer c.in-Refused.is) c.refusal_code.ensures).1
-
-pub returns-in-Done-clause-code : goal.returns-in-Done-clause-code
-returns-in-Done-clause-code c =
-    let core = c.price_core-computed in
-    let e = core.ensures in
-    let done = c.in-Done.is in
-    let P = core.result.priced in
-    (blocks_done 12 _ _ (prices_blocks _) (prices_lent _)
-    (record { room = c.if-numbers-lt-RECORD_SIZE.false; enough = c.if-res-lt12.false; held = c.dataset_of.ensures })
-    c.least-room.ensures e.list (bill_numbers _ _ _ P e.answer done) e.rows
-    (count_is _ _ _ _ (bill_reply _ _ _ P e.answer) done
-    (bill_rows _ _ _ P e.answer e.rows)) c.put_columns.ensures.centres c.put_columns.ensures.sizes c.put_columns.ensures.diameters
-    (written_bill _ (bill_eight _ _ _ P e.answer done) c.bill_row-bill.ensures c.put_numbers.ensures)).0
-
-pub returns-in-Done-clause-leaves : goal.returns-in-Done-clause-leaves
-returns-in-Done-clause-leaves c =
-    let core = c.price_core-computed in
-    let e = core.ensures in
-    let done = c.in-Done.is in
-    let P = core.result.priced in
-    (blocks_done 12 _ _ (prices_blocks _) (prices_lent _)
-    (record { room = c.if-numbers-lt-RECORD_SIZE.false; enough = c.if-res-lt12.false; held = c.dataset_of.ensures })
-    c.least-room.ensures e.list (bill_numbers _ _ _ P e.answer done) e.rows
-    (count_is _ _ _ _ (bill_reply _ _ _ P e.answer) done
-    (bill_rows _ _ _ P e.answer e.rows)) c.put_columns.ensures.centres c.put_columns.ensures.sizes c.put_columns.ensures.diameters
-    (written_bill _ (bill_eight _ _ _ P e.answer done) c.bill_row-bill.ensures c.put_numbers.ensures)).1
+    c.least-room.ensures c.price_core.ensures.list (tariff_numbers _ _ _ _ core.answer) core.rows
+    (count_is _ _ _ _ (priced_as_block _ _ _ _ core.answer) refl (bill_rows _ _ _ core.rows))
+    put.centres put.sizes put.diameters (written_bill _ _ (bill_eight _ _ _ _ core.answer) c.bill_row.ensures c.copy_front.ensures) in
+    record { code = told.0; leaves = told.1 }

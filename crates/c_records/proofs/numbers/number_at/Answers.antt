@@ -9,7 +9,7 @@ use Rattle.c_records.proofs.numbers.number_at.Goals as goal
 
 pub returns-then-i-eq0 : goal.returns-then-i-eq0
 unfolding numbers_of
-returns-then-i-eq0 c = number_is c.args.dataset c.if-i-eq0.true c.wide.ensures
+returns-then-i-eq0 c = number_is c.args.dataset c.if-i-eq0.true c.from.ensures
 
 pub returns-then-i-eq1 : goal.returns-then-i-eq1
 unfolding numbers_of
@@ -17,7 +17,7 @@ returns-then-i-eq1 c = number_is c.args.dataset c.if-i-eq1.true refl
 
 pub returns-then-i-eq2 : goal.returns-then-i-eq2
 unfolding numbers_of
-returns-then-i-eq2 c = number_is c.args.dataset c.if-i-eq2.true c.wide-then-i-eq2.ensures
+returns-then-i-eq2 c = number_is c.args.dataset c.if-i-eq2.true c.from-then-i-eq2.ensures
 
 pub returns-then-i-ge11 : goal.returns-then-i-ge11
 returns-then-i-ge11 c =
@@ -27,4 +27,4 @@ returns-then-i-ge11 c =
 pub returns : goal.returns
 returns c =
     let eight : length c.args.dataset.minima.b ≡ 8 = search rules in
-    c.wide-2.ensures ∙ number_b _ eight _ (omega arith) (omega arith)
+    c.from-2.ensures ∙ number_b _ eight _ (omega arith) (omega arith)

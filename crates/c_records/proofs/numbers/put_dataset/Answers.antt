@@ -1,4 +1,4 @@
--- The loop's invariant: the first i places hold their numbers, the rest stays, and no place is added; the places left fall. Assumes nothing.
+-- The loop's invariant: the first i places hold their numbers, the rest stays, and no place is added. Assumes nothing.
 use borrow.Author.Rules.{rules}
 use native.Mathlib.Omega.{arith}
 use mathlib.Core.Path.{◌≡◌, refl, ◌∙◌}
@@ -8,15 +8,15 @@ use Rattle.c_records.proofs.RecordLaws.{written}
 use Rattle.c_records.proofs.numbers.put_dataset.Goals as goal
 
 pub loop-i-init : goal.loop-i-init
-loop-i-init c = (omega arith, overwrite_none _ _, refl)
+loop-i-init c = (overwrite_none _ _, refl)
 
 pub loop-i-preserved : goal.loop-i-preserved
 loop-i-preserved c =
     let inv = c.loop-i.invariant in
-    (omega arith, overwrite_step _ _ _ inv.1 c.number_at.ensures (omega arith), simp length-set inv.2)
+    (overwrite_step _ _ _ inv.0 c.number_at.ensures (omega arith), simp length-set inv.1)
 
 pub returns : goal.returns
 returns c =
     let eight : length c.args.dataset.minima.b ≡ 8 = search rules in
     let four : length c.args.dataset.withdrawn ≡ 4 = search rules in
-    overwrite_done _ _ (omega arith) c.loop-i.invariant.1 ∙ written _ eight four _
+    overwrite_done _ _ (omega arith) c.loop-i.invariant.0 ∙ written _ eight four _

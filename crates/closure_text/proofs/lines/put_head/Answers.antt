@@ -12,8 +12,8 @@ returns c =
     let row = c.wide_minima-row in
     let long : length row.result ≡ 8 = search rules in
     let short = length-take-le c.args.k row.result (omega arith) in
-    let told = c.put_line.ensures in
+    let told = rw c.from-settings.ensures at c.put_line.ensures in
     let put =
-    head_put c.wide.ensures.0 c.wide-2.ensures.0 row.ensures.0 c.put_line-after_k.ensures.1
+    head_put c.from.ensures c.from-2.ensures row.ensures.0 c.put_line-after_k.ensures.1
     told.1 in
     (omega (arith, c.put_line-after_k.ensures.0, told.0), put)

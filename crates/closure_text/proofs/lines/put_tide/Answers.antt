@@ -9,5 +9,5 @@ returns c =
     let a = c.args in
     let long = row_long a.n a.settings.now a.table.now a.t _ _ c.requires.printable_table c.requires.t_lt_n.0 refl refl in (
       omega (arith, c.put_line.ensures.0, long, c.requires.printable_table.fits.few),
-      tide_put a.n a.settings.now a.table.now a.t _ _ c.requires.printable_table c.requires.t_lt_n.0 refl refl c.wide.ensures.0 c.put_line.ensures.1,
+      tide_put a.n a.settings.now a.table.now a.t _ _ c.requires.printable_table c.requires.t_lt_n.0 refl refl c.from.ensures c.put_line.ensures.1,
     )

@@ -1,26 +1,18 @@
--- `wide_minima` meets its contract. The loop's invariant: the first i numbers stand in place of zeros; 8 - i falls. Assumes nothing.
-use borrow.Author.Rules.{rules}
+-- `wide_minima` meets its contract: place by place, and each is a byte. Assumes nothing.
 use native.Mathlib.Omega.{arith}
-use mathlib.Core.Path.{◌≡◌, sym, subst}
-use lib.ListN.{length, replicate}
-use Rattle.lists.proofs.Tables.{overwrite_none, overwrite_step, overwrite_done}
+use mathlib.Core.Path.{◌≡◌, sym, subst, ◌∙◌}
+use lib.ListN.{length, get_or}
+use lib.Seq.{ext_get_or}
+use Prim.Native.Nat.{ℕ, ◌<◌}
+use borrow.Author.Rules.{rules}
 use Rattle.metric_closure.specs.Tables.{InRange}
-use Rattle.closure_text.proofs.LineLaws.{all_eight, range_none, range_more}
 use Rattle.closure_text.proofs.lines.wide_minima.Goals as goal
-
-pub loop-i-init : goal.loop-i-init
-loop-i-init c = (omega arith, overwrite_none _ _, range_none _)
-
-pub loop-i-preserved : goal.loop-i-preserved
-loop-i-preserved c =
-    let inv = c.loop-i.invariant in
-    let told = c.wide.ensures in
-    (omega arith, overwrite_step _ (replicate 8 0) _ inv.1 told.0 (omega arith), range_more inv.2 (omega arith))
 
 pub returns : goal.returns
 returns c =
-    let long : length c.args.b ≡ 8 = search rules in
-    let turn = c.loop-i in
-    let all : turn.i ≡ 8 = omega arith in
-    let same = all_eight long (overwrite_done _ _ all turn.invariant.1) in
-    (same, subst (InRange 8) (sym same) (subst (λ i. InRange i c.args.b) all turn.invariant.2))
+    let eight : length c.args.b ≡ 8 = search rules in
+    let same : c.map.result ≡ c.args.b =
+    ext_get_or 0 _ _ (c.map.ensures.items.long ∙ sym eight) (λ i l.
+    let called = c.map.ensures.items.at i 0 0 (omega (arith, c.map.ensures.items.long)) in search rules) in
+    let bytes : (i : ℕ) → get_or c.args.b i 0 < 256 = λ i. search rules in
+    (same, subst (InRange 8) (sym same) (record { near = λ p l. omega (arith, bytes p) }))

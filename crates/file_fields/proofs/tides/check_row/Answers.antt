@@ -4,13 +4,13 @@ use Rattle.file_fields.proofs.RowLaws.{row_violates, row_obeys}
 use Rattle.file_fields.proofs.tides.check_row.Goals as goal
 
 -- a pair was found
-pub returns-in-Pair : goal.returns-in-Pair
-returns-in-Pair c =
+pub returns-in-Some : goal.returns-in-Some
+returns-in-Some c =
     let args = c.args in
-    row_violates args.matrix.now args.t (omega arith) (omega arith) c.first_violation-found.ensures args.past c.in-Pair.is
+    row_violates args.matrix.now args.t (omega arith) (omega arith) c.first_violation.ensures c.in-Some.is
 
 -- none was
-pub returns-in-Nothing : goal.returns-in-Nothing
-returns-in-Nothing c =
+pub returns-in-None : goal.returns-in-None
+returns-in-None c =
     let args = c.args in
-    row_obeys args.matrix.now args.t (omega arith) (omega arith) c.first_violation-found.ensures args.past c.in-Nothing.is
+    row_obeys args.matrix.now args.t (omega arith) (omega arith) c.first_violation.ensures c.in-None.is

@@ -1,8 +1,7 @@
--- `take_row` meets its contract: the loop's invariant: the first i distances stand in row and column, memory keeps its length, and 20i bits of
--- the row are read; the distances left fall. Inside the file no field is cut off. Assumes nothing.
+-- `take_row` meets its contract: inside the file no field is cut off, and each adds its distance.
 use Prim.Native.Nat.{◌+◌, ◌*◌}
 use native.Mathlib.Omega.{arith}
-use mathlib.Core.Path.{refl}
+use mathlib.Core.Path.{refl, ◌∙◌}
 use lib.ListN.{length-set}
 use Rattle.bit_reader.proofs.FieldLaws.{bits_same}
 use Rattle.storage.proofs.PlaceLaws.{row_none}
@@ -11,22 +10,24 @@ use Rattle.file_fields.proofs.RowLaws.{row_taken}
 use Rattle.file_fields.proofs.tides.take_row.Goals as goal
 
 pub loop-i-init : goal.loop-i-init
-loop-i-init c = (omega arith, row_none _ _, refl, bits_same c.requires.here (omega arith))
+loop-i-init c = record { same = refl; row = row_none _ _; long = refl; here = bits_same c.requires.here (omega arith) }
 
 pub returns-in_default : goal.returns-in_default
 returns-in_default c =
     let turn = c.loop-i in
-    let read = row_start c.args.file.now c.args.t + 20 * turn.i in
-    absurd (omega (arith, c.requires.inside.inside, (c.read_field.ensures read turn.invariant.3).ends c.in_default.is))
+    let read = row_start c.args.reader.now.bytes.now c.args.t + 20 * turn.i in
+    let field = (rw turn.invariant.same at c.take.ensures.step read turn.invariant.here).field in
+    absurd (omega (arith, c.requires.inside.inside, field.ends c.in_default.is))
 
 pub loop-i-preserved : goal.loop-i-preserved
 loop-i-preserved c =
     let turn = c.loop-i in
-    let args = c.args in
-    let start = row_start args.file.now args.t in
-    let field = (c.read_field.ensures (start + 20 * turn.i) turn.invariant.3).got c.in-Value.is in (
-      omega arith,
-      row_taken args.file.now start _ (omega arith) field turn.invariant.1,
-      simp length-set turn.invariant.2,
-      bits_same field.past (omega arith),
-    )
+    let s = c.args.reader.now.bytes.now in
+    let start = row_start s c.args.t in
+    let step = rw turn.invariant.same at c.take.ensures.step (start + 20 * turn.i) turn.invariant.here in
+    record {
+      same = c.take.ensures.same ∙ turn.invariant.same;
+      row = row_taken s start _ c.loop-i-test.true (step.field.got c.in-Some.is) turn.invariant.row;
+      long = simp length-set turn.invariant.long;
+      here = bits_same step.past (omega arith);
+    }

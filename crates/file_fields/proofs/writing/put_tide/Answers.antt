@@ -1,10 +1,7 @@
--- `put_tide` meets its contract: a setting and a row, one after the other. Assumes nothing.
+-- `put_tide` meets its contract: a setting and a row, one after the other.
 use Rattle.file_fields.proofs.PuttingLaws.{tide_put}
-use Rattle.validity.specs.Memory.{state_of}
+use Rattle.validity.specs.View.{seen}
 use Rattle.file_fields.proofs.writing.put_tide.Goals as goal
 
 pub returns : goal.returns
-returns c =
-    let args = c.args in
-    let σ = state_of args.dataset args.distances.now args.settings.now in
-    tide_put σ args.t c.wide.ensures.0 c.put_field.ensures c.put_row.ensures
+returns c = tide_put (seen c.args.view) c.args.t c.requires c.from.ensures c.put_field.ensures c.put_run.ensures

@@ -2,7 +2,5 @@
 use Rattle.first_assignment.proofs.FirstLaws.{tried_nowhere}
 use Rattle.first_assignment.proofs.first.lower.Goals as goal
 
-pub returns-then-first_allowed-blocks-clause-search_tried : goal.returns-then-first_allowed-blocks-clause-search_tried
-returns-then-first_allowed-blocks-clause-search_tried c =
-    let t_inside = c.requires.t_lt_n.0 in
-    tried_nowhere _ t_inside (c.first_allowed.ensures.none c.if-first_allowed-blocks.true)
+pub returns-in_default-clause-search_tried : goal.returns-in_default-clause-search_tried
+returns-in_default-clause-search_tried c = tried_nowhere _ c.requires.t_lt_n.0 c.in_default.ensures.none

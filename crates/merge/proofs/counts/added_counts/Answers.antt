@@ -1,4 +1,4 @@
--- `added_counts` meets its contract: the first i places hold the sums; the users left fall. Assumes nothing.
+-- `added_counts` meets its contract: the first i places hold the sums. Assumes nothing.
 use Rattle.merge.proofs.AnswerLaws.{summed_none, summed_more, summed_all}
 use Rattle.merge.proofs.counts.added_counts.Goals as goal
 

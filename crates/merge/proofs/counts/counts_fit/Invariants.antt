@@ -8,7 +8,4 @@ use Rattle.merge.proofs.AnswerLaws.{fits}
 use Rattle.merge.proofs.counts.counts_fit.Given as goal
 
 abbrev pub invariant-loop-i : goal.invariant-loop-i
-invariant-loop-i l = (l.i ≤ max_users) × (every l.i (fits l.v l.w) ≡ true)
-
-abbrev pub decreases-loop-i : goal.decreases-loop-i
-decreases-loop-i l = max_users - l.i
+invariant-loop-i l = every l.i (fits l.v l.w) ≡ true

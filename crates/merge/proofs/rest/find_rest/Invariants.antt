@@ -1,12 +1,8 @@
--- `find_rest` meets its contract: the front of the table holds those of the first j tides that are in no pair, as many as count; n - j
--- falls. Assumes nothing.
+-- `find_rest` meets its contract: the front of the table holds those of the first j tides that are in no pair, as many as count. Assumes nothing.
 use Prim.Native.Nat.{◌≤◌, ◌-◌}
 use Rattle.merge.specs.Merge.{shared}
 use Rattle.merge.specs.Sources.{RestIn}
 use Rattle.merge.proofs.rest.find_rest.Given as goal
 
 abbrev pub invariant-loop-j : goal.invariant-loop-j
-invariant-loop-j l = (l.j ≤ l.n) × RestIn (shared l.firsts l.seconds) l.j l.count l.rest
-
-abbrev pub decreases-loop-j : goal.decreases-loop-j
-decreases-loop-j l = l.n - l.j
+invariant-loop-j l = RestIn (shared l.firsts l.seconds) l.j l.count l.tides

@@ -8,7 +8,4 @@ use Rattle.lists.specs.Lists.{every, at}
 use Rattle.merge.proofs.rest.is_unshared.Given as goal
 
 abbrev pub invariant-loop-q : goal.invariant-loop-q
-invariant-loop-q l = (l.q ≤ length l.firsts) × (every l.q (λ p. not (eqb (at l.seconds p - 1) l.j)) ≡ true)
-
-abbrev pub decreases-loop-q : goal.decreases-loop-q
-decreases-loop-q l = length l.firsts - l.q
+invariant-loop-q l = every l.q (λ p. not (eqb (at l.seconds p - 1) l.j)) ≡ true

@@ -6,10 +6,10 @@ use lib.ListN.{length}
 use Rattle.merge_text.proofs.ListingLaws.{Listing}
 use Rattle.merge_text.proofs.pairs.list_pairs.Given as goal
 
-abbrev pub invariant-loop-line : goal.invariant-loop-line
-invariant-loop-line l =
+abbrev pub invariant-loop-pair : goal.invariant-loop-pair
+invariant-loop-pair l =
     Listing l.text l.count l.firsts l.seconds l.last l.cursor × (65536 ≤ length l.firsts) × (65536 ≤ length l.seconds)
     × (length l.firsts ≡ length l.initial.firsts) × (length l.seconds ≡ length l.initial.seconds)
 
-abbrev pub decreases-loop-line : goal.decreases-loop-line
-decreases-loop-line l = 131073 - l.cursor.at
+abbrev pub decreases-loop-pair : goal.decreases-loop-pair
+decreases-loop-pair l = 131073 - l.cursor.at

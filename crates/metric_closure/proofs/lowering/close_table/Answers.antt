@@ -4,17 +4,13 @@ use Rattle.metric_closure.proofs.TableLaws.{closing_none, closing_more, closing_
 use Rattle.metric_closure.proofs.lowering.close_table.Goals as goal
 
 pub loop-m-init : goal.loop-m-init
-loop-m-init c = (omega arith, closing_none)
+loop-m-init c = closing_none
 
 pub lower_by-requires-clause-in_range : goal.lower_by-requires-clause-in_range
-lower_by-requires-clause-in_range c =
-    let inv = c.loop-m.invariant in
-    let pre = c.requires in
-    closing_near inv.1 pre.in_range
+lower_by-requires-clause-in_range c = closing_near c.loop-m.invariant c.requires.in_range
 
 pub loop-m-preserved : goal.loop-m-preserved
-loop-m-preserved c =
-    (omega arith, closing_more (omega arith) c.loop-m.invariant.1 c.lower_by.ensures)
+loop-m-preserved c = closing_more (omega arith) c.loop-m.invariant c.lower_by.ensures
 
 pub returns : goal.returns
-returns c = closing_done (omega arith) c.requires.fits c.loop-m.invariant.1
+returns c = closing_done (omega arith) c.requires.fits c.loop-m.invariant

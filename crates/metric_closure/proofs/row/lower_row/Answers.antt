@@ -7,12 +7,8 @@ use Rattle.metric_closure.proofs.TableLaws.{lower_more}
 use Rattle.metric_closure.proofs.row.lower_row.Goals as goal
 
 pub loop-j-init : goal.loop-j-init
-loop-j-init c = (omega arith, overwrite_none _ _, refl)
+loop-j-init c = (overwrite_none _ _, refl)
 
 pub loop-j-preserved : goal.loop-j-preserved
 loop-j-preserved c =
-    let inv = c.loop-j.invariant in (
-      omega arith,
-      lower_more _ _ _ inv.1 c.lesser.ensures (omega arith),
-      simp length-set inv.2,
-    )
+    let inv = c.loop-j.invariant in (lower_more _ _ _ inv.0 c.min.ensures (omega arith), simp length-set inv.1)

@@ -6,4 +6,4 @@ use Rattle.radius_search.proofs.bound.ball_meets.Goals as goal
 
 pub returns : goal.returns
 unfolding meeting
-returns c = c.counts_meet.ensures ∙ met_meets c.args.minima c.count_ball-found.ensures
+returns c = c.meets.ensures ∙ met_meets c.args.study.now.tides.minima c.tally_ball.ensures

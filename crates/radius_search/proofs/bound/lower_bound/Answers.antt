@@ -7,4 +7,4 @@ use Rattle.radius_search.proofs.bound.lower_bound.Goals as goal
 pub loop-low-preserved : goal.loop-low-preserved
 loop-low-preserved c =
     let short = sym c.ball_meets.ensures ∙ c.if-ball_meets.false in
-    (omega arith, omega arith, bounded_more _ _ _ _ c.requires.n_nonzero short)
+    (omega arith, omega arith, bounded_more _ _ _ _ c.requires short)

@@ -6,4 +6,4 @@ use Rattle.radius_search.proofs.next.first_from.Goals as goal
 pub returns : goal.returns
 returns c =
     let args = c.args in
-    first_next args.distances.now args.n args.g (omega arith) c.next_of_all.ensures
+    first_next args.study.now.distances.now args.study.now.tides.n args.g (omega arith) c.next_of_all.ensures

@@ -1,5 +1,4 @@
--- best is the next radius over the pairs whose first tide stands before i in the table; count - i falls. Assumes nothing.
-use native.Mathlib.Omega.{arith}
+-- best is the next radius over the pairs whose first tide stands before i in the table. Assumes nothing.
 use Rattle.radius_search.proofs.NextLaws.{pairs_step}
 use Rattle.radius_search.proofs.next.next_in_pairs.Goals as goal
 
@@ -7,4 +6,4 @@ pub loop-i-preserved : goal.loop-i-preserved
 loop-i-preserved c =
     let args = c.args in
     let turn = c.loop-i in
-    (omega arith, pairs_step args.distances.now args.tides.now args.count turn.i turn.invariant.1 c.next_later-best.ensures)
+    pairs_step args.centres.now.study.distances.now args.centres.now.tides args.centres.now.count turn.i turn.invariant c.next_later-best.ensures

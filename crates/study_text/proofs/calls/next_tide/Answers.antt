@@ -1,29 +1,25 @@
 -- `next_tide` meets its contract: a tide, the end, or no number. Assumes nothing.
+use mathlib.Core.Path.{sym, ap, ◌∙◌}
+use Rattle.std.specs.Prelude.{Ok}
+use Rattle.lists.proofs.Results.{handed_on}
 use Rattle.text_words.proofs.WordLaws.{next_within}
-use mathlib.Core.Path.{refl, sym, ◌∙◌}
-use Rattle.study_text.proofs.Turns.{turn_goes, turn_ends, turn_stops}
+use Rattle.study_text.proofs.Turns.{turn_stops, turn_tide_stops, turn_goes, turn_ends}
 use Rattle.study_text.proofs.calls.next_tide.Goals as goal
+
+pub returns-in_err-word : goal.returns-in_err-word
+returns-in_err-word c = turn_stops _ _ c.from_residual.ensures.1 c.in_err-word.ensures
 
 pub read_tide-requires : goal.read_tide-requires
 read_tide-requires c =
-    (next_within c.requires.0 (sym c.next-word.ensures ∙ c.in-Number.is), c.requires.1, c.requires.2)
+    record { held = c.requires.held; within = next_within c.requires.within (sym c.in_ok-word.ensures ∙ ap Ok c.in-Number.is) }
 
-pub returns-in-Number : goal.returns-in-Number
-returns-in-Number c =
-    turn_goes c.args.rule c.args.text.now c.args.from c.next-word.ensures _
-    c.in-Number.is c.read_tide.ensures
+pub returns-in_err-read_tide-in-Number : goal.returns-in_err-read_tide-in-Number
+returns-in_err-read_tide-in-Number c =
+    turn_tide_stops _ _ (handed_on c.from_residual-in_err-read_tide-in-Number.ensures.1) (sym (ap Ok c.in-Number.is) ∙ c.in_ok-word.ensures)
+    c.in_err-read_tide-in-Number.ensures
+
+pub returns-in_ok-read_tide-in-Number : goal.returns-in_ok-read_tide-in-Number
+returns-in_ok-read_tide-in-Number c = turn_goes _ _ (sym (ap Ok c.in-Number.is) ∙ c.in_ok-word.ensures) c.in_ok-read_tide-in-Number.ensures
 
 pub returns-in-End : goal.returns-in-End
-returns-in-End c =
-    turn_ends c.args.rule c.args.text.now c.args.from c.next-word.ensures c.requires.0 c.requires.1
-    c.in-End.is
-
-pub returns-in-Bad : goal.returns-in-Bad
-returns-in-Bad c =
-    turn_stops c.args.rule c.args.text.now c.args.from c.next-word.ensures c.requires.0 c.requires.1
-    c.in-Bad.is refl c.stopped.ensures
-
-pub returns-in-TooLarge : goal.returns-in-TooLarge
-returns-in-TooLarge c =
-    turn_stops c.args.rule c.args.text.now c.args.from c.next-word.ensures c.requires.0 c.requires.1
-    c.in-TooLarge.is refl c.stopped-in-TooLarge.ensures
+returns-in-End c = turn_ends c.requires (sym (ap Ok c.in-End.is) ∙ c.in_ok-word.ensures)

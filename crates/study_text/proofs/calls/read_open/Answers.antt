@@ -1,19 +1,15 @@
 -- `read_open` meets its contract: no number stops; with k, what Open answers. Assumes nothing.
-use Rattle.study.specs.declared.Dataset.{Dataset}
-use Rattle.validity.proofs.LayoutLaws.{short_no}
+use Rattle.lists.proofs.Results.{handed_on}
 use Rattle.validity.specs.Memory.{state_of}
-use lib.ListN.{replicate}
+use Rattle.validity.proofs.LayoutLaws.{short_no}
 use Rattle.study_text.proofs.CallLaws.{open_stops, open_goes}
 use Rattle.study_text.proofs.calls.read_open.Goals as goal
 
-pub returns-in-Stopped : goal.returns-in-Stopped
-returns-in-Stopped c =
-    open_stops c.args.from c.number-given.ensures _ _ c.in-Stopped.is c.stopped.ensures
+pub returns-in_err-k : goal.returns-in_err-k
+returns-in_err-k c = open_stops _ _ (handed_on c.from_residual.ensures.1) c.in_err-k.ensures
 
-pub returns-in-Number : goal.returns-in-Number
-returns-in-Number c =
-    let blank : Dataset = record { k = 1; n = 0; minima = record { b0 = 1; b = replicate 8 0 }; withdrawn = replicate 4 0 } in
-    let s = state_of blank c.args.distances.now c.args.settings.now in
-    open_goes c.args.from c.number-given.ensures s c.«open».result _ _ c.in-Number.is c.requires.cursor_within
-    (short_no s c.requires.table_size_in_bounds.0 c.requires.table_size_in_bounds.1) c.narrow.ensures (c.«open».ensures.answer, c.«open».ensures.leaves)
-    c.called.ensures
+pub returns : goal.returns
+returns c =
+    let long = short_no _ c.requires.table_size_in_bounds.0 c.requires.table_size_in_bounds.1 in
+    open_goes _ _ (state_of c.args.dataset.now c.args.distances.now c.args.settings.now) c.open-answer.result c.requires.cursor_within
+    c.in_ok-k.ensures long c.narrow.ensures (c.open-answer.ensures.answer, c.open-answer.ensures.leaves) c.at_line.ensures

@@ -1,2 +1,0 @@
--- An inner promise; what is nearest is defined in study/Problem.
-pub mod Inputs
