@@ -1,15 +1,16 @@
 // The blocks that one tide may go to: its column of the table of allowed pairs, which has a row for each block.
-ghost use Rattle.std.specs.Prelude.{◌≡◌, ℕ, ◌<◌, ◌≤◌};
-ghost use Rattle.study.specs.Limits.{max_tides};
+ghost use Rattle.std.specs.Prelude.{◌≡◌, ℕ, ◌<◌, ◌≤◌, length};
+ghost use Rattle.study.specs.Limits.{max_tides, table_size};
 ghost use Rattle.first_assignment.specs.Column.{Column, Restricted};
 
 use crate::rank::Ranks;
-use study::{MAX_TIDES, TABLE_SIZE};
+use study::MAX_TIDES;
 
 // Leaves tide t those of its blocks that rank before block v.
-pub fn restrict(allowed: &mut [u8; TABLE_SIZE], ranks: &Ranks, t: usize, v: usize)
+pub fn restrict(allowed: &mut [u8], ranks: &Ranks, t: usize, v: usize)
     requires t_lt_max_tides { t < max_tides }
     requires v_lt_blocks { v < ranks.now.blocks }
+    requires table_size_in_bounds { table_size ≤ length allowed.old }
     ensures { Restricted ranks.now.by_block ranks.now.blocks t v allowed.old allowed.new }
 {
     let limit = ranks.by_block[v];
@@ -22,8 +23,9 @@ pub fn restrict(allowed: &mut [u8; TABLE_SIZE], ranks: &Ranks, t: usize, v: usiz
 }
 
 // Leaves tide t block v alone, whether it might go there or not.
-pub fn fix(allowed: &mut [u8; TABLE_SIZE], blocks: usize, t: usize, v: usize)
-    requires { (blocks ≤ max_tides) × (t < max_tides) }
+pub fn fix(allowed: &mut [u8], blocks: usize, t: usize, v: usize)
+    requires blocks_le_max_tides { (blocks ≤ max_tides) × (t < max_tides) }
+    requires table_size_in_bounds { table_size ≤ length allowed.old }
     ensures { Column blocks t (λ (m : ℕ). m ≡ v) allowed.old allowed.new }
 {
     for m in 0..blocks {

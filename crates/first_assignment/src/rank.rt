@@ -1,10 +1,10 @@
 // What a tide ranks the blocks by, the one of least rank first.
-ghost use Rattle.std.specs.Prelude.{◌≡◌, ℕ, ◌+◌, ◌*◌, ◌<◌, ◌≤◌, slice_index};
-ghost use Rattle.study.specs.Limits.{max_tides};
+ghost use Rattle.std.specs.Prelude.{◌≡◌, ℕ, ◌+◌, ◌*◌, ◌<◌, ◌≤◌, length, slice_index};
+ghost use Rattle.study.specs.Limits.{max_tides, table_size};
 ghost use Rattle.first_assignment.specs.First.{rank};
 
 use radius_theory::centres::Centres;
-use study::{MAX_TIDES, TABLE_SIZE};
+use study::MAX_TIDES;
 
 // The ranks of so many blocks by one tide; the places past them are free.
 #[derive(Clone, Copy)]
@@ -38,8 +38,9 @@ impl Ranks {
 
     // Of v and the blocks that tide t may go to, the one of least rank. It serves as a hint: only that it is a number of a table's row is
     // promised.
-    pub fn least(&self, allowed: &[u8; TABLE_SIZE], t: usize, v: usize) -> usize
+    pub fn least(&self, allowed: &[u8], t: usize, v: usize) -> usize
         requires t_lt_max_tides { (t < max_tides) × (v < max_tides) }
+        requires table_size_in_bounds { table_size ≤ length allowed.now }
         ensures { result < max_tides }
     {
         let mut best = v;
