@@ -1,12 +1,13 @@
 -- What Open, Enter and Withdraw write into memory, place by place, and that it lays out the study they make. Assumes nothing.
-use Prim.Native.Nat.{ℕ, zero, suc, ◌+◌, ◌*◌, ◌/◌, ◌%◌, ◌≤◌, ◌<◌}
+use Prim.Native.Nat.{ℕ, zero, suc, ◌+◌, ◌-◌, ◌*◌, ◌/◌, ◌%◌, ◌≤◌, ◌<◌}
 use native.Mathlib.Omega.{arith}
 use native.Mathlib.Numerals.{add-one}
 use mathlib.Core.Path.{◌≡◌, refl, sym, ap, ap₂, ◌∙◌, subst}
 use mathlib.Core.Logic.{◌⊎◌, inl, inr, ⊎_elim}
-use mathlib.Core.List.{List, ◌++◌}
+use mathlib.Core.List.{List, [], ◌∷◌, ◌++◌}
 use lib.ListN.{length, get_or, set, take, drop, length-set, length-take}
 use Rattle.std.proofs.Common.{get_or-take}
+use Rattle.std.proofs.lemmas.List.{set-append_right, take_more, drop-set, drop-set-add, append_assoc}
 use lib.Seq.{ext_get_or, get_or-set_same, get_or-set_other}
 use borrow.Author.Tests.{le-leb, lt-leb}
 use Rattle.lists.specs.Lists.{overwrite, at}
@@ -36,6 +37,19 @@ unfolding settings_of opened
 cleared_settings k l = overwrite_ext (λ _. 0) l 120 (λ i. (tide (opened k) i).setting) (λ i h. sym (setting_none (opened k) i (omega arith)))
 
 -- ---- a list's front, copied
+
+-- the places before i are m's, and place i becomes m's too
+pub front_more : {A : Type 0} (m l : List A) {now : List A} {i : ℕ} {x : A} → now ≡ take i m ++ drop i l → x ≡ get_or m i x → i < length m
+    → i < length l → set now i x ≡ take (i + 1) m ++ drop (i + 1) l
+front_more m l {now} {i} {x} e is inside room =
+    let before : length (take i m) ≡ i = simp length-take (omega arith) in
+    let first : i - i ≡ 0 = omega arith in
+    let here : i + 0 ≡ i = omega arith in
+    let behind : set (drop i l) (i - i) x ≡ x ∷ drop (i + 1) l =
+    ap (λ k. set (drop i l) k x) first ∙ sym (drop-set-add i l 0 x) ∙ ap (λ k. drop i (set l k x)) here ∙ drop-set l i x room in
+    ap (λ z. set z i x) e ∙ set-append_right (take i m) (drop i l) i i x before (omega arith) ∙ ap (λ z. take i m ++ z) behind
+    ∙ sym (append_assoc (take i m) (x ∷ []) (drop (i + 1) l))
+    ∙ ap (λ z. z ++ drop (i + 1) l) (ap (λ y. take i m ++ (y ∷ [])) is ∙ sym (take_more m i x inside))
 
 pub front_copied : (n : ℕ) (m l : List ℕ) → n ≤ length m → take n m ++ drop n l ≡ overwrite n (at m) l
 unfolding overwrite

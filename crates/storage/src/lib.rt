@@ -24,7 +24,10 @@ pub fn copy_front<T: Copy>(places: &mut [T], from: &[T], count: usize)
     requires { (count ≤ length places.old) × (count ≤ length from.now) }
     ensures { places.new ≡ take count from.now ++ drop count places.old }
 {
-    places[..count].copy_from_slice(&from[..count]);
+    // place by place: copy_from_slice tests for lists that overlap, and calls memmove
+    for place in 0..count {
+        places[place] = from[place];
+    }
 }
 
 // The distances of a new tide with those before it, both ways: its row and its column.
