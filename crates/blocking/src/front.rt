@@ -18,7 +18,7 @@ pub fn put_centres(centres: &Centres, list: &mut [u8])
     ensures { list.new ≡ overwrite centres.now.count (λ (i : ℕ). slice_index centres.now.tides i + 1) list.old }
 {
     for i in 0..centres.count {
-        list[i] = (centres.tides[i] + 1) as u8;
+        list[i] = centres.tides[i] + 1;
     }
 }
 

@@ -7,10 +7,10 @@ ghost use Rattle.merge.specs.Sources.{NumberPairs, RestIn};
 use crate::source::tide_of;
 use study::MAX_TIDES;
 
-// Tides in order; those past the count are free.
+// Tides in order, each in a byte; those past the count are free.
 #[derive(Clone, Copy)]
 pub struct Rest {
-    pub tides: [usize; MAX_TIDES],
+    pub tides: [u8; MAX_TIDES],
     pub count: usize,
 }
 
@@ -33,11 +33,11 @@ pub fn find_rest(firsts: &[u8], seconds: &[u8], n: usize) -> Rest
     requires n_le_max_tides { n ≤ max_tides }
     ensures { RestIn (shared firsts.now seconds.now) n result.count result.tides }
 {
-    let mut tides = [0usize; MAX_TIDES];
+    let mut tides = [0u8; MAX_TIDES];
     let mut count = 0;
     for j in 0..n {
         if is_unshared(firsts, seconds, j) {
-            tides[count] = j;
+            tides[count] = j as u8;
             count += 1;
         }
     }

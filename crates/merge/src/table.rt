@@ -41,7 +41,7 @@ pub fn in_range(sources: &Sources, rest: &Rest) -> bool
 {
     let n = sources.first.dataset.n;
     for r in 0..rest.count {
-        let row = cross_row(sources, rest.tides[r]);
+        let row = cross_row(sources, usize::from(rest.tides[r]));
         if !row_in_range(&row[..n]) {
             return false;
         }
@@ -58,10 +58,10 @@ fn added_row(sources: &Sources, rest: &Rest, r: usize) -> [u32; MAX_TIDES]
 {
     let n = sources.first.dataset.n;
     let d2 = sources.second.distances;
-    let j = rest.tides[r];
+    let j = usize::from(rest.tides[r]);
     let mut row = cross_row(sources, j);
     for q in 0..r {
-        row[n + q] = d2[rest.tides[q] * MAX_TIDES + j];
+        row[n + q] = d2[usize::from(rest.tides[q]) * MAX_TIDES + j];
     }
     row
 }
@@ -95,6 +95,6 @@ pub fn put_settings(sources: &Sources, rest: &Rest, s3: &mut [u8])
     let n = sources.first.dataset.n;
     storage::copy_front(s3, sources.first.settings, MAX_TIDES);
     for r in 0..rest.count {
-        s3[n + r] = sources.second.settings[rest.tides[r]];
+        s3[n + r] = sources.second.settings[usize::from(rest.tides[r])];
     }
 }

@@ -36,7 +36,7 @@ fn next_later(centres: &Centres, i: usize, g: u32, start: u32) -> u32
 {
     let mut best = start;
     for m in i + 1..centres.count {
-        best = closer(centres.distance(i, centres.tides[m]), g, best);
+        best = closer(centres.distance(i, usize::from(centres.tides[m])), g, best);
     }
     best
 }

@@ -24,6 +24,6 @@ pub fn allow(centres: &Centres, g: u32, allowed: &mut [u8])
 {
     let study = centres.study;
     for m in 0..centres.count {
-        allow_block(&study, centres.tides[m], g, m, allowed);
+        allow_block(&study, usize::from(centres.tides[m]), g, m, allowed);
     }
 }

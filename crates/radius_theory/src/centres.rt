@@ -7,11 +7,12 @@ ghost use Rattle.radius_theory.specs.Arrays.{TidesIn};
 use crate::input::Study;
 use study::MAX_TIDES;
 
-// Some tides of a study, those that its blocks lie around: the first `count` places of `tides`.
+// Some tides of a study, those that its blocks lie around: the first `count` places of `tides`. A tide fits a byte, and the table is copied
+// wherever Centres are handed back.
 #[derive(Clone, Copy)]
 pub struct Centres<'a> {
     pub study: Study<'a>,
-    pub tides: [usize; MAX_TIDES],
+    pub tides: [u8; MAX_TIDES],
     pub count: usize,
     pub ghost long: { length tides ≡ max_tides },
     pub ghost inside: { TidesIn tides count study.tides.n },
@@ -45,7 +46,7 @@ impl<'a> Centres<'a> {
         ensures more { self.new.count ≡ self.old.count + 1 }
         ensures tides { self.new.tides ≡ set self.old.tides self.old.count t }
     {
-        self.tides[self.count] = t;
+        self.tides[self.count] = t as u8;
         self.count += 1;
     }
 
@@ -54,6 +55,6 @@ impl<'a> Centres<'a> {
         requires { (m < self.now.count) × (t < self.now.study.tides.n) }
         ensures { result ≡ cell self.now.study.distances.now (at self.now.tides m) t }
     {
-        self.study.distance(self.tides[m], t)
+        self.study.distance(usize::from(self.tides[m]), t)
     }
 }

@@ -8,9 +8,6 @@ pub loop-j-init : goal.loop-j-init
 loop-j-init c = rest_none (search rules)
 
 -- there is room in the table
-pub offset_bounds-tides-count : goal.offset_bounds-tides-count
-offset_bounds-tides-count c = omega (arith, rest_few c.loop-j.invariant)
-
 pub bounds-tides-count : goal.bounds-tides-count
 bounds-tides-count c = omega (arith, rest_few c.loop-j.invariant)
 

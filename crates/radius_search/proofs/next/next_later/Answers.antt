@@ -10,7 +10,8 @@ loop-m-preserved c =
     let args = c.args in
     let turn = c.loop-m in
     let i = turn.invariant in
-    (omega arith, later_step args.centres.now.study.distances.now args.centres.now.tides args.i turn.m i.0 i.1 (rw c.distance.ensures at c.closer-best.ensures))
+    let closest = rw (c.distance.ensures, c.from.ensures) at c.closer-best.ensures in
+    (omega arith, later_step args.centres.now.study.distances.now args.centres.now.tides args.i turn.m i.0 i.1 closest)
 
 pub returns : goal.returns
 returns c =
